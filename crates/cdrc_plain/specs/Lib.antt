@@ -1,0 +1,6 @@
+pub mod Lists
+pub mod State
+pub mod Places
+pub mod References
+pub mod Lawful
+pub mod Steps
