@@ -4,3 +4,5 @@ pub mod Places
 pub mod References
 pub mod Lawful
 pub mod Steps
+pub mod Sound
+pub mod Runs

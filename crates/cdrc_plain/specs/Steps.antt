@@ -66,87 +66,95 @@ Leaves p j q =
           j (record v { owned = []; weaks = []; deferred = []; dying = []; left = true });
     }
 
--- From p the seat n may make this step, which finds this number, and it leads to q. The number is the word found in
--- a place, the strong count for Count and Mark, 1 for an Add that found the zero mark, and else 0.
-abbrev pub Does : Plain → ℕ → PlainAct → ℕ → Plain → Type 0
-Does p n (act.Claim s) found q =
+-- The table of steps: seat n's act, the number that it finds, and the state q that it leads to. The number is the
+-- word found in a place, the strong count for Count and Mark, 1 for an Add that found the zero mark, and else 0.
+abbrev pub Row : Plain → ℕ → PlainAct → ℕ → Plain → Type 0
+Row p n (act.Claim s) found q =
     let v = seat_at p n in let x = slot_at p s in
     (s.0 < length p.slots) × (x.stage ≡ Free) × (found ≡ 0)
     × (q ≡ with_slot (with_seat p n (record v { filling = Some s })) s (record x { stage = Blank }))
-Does p n (act.Fill s i word) found q =
+Row p n (act.Fill s i word) found q =
     let x = slot_at p s in
     (x.stage ≡ Blank) × ((seat_at p n).filling ≡ Some s) × (i < 16) × (found ≡ 0)
     × (q ≡ with_slot p s (record x { payload = slice_set x.payload i word }))
-Does p n (act.Make s) found q =
+Row p n (act.Make s) found q =
     let v = seat_at p n in let x = slot_at p s in
     (x.stage ≡ Blank) × (v.filling ≡ Some s) × (found ≡ 0)
     × (q ≡ with_slot
     (with_seat p n (record v { owned = v.owned ++ s ∷ []; filling = None; adds = v.adds + 1 }))
     s (record x { stage = Live; marked = false; life = x.life + 1 }))
-Does p n (act.Add s) found q =
+Row p n (act.Add s) found q =
     let v = seat_at p n in
     Holds v s
     × (((found ≡ 0) × ((slot_at p s).marked ≡ false)
     × (q ≡ with_seat p n (record v { owned = v.owned ++ s ∷ []; adds = v.adds + 1 })))
     ⊎ ((found ≡ 1) × ((slot_at p s).marked ≡ true)
     × (q ≡ with_seat p n (record v { adds = v.adds + 1 }))))
-Does p n (act.Drop s) found q =
+Row p n (act.Drop s) found q =
     let v = seat_at p n in
     (xs : List SlotId) × Loses v.owned s xs × (found ≡ 0) × (q ≡ with_seat p n (record v { owned = xs }))
-Does p n (act.WeakGain s) found q =
+Row p n (act.WeakGain s) found q =
     let v = seat_at p n in
     Holds v s × (found ≡ 0)
     × (q ≡ with_seat p n (record v { weaks = v.weaks ++ s ∷ []; adds = v.adds + 1 }))
-Does p n (act.WeakDrop s) found q =
+Row p n (act.WeakDrop s) found q =
     let v = seat_at p n in
     (xs : List SlotId) × Loses v.weaks s xs × (found ≡ 0) × (q ≡ with_seat p n (record v { weaks = xs }))
-Does p n (act.Look place) found q = IsOpen p n place × (found ≡ word_of (content p place)) × (q ≡ p)
-Does p n (act.Check j place) found q =
+Row p n (act.Look place) found q = IsOpen p n place × (found ≡ word_of (content p place)) × (q ≡ p)
+Row p n (act.Check j place) found q =
     let v = seat_at p n in
     IsOpen p n place × (found ≡ word_of (content p place))
     × ((q ≡ p) ⊎ ((s : SlotId) × (content p place ≡ Some s)
     × (q ≡ with_seat p n (record v { snapshots = v.snapshots ++ (place_kind place, s) ∷ [] }))))
-Does p n (act.EndSnapshot k s) found q =
+Row p n (act.EndSnapshot k s) found q =
     let v = seat_at p n in
     (es : List Entry) × Loses v.snapshots (k, s) es × (found ≡ 0)
     × (q ≡ with_seat p n (record v { snapshots = es }))
-Does p n (act.Replace place new) found q =
+Row p n (act.Replace place new) found q =
     IsOpen p n place × (found ≡ word_of (content p place)) × Replaces p n place new q
-Does p n (act.TryReplace place old new) found q =
+Row p n (act.TryReplace place old new) found q =
     IsOpen p n place × (found ≡ word_of (content p place))
     × (((content p place ≡ old) × Replaces p n place new q) ⊎ ((content p place ≢ old) × (q ≡ p)))
-Does p n (act.Count s) found q = Holds (seat_at p n) s × (found ≡ strong_refs p s) × (q ≡ p)
-Does p n (act.Mark s) found q =
+Row p n (act.Count s) found q = Holds (seat_at p n) s × (found ≡ strong_refs p s) × (q ≡ p)
+Row p n (act.Mark s) found q =
     (found ≡ strong_refs p s)
     × ((q ≡ p) ⊎ ((stage_at p s ≡ Live) × (strong_refs p s ≡ 0)
     × (q ≡ with_slot p s (record (slot_at p s) { marked = true }))))
-Does p n (act.WeakCount s) found q = Holds (seat_at p n) s × (found ≡ 0) × (q ≡ p)
-Does p n (act.See s i) found q =
+Row p n (act.WeakCount s) found q = Holds (seat_at p n) s × (found ≡ 0) × (q ≡ p)
+Row p n (act.See s i) found q =
     (0 < held_times s (seat_at p n) + times s (seat_at p n).dying) × (i < 16) × (found ≡ 0) × (q ≡ p)
-Does p n (act.Eject k s) found q =
+Row p n (act.Eject k s) found q =
     let v = seat_at p n in
     (es : List Entry) × Loses v.deferred (k, s) es × (found ≡ 0)
     × (q ≡ with_seat p n (record v { deferred = es })) × IsCovered q
-Does p n (act.End s) found q =
+Row p n (act.End s) found q =
     let v = seat_at p n in let x = slot_at p s in
     (x.stage ≡ Live) × (((x.marked ≡ true)) ⊎ (strong_refs p s ≡ 0)) × (found ≡ 0)
     × (q ≡ with_slot (with_seat p n (record v { dying = v.dying ++ s ∷ [] })) s
     (record x { stage = Ended; marked = true }))
-Does p n (act.Clear place) found q =
+Row p n (act.Clear place) found q =
     IsDyingField p n place × (found ≡ word_of (content p place)) × Clears p n place q
-Does p n (act.Destroy s) found q =
+Row p n (act.Destroy s) found q =
     let v = seat_at p n in let x = slot_at p s in
     HasNullFields x × (found ≡ 0)
     × ((xs : List SlotId) × Loses v.dying s xs
     × (q ≡ with_slot (with_seat p n (record v { dying = xs })) s (record x { stage = Husk })))
-Does p n (act.Give s) found q =
+Row p n (act.Give s) found q =
     (stage_at p s ≡ Husk) × (weak_refs p s ≡ 0) × (found ≡ 0)
     × (q ≡ with_slot p s (record (slot_at p s) { stage = Free }))
-Does p n (act.Leave j) found q =
+Row p n (act.Leave j) found q =
     (n ≡ 0) × (j ≢ 0) × (j < length p.seats) × ((seat_at p j).left ≡ false)
     × ((seat_at p j).snapshots ≡ []) × (found ≡ 0) × Leaves p j q
-Does p n act.Split found q =
+Row p n act.Split found q =
     let v = seat_at p n in
     (found ≡ 0)
     × ((es : List Entry) × IsReordering v.deferred es × (q ≡ with_seat p n (record v { deferred = es })))
-Does p n act.Still found q = (found ≡ 0) × (q ≡ p)
+Row p n act.Still found q = (found ≡ 0) × (q ≡ p)
+
+-- the seat is there, and hasn't left
+abbrev pub IsSeat : Plain → ℕ → Type 0
+IsSeat p n = (n < length p.seats) × ((seat_at p n).left ≡ false)
+
+-- one plain step by seat n
+abbrev pub Does : Plain → ℕ → PlainAct → ℕ → Plain → Type 0
+Does p n act found q = IsSeat p n × Row p n act found q
