@@ -6,3 +6,4 @@ pub mod Lawful
 pub mod Steps
 pub mod Sound
 pub mod Runs
+pub mod Images

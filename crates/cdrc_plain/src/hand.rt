@@ -1,0 +1,60 @@
+//! The handles of a plain heap: plain values, which give no right of their own.
+ghost use Rattle.std.specs.Prelude.{◌≡◌};
+ghost use Rattle.cdrc_plain.specs.declared.slot.SlotId.{SlotId};
+
+use crate::slot::SlotId;
+use std::marker::Model;
+
+/// A strong reference. A call that takes it asks that the heap's list of owned references has its slot.
+#[derive(Debug, Drop)]
+pub struct Hand {
+    slot: SlotId,
+}
+
+impl Model for Hand {
+    ghost Value = { SlotId };
+
+    ghost view = { λ h. h.slot };
+}
+
+impl Hand {
+    /// A handle of this slot, made anew.
+    pub fn of(slot: SlotId) -> Hand
+        ensures { result ≡ slot }
+    {
+        Hand { slot }
+    }
+
+    pub fn slot(&self) -> SlotId
+        ensures { result ≡ self.now }
+    {
+        self.slot
+    }
+}
+
+/// A weak reference: it keeps the slot from being given again, and not the object alive.
+#[derive(Debug, Drop)]
+pub struct WeakHand {
+    slot: SlotId,
+}
+
+impl Model for WeakHand {
+    ghost Value = { SlotId };
+
+    ghost view = { λ h. h.slot };
+}
+
+impl WeakHand {
+    /// A handle of this slot, made anew.
+    pub fn of(slot: SlotId) -> WeakHand
+        ensures { result ≡ slot }
+    {
+        WeakHand { slot }
+    }
+
+    pub fn slot(&self) -> SlotId
+        ensures { result ≡ self.now }
+    {
+        self.slot
+    }
+}
