@@ -1,0 +1,17 @@
+pub mod Changes
+pub mod EveryStep
+pub mod Kepts
+pub mod Kit
+pub mod Leaves
+pub mod Losing
+pub mod Making
+pub mod PlaceRows
+pub mod SeatRows
+pub mod SlotLaw
+pub mod SlotRows
+pub mod StageLaws
+pub mod Start
+pub mod Stores
+pub mod Tallies
+pub mod Opening
+pub mod Fits

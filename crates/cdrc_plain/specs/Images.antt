@@ -1,7 +1,6 @@
 -- A heap as words, and the words of a plain state.
 use Rattle.std.specs.Prelude.{ℕ, ◌≡◌, ◌<◌, ◌^◌, List, [], ◌∷◌, length, map, nat_lt, slice_index_or, if◌then◌else◌}
 use Rattle.cdrc_plain.specs.declared.slot.SlotId.{SlotId}
-use Rattle.cdrc_plain.specs.declared.slot.PlainSlot.{PlainSlot}
 use Rattle.cdrc_plain.specs.declared.slot.Stage.{Stage}
 use Rattle.cdrc_plain.specs.declared.slot.Stage.TheVariants.{Free, Blank, Live, Ended, Husk}
 use Rattle.cdrc_plain.specs.declared.image.SlotImage.{SlotImage}
@@ -40,9 +39,11 @@ abbrev pub image_at : Plain → SlotId → SlotImage
 image_at p s =
     let x = slot_at p s in
     record {
-      strong = strong_word p s; weak = weak_word p s;
+      strong = strong_word p s;
+      weak = weak_word p s;
       fields = word_of x.first ∷ word_of x.second ∷ [];
-      weak_field = word_of x.weak_field; payload = x.payload;
+      weak_field = word_of x.weak_field;
+      payload = x.payload;
     }
 
 -- the heap has the words of the plain state of one seat, and its deferred entries

@@ -7,3 +7,6 @@ pub mod Steps
 pub mod Sound
 pub mod Runs
 pub mod Images
+pub mod Settling
+pub mod Heaps
+pub mod Stores

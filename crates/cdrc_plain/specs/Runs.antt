@@ -1,8 +1,6 @@
 -- Several plain steps by one seat, in turn.
-use Rattle.std.specs.Prelude.{ℕ, ◌≡◌, ◌+◌, ◌<◌, List, [], ◌∷◌, ◌++◌}
+use Rattle.std.specs.Prelude.{ℕ, ◌≡◌, List, [], ◌∷◌}
 use Rattle.cdrc_plain.specs.declared.act.PlainAct.{PlainAct}
-use Rattle.cdrc_plain.specs.declared.act.PlainAct.TheVariants as act
-use Rattle.cdrc_plain.specs.declared.slot.SlotId.{SlotId}
 use Rattle.cdrc_plain.specs.State.{Plain}
 use Rattle.cdrc_plain.specs.Steps.{Does}
 

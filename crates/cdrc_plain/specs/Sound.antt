@@ -1,5 +1,5 @@
 -- What every step of the plain state keeps: Lawful, and the two facts that make it last.
-use Rattle.std.specs.Prelude.{ℕ, ◌≡◌, ◌≢◌, ◌≤◌, ◌+◌, ◌<◌, true, length, All}
+use Rattle.std.specs.Prelude.{ℕ, ◌≡◌, ◌≢◌, ◌≤◌, ◌+◌, true, length, All}
 use Rattle.cdrc_plain.specs.declared.slot.SlotId.{SlotId}
 use Rattle.cdrc_plain.specs.declared.slot.Stage.TheVariants.{Live}
 use Rattle.cdrc_plain.specs.State.{Plain, slot_at, stage_at}

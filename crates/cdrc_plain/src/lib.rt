@@ -3,15 +3,22 @@
 
 mod act;
 mod hand;
+mod heap;
 mod image;
 mod laws;
 mod payload;
+mod refusal;
 mod slot;
+mod store;
+mod store_hands;
+mod tally;
 
 pub use act::{EventPlace, PlainAct};
 pub use hand::{Hand, WeakHand};
+pub use heap::PlainHeap;
 pub use image::{Heap, SlotImage, ZERO};
 pub use laws::steps_keep_sound;
 pub use out_of_memory::{Back, OutOfMemory};
 pub use payload::PayloadKind;
+pub use refusal::MakeRefused;
 pub use slot::{Kind, PlainSlot, SlotId, Stage};

@@ -1,0 +1,10 @@
+use Rattle.std.proofs.Common.{sym, subst}
+use Rattle.cdrc_plain.specs.State.{Plain, seat_at}
+use Rattle.cdrc_plain.specs.Places.{Holds}
+use Rattle.cdrc_plain.proofs.Stores.{held_slot}
+use Rattle.cdrc_plain.proofs.heap.PlainHeap.counts.Goals as goal
+
+pub counts-requires-clause-there : goal.counts-requires-clause-there
+counts-requires-clause-there g c =
+    held_slot c.self.inside.store c.args.slot c.self.invariant.0
+    (subst (λ (p : Plain). Holds (seat_at p 0) c.args.slot) (sym c.self.view_is) c.requires)
