@@ -17,7 +17,8 @@ use Rattle.cdrc_plain.proofs.PlaceRows.{HasObject, replace_sound}
 use Rattle.cdrc_plain.proofs.Leaves.{leave_sound}
 
 -- an open place is a cell, or a field of a live object
-open_object : (p : Plain) (n : ℕ) (place : EventPlace) → Sound p → n < length p.seats → IsOpen p n place
+open_object : (p : Plain) (n : ℕ) (place : EventPlace) → Sound p → n < length p.seats
+    → IsOpen p n place
     → HasObject p place
 open_object p n (Cell i) so hn at = tt
 open_object p n (Field s i) so hn at = inl (held_live p n s so hn at.1)
@@ -25,7 +26,8 @@ open_object p n (WeakCell i) so hn at = tt
 open_object p n (WeakField s) so hn at = inl (held_live p n s so hn at)
 
 -- a field of a dying slot is there, and its object has ended
-dying_there : (p : Plain) (n : ℕ) (place : EventPlace) → Sound p → n < length p.seats → IsDyingField p n place
+dying_there : (p : Plain) (n : ℕ) (place : EventPlace) → Sound p → n < length p.seats
+    → IsDyingField p n place
     → IsThere p place × HasObject p place
 dying_there p n (Cell i) so hn at = absurd at
 dying_there p n (Field s i) so hn at =
@@ -34,30 +36,37 @@ dying_there p n (WeakCell i) so hn at = absurd at
 dying_there p n (WeakField s) so hn at =
     let e = dying_ended p n s so hn at in (is_there p s (λ f. cc), inr e)
 
-replaces_sound : (p q : Plain) (n : ℕ) (place : EventPlace) (new : Option SlotId) → Sound p → n < length p.seats
+replaces_sound : (p q : Plain) (n : ℕ) (place : EventPlace) (new : Option SlotId) → Sound p
+    → n < length p.seats
     → IsOpen p n place → Replaces p n place new q → Sound q
 replaces_sound p q n place new so hn at is =
     subst Sound (sym is.2)
-    (replace_sound p n place new is.0 so hn (open_there p n place so hn at) (open_object p n place so hn at) is.1)
+    (replace_sound p n place new is.0 so hn
+      (open_there p n place so hn at) (open_object p n place so hn at) is.1)
 
-clears_sound : (p q : Plain) (n : ℕ) (place : EventPlace) → Sound p → n < length p.seats → IsDyingField p n place
+clears_sound : (p q : Plain) (n : ℕ) (place : EventPlace) → Sound p → n < length p.seats
+    → IsDyingField p n place
     → Clears p n place q → Sound q
 clears_sound p q n place so hn at is =
     let d = dying_there p n place so hn at in
     subst Sound (sym is) (replace_sound p n place None (seat_at p n) so hn d.0 d.1 refl)
 
-pub step_sound : (p q : Plain) (n : ℕ) (a : PlainAct) (found : ℕ) → Sound p → Does p n a found q → Sound q
+pub step_sound : (p q : Plain) (n : ℕ) (a : PlainAct) (found : ℕ) → Sound p → Does p n a found q
+    → Sound q
 step_sound p q n (act.Claim s) found so d =
     subst Sound (sym d.1.3) (claim_sound p n s so d.0.0 d.1.0 d.1.1)
-step_sound p q n (act.Fill s i word) found so d = subst Sound (sym d.1.4) (fill_sound p s i word so d.1.0)
+step_sound p q n (act.Fill s i word) found so d =
+    subst Sound (sym d.1.4) (fill_sound p s i word so d.1.0)
 step_sound p q n (act.Make s) found so d = subst Sound (sym d.1.3) (make_sound p n s so d.0.0 d.1.0)
 step_sound p q n (act.Add s) found so d =
     ⊎_elim
     (λ up. subst Sound (sym up.2) (add_sound p n s so d.0.0 up.1))
     (λ refused. subst Sound (sym refused.2) (add_refused_sound p n so d.0.0))
     d.1.1
-step_sound p q n (act.Drop s) found so d = subst Sound (sym d.1.3) (drop_sound p n s d.1.0 so d.0.0 d.1.1)
-step_sound p q n (act.WeakGain s) found so d = subst Sound (sym d.1.2) (weak_gain_sound p n s so d.0.0 d.1.0)
+step_sound p q n (act.Drop s) found so d =
+    subst Sound (sym d.1.3) (drop_sound p n s d.1.0 so d.0.0 d.1.1)
+step_sound p q n (act.WeakGain s) found so d =
+    subst Sound (sym d.1.2) (weak_gain_sound p n s so d.0.0 d.1.0)
 step_sound p q n (act.WeakDrop s) found so d =
     subst Sound (sym d.1.3) (weak_drop_sound p n s d.1.0 so d.0.0 d.1.1)
 step_sound p q n (act.Look place) found so d = subst Sound (sym d.1.2) so
@@ -70,7 +79,8 @@ step_sound p q n (act.Check j place) found so d =
     d.1.2
 step_sound p q n (act.EndSnapshot k s) found so d =
     subst Sound (sym d.1.3) (end_snapshot_sound p n k s d.1.0 so d.0.0 d.1.1)
-step_sound p q n (act.Replace place new) found so d = replaces_sound p q n place new so d.0.0 d.1.0 d.1.2
+step_sound p q n (act.Replace place new) found so d =
+    replaces_sound p q n place new so d.0.0 d.1.0 d.1.2
 step_sound p q n (act.TryReplace place old new) found so d =
     ⊎_elim
     (λ done. replaces_sound p q n place new so d.0.0 d.1.0 done.1)
@@ -79,7 +89,7 @@ step_sound p q n (act.TryReplace place old new) found so d =
 step_sound p q n (act.Count s) found so d = subst Sound (sym d.1.2) so
 step_sound p q n (act.Mark s) found so d =
     ⊎_elim
-    (λ same. subst Sound (sym same) so)
+    (λ same. subst Sound (sym same.0) so)
     (λ zero. subst Sound (sym zero.2) (mark_sound p s so zero.0 zero.1))
     d.1.1
 step_sound p q n (act.WeakCount s) found so d = subst Sound (sym d.1.2) so
@@ -87,7 +97,8 @@ step_sound p q n (act.See s i) found so d = subst Sound (sym d.1.3) so
 step_sound p q n (act.Eject k s) found so d =
     let covered = subst IsCovered d.1.3 d.1.4 in
     subst Sound (sym d.1.3) (eject_sound p n k s d.1.0 so d.0.0 d.1.1 covered)
-step_sound p q n (act.End s) found so d = subst Sound (sym d.1.3) (end_sound p n s so d.0.0 d.1.0 d.1.1)
+step_sound p q n (act.End s) found so d =
+    subst Sound (sym d.1.3) (end_sound p n s so d.0.0 d.1.0 d.1.1)
 step_sound p q n (act.Clear place) found so d = clears_sound p q n place so d.0.0 d.1.0 d.1.2
 step_sound p q n (act.Destroy s) found so d =
     let gone = d.1.2 in

@@ -41,20 +41,19 @@ less p j t h0 hj ne =
     let strong_none = entry_none Strong t in
     let weak_none = entry_none Weak t in
     record {
-      strong = omega arith;
-      weak = omega arith;
-      adds = omega arith;
-      dying = omega arith;
-      strong_covered = λ k h. omega arith;
-      weak_covered = λ k h. omega arith;
+      strong = omega arith; weak = omega arith; adds = omega arith; dying = omega arith;
+      strong_covered = λ k h. omega arith; weak_covered = λ k h. omega arith;
     }
 
-after_sound : (p : Plain) (j : ℕ) → Sound p → 0 < length p.seats → j < length p.seats → j ≢ 0 → Sound (after p j)
+after_sound : (p : Plain) (j : ℕ) → Sound p → 0 < length p.seats → j < length p.seats → j ≢ 0
+    → Sound (after p j)
 unfolding after
 after_sound p j so h0 hj ne = sound_by (after p j)
-    (λ t. no_more_here (numbers p t) _ (slot_at p t) (slot_law p so t) (less p j t h0 hj ne)) so.payloads
+    (λ t. no_more_here (numbers p t) _ (slot_at p t) (slot_law p so t) (less p j t h0 hj ne))
+    so.payloads
 
-pub leave_sound : (p q : Plain) (j : ℕ) → Sound p → 0 < length p.seats → j < length p.seats → j ≢ 0 → Leaves p j q
+pub leave_sound : (p q : Plain) (j : ℕ) → Sound p → 0 < length p.seats → j < length p.seats → j ≢ 0
+    → Leaves p j q
     → Sound q
 unfolding joint bare after
 leave_sound p q j so h0 hj ne is = subst Sound (sym is) (after_sound p j so h0 hj ne)

@@ -1,5 +1,5 @@
 -- Sound, slot by slot: the law of one slot speaks of ten numbers and of what the slot is.
-use Rattle.std.proofs.Common.{◌≡◌, ◌≢◌, ◌⊎◌, ⊎_elim, ℕ, ◌+◌, ◌<◌, ◌≤◌, true, false, length, refl, ap, sym, ◌∙◌, arith}
+use Rattle.std.proofs.Common.{◌≡◌, ◌≢◌, ℕ, ◌+◌, ◌<◌, ◌≤◌, true, false, length, refl, ap, sym, ◌∙◌, arith}
 use Rattle.std.specs.Prelude.{◌↔◌}
 use Rattle.std.specs.List.{All}
 use Rattle.cdrc_plain.specs.declared.slot.Kind.TheVariants.{Strong, Weak}
@@ -11,6 +11,7 @@ use Rattle.cdrc_plain.specs.State.{Plain, slot_at}
 use Rattle.cdrc_plain.specs.References.{own_reference, places, deferrals, snapshot_times, dying_times}
 use Rattle.cdrc_plain.specs.Lawful.{IsVacant, HasNullFields, IsCovered}
 use Rattle.cdrc_plain.specs.Sound.{all_adds, Sound}
+use Rattle.cdrc_plain.proofs.Kit.{none_by}
 use Rattle.cdrc_plain.proofs.Changes.{owned_times, weak_times}
 
 -- the sums of a state, at one slot
@@ -103,14 +104,15 @@ pub record NoMore (m n : Numbers) : Type 0 where
   pub adds : m.adds ≤ n.adds
   pub dying : n.dying ≡ m.dying
   pub strong_covered :
-      (0 < m.strong_snapshots → 0 < m.strong_places + m.strong_deferred)
-      → 0 < n.strong_snapshots → 0 < n.strong_places + n.strong_deferred
+    (0 < m.strong_snapshots → 0 < m.strong_places + m.strong_deferred)
+    → 0 < n.strong_snapshots → 0 < n.strong_places + n.strong_deferred
   pub weak_covered :
-      (0 < m.weak_snapshots → 0 < m.weak_places + m.weak_deferred)
-      → 0 < n.weak_snapshots → 0 < n.weak_places + n.weak_deferred
+    (0 < m.weak_snapshots → 0 < m.weak_places + m.weak_deferred)
+    → 0 < n.weak_snapshots → 0 < n.weak_places + n.weak_deferred
 
 -- then the law stays, at a slot whose stage and mark stay
-pub no_more : (m n : Numbers) (x y : PlainSlot) → SlotLaw m x → NoMore m n → y.stage ≡ x.stage → y.marked ≡ x.marked
+pub no_more : (m n : Numbers) (x y : PlainSlot) → SlotLaw m x → NoMore m n → y.stage ≡ x.stage
+    → y.marked ≡ x.marked
     → (IsVacant y → HasNullFields y) → SlotLaw n y
 no_more m n x y law less stage mark nulls =
     let own : own_reference y.stage ≡ own_reference x.stage = ap own_reference stage in
@@ -120,7 +122,10 @@ no_more m n x y law less stage mark nulls =
       strong = λ h. let l = law.strong (omega arith) in (stage ∙ l.0, mark ∙ l.1);
       weak = λ h e. law.weak (omega arith) (sym stage ∙ e);
       once = omega arith;
-      dying = (λ e. let d = law.dying.0 (sym stage ∙ e) in omega arith, λ h. stage ∙ law.dying.1 (omega arith));
+      dying = (
+        λ e. let d = law.dying.0 (sym stage ∙ e) in omega arith,
+        λ h. stage ∙ law.dying.1 (omega arith),
+      );
       nulls = nulls;
       marks = λ other. mark ∙ law.marks (λ e. other (stage ∙ e));
       strong_few = omega arith;
@@ -145,35 +150,34 @@ live_unmarked m x law mark = by_stage x.stage refl
     by_stage Ended e = other (λ f. absurd (cc (e, f)))
     by_stage Husk e = other (λ f. absurd (cc (e, f)))
 
-pub none_or_some : (k : ℕ) → (k ≡ 0) ⊎ (0 < k)
-none_or_some k = grind arith
-
 -- a slot that isn't live has no strong reference, and one that is free no weak one
 pub none_strong : (m : Numbers) (x : PlainSlot) → SlotLaw m x → x.stage ≢ Live → strong_sum m ≡ 0
-none_strong m x law ne = ⊎_elim (λ z. z) (λ h. absurd (ne (law.strong h).0)) (none_or_some (strong_sum m))
+none_strong m x law ne = none_by (strong_sum m) (λ h. ne (law.strong h).0)
 
 pub none_marked : (m : Numbers) (x : PlainSlot) → SlotLaw m x → x.marked ≡ true → strong_sum m ≡ 0
-none_marked m x law mark =
-    ⊎_elim (λ z. z) (λ h. let l = (law.strong h).1 in absurd (cc (l, mark))) (none_or_some (strong_sum m))
+none_marked m x law mark = none_by (strong_sum m) (λ h. let l = (law.strong h).1 in cc (l, mark))
 
 pub none_weak : (m : Numbers) (x : PlainSlot) → SlotLaw m x → x.stage ≡ Free → weak_sum m ≡ 0
-none_weak m x law free = ⊎_elim (λ z. z) (λ h. absurd (law.weak (omega arith) free)) (none_or_some (weak_sum m))
+none_weak m x law free = none_by (weak_sum m) (λ h. law.weak (omega arith) free)
 
 -- a slot with no reference of a kind is under no snapshot of it
-pub none_under : (m : Numbers) (x : PlainSlot) → SlotLaw m x → strong_sum m ≡ 0 → m.strong_snapshots ≡ 0
+pub none_under : (m : Numbers) (x : PlainSlot) → SlotLaw m x → strong_sum m ≡ 0
+    → m.strong_snapshots ≡ 0
 none_under m x law none =
-    ⊎_elim (λ z. z) (λ h. let c = law.strong_covered h in absurd (omega arith)) (none_or_some m.strong_snapshots)
+    none_by m.strong_snapshots (λ h. let c = law.strong_covered h in omega arith)
 
-pub none_under_weak : (m : Numbers) (x : PlainSlot) → SlotLaw m x → weak_sum m ≡ 0 → m.weak_snapshots ≡ 0
+pub none_under_weak : (m : Numbers) (x : PlainSlot) → SlotLaw m x → weak_sum m ≡ 0
+    → m.weak_snapshots ≡ 0
 none_under_weak m x law none =
-    ⊎_elim (λ z. z) (λ h. let c = law.weak_covered h in absurd (omega arith)) (none_or_some m.weak_snapshots)
+    none_by m.weak_snapshots (λ h. let c = law.weak_covered h in omega arith)
 
 pub none_dying : (m : Numbers) (x : PlainSlot) → SlotLaw m x → x.stage ≢ Ended → m.dying ≡ 0
-none_dying m x law ne = ⊎_elim (λ z. z) (λ h. absurd (ne (law.dying.1 h))) (none_or_some m.dying)
+none_dying m x law ne = none_by m.dying (λ h. ne (law.dying.1 h))
 
 -- one more strong reference to a live slot, by one more add
 pub one_strong : (m n : Numbers) (x : PlainSlot) → SlotLaw m x → x.stage ≡ Live → x.marked ≡ false
-    → n.owned ≤ m.owned + 1 → n.adds ≡ m.adds + 1 → NoMore m (record n { owned = m.owned }) → SlotLaw n x
+    → n.owned ≤ m.owned + 1 → n.adds ≡ m.adds + 1 → NoMore m (record n { owned = m.owned })
+    → SlotLaw n x
 one_strong m n x law live mark more adds less =
     let rest = no_more_here m (record n { owned = m.owned }) x law less in
     record {
@@ -191,7 +195,8 @@ one_strong m n x law live mark more adds less =
 
 -- one more weak reference to a slot that isn't free, by one more add
 pub one_weak : (m n : Numbers) (x : PlainSlot) → SlotLaw m x → x.stage ≢ Free
-    → n.weaks ≤ m.weaks + 1 → n.adds ≡ m.adds + 1 → NoMore m (record n { weaks = m.weaks }) → SlotLaw n x
+    → n.weaks ≤ m.weaks + 1 → n.adds ≡ m.adds + 1 → NoMore m (record n { weaks = m.weaks })
+    → SlotLaw n x
 one_weak m n x law taken more adds less =
     let rest = no_more_here m (record n { weaks = m.weaks }) x law less in
     record {

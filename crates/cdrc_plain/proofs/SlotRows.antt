@@ -26,23 +26,28 @@ slot_sound : (p : Plain) (s : SlotId) (y : PlainSlot) → s.0 < length p.slots
 slot_sound p s y hs payloads payload here there = sound_by (with_slot p s y) each
     (All-set (λ (x : PlainSlot). length x.payload ≡ 16) p.slots s.0 y payload payloads)
   where
-    each : (t : SlotId) → SlotLaw (numbers (with_slot p s y) t) (slot_at (with_slot p s y) t)
+    q : Plain
+    q = with_slot p s y
+
+    each : (t : SlotId) → SlotLaw (numbers q t) (slot_at q t)
     each t =
         ⊎_elim
-        (λ (e : t ≡ s).
-        subst (λ (z : SlotId). SlotLaw (numbers (with_slot p s y) z) (slot_at (with_slot p s y) z)) (sym e)
-        (subst (λ (x : PlainSlot). SlotLaw (numbers (with_slot p s y) s) x) (sym (slot_same p s y hs)) here))
+        (λ (e : t ≡ s). subst (λ (z : SlotId). SlotLaw (numbers q z) (slot_at q z)) (sym e)
+        (subst (λ (x : PlainSlot). SlotLaw (numbers q s) x) (sym (slot_same p s y hs)) here))
         (λ (ne : t.0 ≢ s.0).
-        subst (λ (x : PlainSlot). SlotLaw (numbers (with_slot p s y) t) x) (sym (slot_other p s y t ne)) (there t ne))
+        subst (λ (x : PlainSlot). SlotLaw (numbers q t) x) (sym (slot_other p s y t ne))
+        (there t ne))
         (cases_slot t s)
 
-pub claim_sound : (p : Plain) (n : ℕ) (s : SlotId) → Sound p → n < length p.seats → s.0 < length p.slots
+pub claim_sound : (p : Plain) (n : ℕ) (s : SlotId) → Sound p → n < length p.seats
+    → s.0 < length p.slots
     → stage_at p s ≡ Free
     → Sound (with_slot (with_seat p n (record (seat_at p n) { filling = Some s })) s
     (record (slot_at p s) { stage = Blank }))
 claim_sound p n s so hn hs free =
     slot_sound (with_seat p n w) s y hs so.payloads (so.payloads s.0 new_slot hs)
-    (claimed (numbers p s) (numbers (with_slot (with_seat p n w) s y) s) (slot_at p s) (slot_law p so s) (less s) free)
+    (claimed (numbers p s) (numbers (with_slot (with_seat p n w) s y) s) (slot_at p s)
+      (slot_law p so s) (less s) free)
     (λ t ne. no_more_here (numbers p t) _ (slot_at p t) (slot_law p so t) (less t))
   where
     w : PlainSeat
@@ -55,12 +60,8 @@ claim_sound p n s so hn hs free =
     less t =
         let c = seat_change p n w t hn in
         let d = slot_change (with_seat p n w) s y t hs in record {
-          strong = omega arith;
-          weak = omega arith;
-          adds = omega arith;
-          dying = omega arith;
-          strong_covered = λ k h. omega arith;
-          weak_covered = λ k h. omega arith;
+          strong = omega arith; weak = omega arith; adds = omega arith; dying = omega arith;
+          strong_covered = λ k h. omega arith; weak_covered = λ k h. omega arith;
         }
 
 -- a write of slot s alone, which leaves its fields
@@ -72,12 +73,8 @@ alone p s y hs strong weak t =
     let d = slot_change p s y t hs in
     let a = strong t in
     let b = weak t in record {
-      strong = omega arith;
-      weak = omega arith;
-      adds = omega arith;
-      dying = omega arith;
-      strong_covered = λ k h. omega arith;
-      weak_covered = λ k h. omega arith;
+      strong = omega arith; weak = omega arith; adds = omega arith; dying = omega arith;
+      strong_covered = λ k h. omega arith; weak_covered = λ k h. omega arith;
     }
 
 pub fill_sound : (p : Plain) (s : SlotId) (i word : ℕ) → Sound p → stage_at p s ≡ Blank
@@ -86,8 +83,10 @@ fill_sound p s i word so blank =
     let hs : s.0 < length p.slots = is_there p s (λ e. cc) in
     let y : PlainSlot = record (slot_at p s) { payload = set (slot_at p s).payload i word } in
     let same = alone p s y hs (λ t. refl) (λ t. refl) in
-    slot_sound p s y hs so.payloads (length-set (slot_at p s).payload i word ∙ so.payloads s.0 new_slot hs)
-    (no_more (numbers p s) _ (slot_at p s) y (slot_law p so s) (same s) refl refl (slot_law p so s).nulls)
+    slot_sound p s y hs so.payloads
+      (length-set (slot_at p s).payload i word ∙ so.payloads s.0 new_slot hs)
+    (no_more (numbers p s) _ (slot_at p s) y (slot_law p so s) (same s) refl refl
+      (slot_law p so s).nulls)
     (λ t ne. no_more_here (numbers p t) _ (slot_at p t) (slot_law p so t) (same t))
 
 pub mark_sound : (p : Plain) (s : SlotId) → Sound p → stage_at p s ≡ Live → strong_refs p s ≡ 0
@@ -110,12 +109,11 @@ give_sound p s so husk none =
     (given (numbers p s) _ (slot_at p s) (slot_law p so s) (same s) husk (omega arith))
     (λ t ne. no_more_here (numbers p t) _ (slot_at p t) (slot_law p so t) (same t))
 
-pub make_sound : (p : Plain) (n : ℕ) (s : SlotId) → Sound p → n < length p.seats → stage_at p s ≡ Blank
+pub make_sound : (p : Plain) (n : ℕ) (s : SlotId) → Sound p → n < length p.seats
+    → stage_at p s ≡ Blank
     → Sound (with_slot
     (with_seat p n (record (seat_at p n) {
-      owned = (seat_at p n).owned ++ s ∷ [];
-      filling = None;
-      adds = (seat_at p n).adds + 1;
+      owned = (seat_at p n).owned ++ s ∷ []; filling = None; adds = (seat_at p n).adds + 1;
     }))
     s (record (slot_at p s) { stage = Live; marked = false; life = (slot_at p s).life + 1 }))
 make_sound p n s so hn blank =
@@ -126,9 +124,7 @@ make_sound p n s so hn blank =
 
     w : PlainSeat
     w = record (seat_at p n) {
-      owned = (seat_at p n).owned ++ s ∷ [];
-      filling = None;
-      adds = (seat_at p n).adds + 1;
+      owned = (seat_at p n).owned ++ s ∷ []; filling = None; adds = (seat_at p n).adds + 1;
     }
 
     y : PlainSlot
@@ -140,34 +136,30 @@ make_sound p n s so hn blank =
         let d = slot_change (with_seat p n w) s y s hs in
         let u = times_push s s (seat_at p n).owned in
         let o = held_self s in
-        made (numbers p s) _ (slot_at p s) ((slot_at p s).life + 1) (slot_law p so s) (omega arith) (omega arith)
+        made (numbers p s) _ (slot_at p s) ((slot_at p s).life + 1) (slot_law p so s) (omega arith)
+          (omega arith)
         (record {
-          strong = omega arith;
-          weak = omega arith;
-          adds = omega arith;
-          dying = omega arith;
-          strong_covered = λ k h. omega arith;
-          weak_covered = λ k h. omega arith;
+          strong = omega arith; weak = omega arith; adds = omega arith; dying = omega arith;
+          strong_covered = λ k h. omega arith; weak_covered = λ k h. omega arith;
         }) blank
 
-    there : (t : SlotId) → t.0 ≢ s.0 → SlotLaw (numbers (with_slot (with_seat p n w) s y) t) (slot_at p t)
+    there : (t : SlotId) → t.0 ≢ s.0
+      → SlotLaw (numbers (with_slot (with_seat p n w) s y) t) (slot_at p t)
     there t ne =
         let c = seat_change p n w t hn in
         let d = slot_change (with_seat p n w) s y t hs in
         let u = times_push t s (seat_at p n).owned in
         let o = held_other t s (λ f. ne (sym f)) in
         no_more_here (numbers p t) _ (slot_at p t) (slot_law p so t) (record {
-          strong = omega arith;
-          weak = omega arith;
-          adds = omega arith;
-          dying = omega arith;
-          strong_covered = λ k h. omega arith;
-          weak_covered = λ k h. omega arith;
+          strong = omega arith; weak = omega arith; adds = omega arith; dying = omega arith;
+          strong_covered = λ k h. omega arith; weak_covered = λ k h. omega arith;
         })
 
-pub end_sound : (p : Plain) (n : ℕ) (s : SlotId) → Sound p → n < length p.seats → stage_at p s ≡ Live
+pub end_sound : (p : Plain) (n : ℕ) (s : SlotId) → Sound p → n < length p.seats
+    → stage_at p s ≡ Live
     → ((slot_at p s).marked ≡ true) ⊎ (strong_refs p s ≡ 0)
-    → Sound (with_slot (with_seat p n (record (seat_at p n) { dying = (seat_at p n).dying ++ s ∷ [] })) s
+    → Sound (with_slot (with_seat p n
+    (record (seat_at p n) { dying = (seat_at p n).dying ++ s ∷ [] })) s
     (record (slot_at p s) { stage = Ended; marked = true }))
 end_sound p n s so hn live zero =
     slot_sound (with_seat p n w) s y hs so.payloads (so.payloads s.0 new_slot hs) here there
@@ -182,7 +174,8 @@ end_sound p n s so hn live zero =
     y = record (slot_at p s) { stage = Ended; marked = true }
 
     none : strong_refs p s ≡ 0
-    none = ⊎_elim (λ mark. none_marked (numbers p s) (slot_at p s) (slot_law p so s) mark) (λ z. z) zero
+    none = ⊎_elim (λ mark. none_marked (numbers p s) (slot_at p s) (slot_law p so s) mark)
+      (λ z. z) zero
 
     here : SlotLaw (numbers (with_slot (with_seat p n w) s y) s) y
     here =
@@ -192,27 +185,20 @@ end_sound p n s so hn live zero =
         let o = held_self s in
         ended (numbers p s) _ (slot_at p s) (slot_law p so s) (omega arith)
         (record {
-          strong = omega arith;
-          weak = omega arith;
-          adds = omega arith;
-          dying = omega arith;
-          strong_covered = λ k h. omega arith;
-          weak_covered = λ k h. omega arith;
+          strong = omega arith; weak = omega arith; adds = omega arith; dying = omega arith;
+          strong_covered = λ k h. omega arith; weak_covered = λ k h. omega arith;
         }) live none
 
-    there : (t : SlotId) → t.0 ≢ s.0 → SlotLaw (numbers (with_slot (with_seat p n w) s y) t) (slot_at p t)
+    there : (t : SlotId) → t.0 ≢ s.0
+      → SlotLaw (numbers (with_slot (with_seat p n w) s y) t) (slot_at p t)
     there t ne =
         let c = seat_change p n w t hn in
         let d = slot_change (with_seat p n w) s y t hs in
         let u = times_push t s (seat_at p n).dying in
         let o = held_other t s (λ f. ne (sym f)) in
         no_more_here (numbers p t) _ (slot_at p t) (slot_law p so t) (record {
-          strong = omega arith;
-          weak = omega arith;
-          adds = omega arith;
-          dying = omega arith;
-          strong_covered = λ k h. omega arith;
-          weak_covered = λ k h. omega arith;
+          strong = omega arith; weak = omega arith; adds = omega arith; dying = omega arith;
+          strong_covered = λ k h. omega arith; weak_covered = λ k h. omega arith;
         })
 
 -- a slot in a dying list has ended
@@ -220,9 +206,11 @@ pub dying_ended : (p : Plain) (n : ℕ) (s : SlotId) → Sound p → n < length 
     → 0 < times s (seat_at p n).dying → stage_at p s ≡ Ended
 dying_ended p n s so hn h = let part = seat_part p n s hn in (slot_law p so s).dying.1 (omega arith)
 
-pub destroy_sound : (p : Plain) (n : ℕ) (s : SlotId) (xs : List SlotId) → Sound p → n < length p.seats
+pub destroy_sound : (p : Plain) (n : ℕ) (s : SlotId) (xs : List SlotId) → Sound p
+    → n < length p.seats
     → Loses (seat_at p n).dying s xs → HasNullFields (slot_at p s)
-    → Sound (with_slot (with_seat p n (record (seat_at p n) { dying = xs })) s (record (slot_at p s) { stage = Husk }))
+    → Sound (with_slot (with_seat p n (record (seat_at p n) { dying = xs })) s
+    (record (slot_at p s) { stage = Husk }))
 destroy_sound p n s xs so hn loses null =
     slot_sound (with_seat p n w) s y hs so.payloads (so.payloads s.0 new_slot hs) here there
   where
@@ -245,25 +233,18 @@ destroy_sound p n s xs so hn loses null =
         let o = held_self s in
         destroyed (numbers p s) _ (slot_at p s) (slot_law p so s) (omega arith)
         (record {
-          strong = omega arith;
-          weak = omega arith;
-          adds = omega arith;
-          dying = omega arith;
-          strong_covered = λ k h. omega arith;
-          weak_covered = λ k h. omega arith;
+          strong = omega arith; weak = omega arith; adds = omega arith; dying = omega arith;
+          strong_covered = λ k h. omega arith; weak_covered = λ k h. omega arith;
         }) null
 
-    there : (t : SlotId) → t.0 ≢ s.0 → SlotLaw (numbers (with_slot (with_seat p n w) s y) t) (slot_at p t)
+    there : (t : SlotId) → t.0 ≢ s.0
+      → SlotLaw (numbers (with_slot (with_seat p n w) s y) t) (slot_at p t)
     there t ne =
         let c = seat_change p n w t hn in
         let d = slot_change (with_seat p n w) s y t hs in
         let u = times_loses t s (seat_at p n).dying xs loses in
         let o = held_other t s (λ f. ne (sym f)) in
         no_more_here (numbers p t) _ (slot_at p t) (slot_law p so t) (record {
-          strong = omega arith;
-          weak = omega arith;
-          adds = omega arith;
-          dying = omega arith;
-          strong_covered = λ k h. omega arith;
-          weak_covered = λ k h. omega arith;
+          strong = omega arith; weak = omega arith; adds = omega arith; dying = omega arith;
+          strong_covered = λ k h. omega arith; weak_covered = λ k h. omega arith;
         })

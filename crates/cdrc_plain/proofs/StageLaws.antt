@@ -33,7 +33,8 @@ claimed m n x law less free =
     }
 
 -- blank, and then live, with one reference, by one add
-pub made : (m n : Numbers) (x : PlainSlot) (life : ℕ) → SlotLaw m x → n.owned ≤ m.owned + 1 → n.adds ≡ m.adds + 1
+pub made : (m n : Numbers) (x : PlainSlot) (life : ℕ) → SlotLaw m x → n.owned ≤ m.owned + 1
+    → n.adds ≡ m.adds + 1
     → NoMore m (record n { owned = m.owned }) → x.stage ≡ Blank
     → SlotLaw n (record x { stage = Live; marked = false; life = life })
 made m n x life law more adds less blank =
@@ -54,7 +55,8 @@ made m n x life law more adds less blank =
     }
 
 -- live with no strong reference, and then marked
-pub zero_marked : (m n : Numbers) (x : PlainSlot) → SlotLaw m x → NoMore m n → x.stage ≡ Live → strong_sum m ≡ 0
+pub zero_marked : (m n : Numbers) (x : PlainSlot) → SlotLaw m x → NoMore m n → x.stage ≡ Live
+    → strong_sum m ≡ 0
     → SlotLaw n (record x { marked = true })
 zero_marked m n x law less live none = record {
   strong_covered = less.strong_covered law.strong_covered;
@@ -113,7 +115,8 @@ destroyed m n x law one less null =
     }
 
 -- a husk with no weak reference, and then free
-pub given : (m n : Numbers) (x : PlainSlot) → SlotLaw m x → NoMore m n → x.stage ≡ Husk → weak_sum m ≡ 0
+pub given : (m n : Numbers) (x : PlainSlot) → SlotLaw m x → NoMore m n → x.stage ≡ Husk
+    → weak_sum m ≡ 0
     → SlotLaw n (record x { stage = Free })
 given m n x law less husk no_weak =
     let not_live : x.stage ≢ Live = apart x Husk Live husk (λ e. cc) in

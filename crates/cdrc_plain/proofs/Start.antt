@@ -13,7 +13,8 @@ use Rattle.cdrc_plain.specs.Sound.{Sound}
 use Rattle.cdrc_plain.proofs.Kit.{held_none, times_none, entry_none, cells_null, seats_new, slots_new}
 use Rattle.cdrc_plain.proofs.SlotLaw.{SlotLaw, numbers, sound_by}
 
-pub every_slot_new : (seats slots cells weak_cells : ℕ) (s : SlotId) → slot_at (empty seats slots cells weak_cells) s ≡ new_slot
+pub every_slot_new : (seats slots cells weak_cells : ℕ) (s : SlotId)
+    → slot_at (empty seats slots cells weak_cells) s ≡ new_slot
 every_slot_new seats slots cells weak_cells s =
     ⊎_elim
     (λ lt. get_or-replicate slots s.0 new_slot new_slot lt)
@@ -29,10 +30,14 @@ law_of_new seats slots cells weak_cells s =
     let owned = seats_new (λ (v : PlainSeat). times s v.owned) seats none in
     let weaks = seats_new (λ (v : PlainSeat). times s v.weaks) seats none in
     let dying = seats_new (λ (v : PlainSeat). times s v.dying) seats none in
-    let sd = seats_new (λ (v : PlainSeat). entry_times Strong s v.deferred) seats (entry_none Strong s) in
-    let wd = seats_new (λ (v : PlainSeat). entry_times Weak s v.deferred) seats (entry_none Weak s) in
-    let ss = seats_new (λ (v : PlainSeat). entry_times Strong s v.snapshots) seats (entry_none Strong s) in
-    let ws = seats_new (λ (v : PlainSeat). entry_times Weak s v.snapshots) seats (entry_none Weak s) in
+    let sd = seats_new (λ (v : PlainSeat). entry_times Strong s v.deferred) seats
+      (entry_none Strong s) in
+    let wd = seats_new (λ (v : PlainSeat). entry_times Weak s v.deferred) seats
+      (entry_none Weak s) in
+    let ss = seats_new (λ (v : PlainSeat). entry_times Strong s v.snapshots) seats
+      (entry_none Strong s) in
+    let ws = seats_new (λ (v : PlainSeat). entry_times Weak s v.snapshots) seats
+      (entry_none Weak s) in
     let null = held_none s in
     let sf = slots_new (strong_fields s) slots (omega arith) in
     let wf = slots_new (weak_fields s) slots null in
@@ -54,5 +59,6 @@ law_of_new seats slots cells weak_cells s =
 pub empty_sound : (seats slots cells weak_cells : ℕ) → Sound (empty seats slots cells weak_cells)
 empty_sound seats slots cells weak_cells = sound_by (empty seats slots cells weak_cells)
     (λ s. subst (λ (x : PlainSlot). SlotLaw (numbers (empty seats slots cells weak_cells) s) x)
-    (sym (every_slot_new seats slots cells weak_cells s)) (law_of_new seats slots cells weak_cells s))
+    (sym (every_slot_new seats slots cells weak_cells s))
+      (law_of_new seats slots cells weak_cells s))
     (All-replicate (λ (x : PlainSlot). length x.payload ≡ 16) slots new_slot refl)

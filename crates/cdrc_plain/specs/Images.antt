@@ -1,6 +1,7 @@
 -- A heap as words, and the words of a plain state.
 use Rattle.std.specs.Prelude.{ℕ, ◌≡◌, ◌<◌, ◌^◌, List, [], ◌∷◌, length, map, nat_lt, slice_index_or, if◌then◌else◌}
 use Rattle.cdrc_plain.specs.declared.slot.SlotId.{SlotId}
+use Rattle.cdrc_plain.specs.declared.slot.PlainSlot.{PlainSlot}
 use Rattle.cdrc_plain.specs.declared.slot.Stage.{Stage}
 use Rattle.cdrc_plain.specs.declared.slot.Stage.TheVariants.{Free, Blank, Live, Ended, Husk}
 use Rattle.cdrc_plain.specs.declared.image.SlotImage.{SlotImage}
@@ -19,10 +20,6 @@ free_image = record { strong = 2 ^ 63; weak = 2 ^ 63; fields = 0 ∷ 0 ∷ []; w
 abbrev pub slot_image : List SlotImage → SlotId → SlotImage
 slot_image images s = slice_index_or images s.0 free_image
 
--- the zero flag alone where the zero mark stands, else the count
-abbrev pub strong_word : Plain → SlotId → ℕ
-strong_word p s = if (slot_at p s).marked then 2 ^ 63 else strong_refs p s
-
 -- a free slot's weak word is the zero flag alone
 abbrev pub weak_by : Stage → ℕ → ℕ
 weak_by Free refs = 2 ^ 63
@@ -31,20 +28,18 @@ weak_by Live refs = refs
 weak_by Ended refs = refs
 weak_by Husk refs = refs
 
-abbrev pub weak_word : Plain → SlotId → ℕ
-weak_word p s = weak_by (slot_at p s).stage (weak_refs p s)
+-- the words of a slot with so many references: where its zero mark stands, the strong word is the zero flag alone
+abbrev pub image_of : PlainSlot → ℕ → ℕ → SlotImage
+image_of x strongs weaks = record {
+  strong = if x.marked then 2 ^ 63 else strongs;
+  weak = weak_by x.stage weaks;
+  fields = word_of x.first ∷ word_of x.second ∷ [];
+  weak_field = word_of x.weak_field;
+  payload = x.payload;
+}
 
--- the words of slot s
 abbrev pub image_at : Plain → SlotId → SlotImage
-image_at p s =
-    let x = slot_at p s in
-    record {
-      strong = strong_word p s;
-      weak = weak_word p s;
-      fields = word_of x.first ∷ word_of x.second ∷ [];
-      weak_field = word_of x.weak_field;
-      payload = x.payload;
-    }
+image_at p s = image_of (slot_at p s) (strong_refs p s) (weak_refs p s)
 
 -- the heap has the words of the plain state of one seat, and its deferred entries
 pub record IsImage (p : Plain) (heap : Heap) : Type 0 where

@@ -118,7 +118,7 @@ Row p n (act.TryReplace place old new) found q =
 Row p n (act.Count s) found q = Holds (seat_at p n) s × (found ≡ strong_refs p s) × (q ≡ p)
 Row p n (act.Mark s) found q =
     (found ≡ strong_refs p s)
-    × ((q ≡ p) ⊎ ((stage_at p s ≡ Live) × (strong_refs p s ≡ 0)
+    × (((q ≡ p) × (found ≡ 0 → (slot_at p s).marked ≡ true)) ⊎ ((stage_at p s ≡ Live) × (strong_refs p s ≡ 0)
     × (q ≡ with_slot p s (record (slot_at p s) { marked = true }))))
 Row p n (act.WeakCount s) found q = Holds (seat_at p n) s × (found ≡ 0) × (q ≡ p)
 Row p n (act.See s i) found q =

@@ -4,6 +4,7 @@
 mod act;
 mod hand;
 mod heap;
+mod heap_image;
 mod image;
 mod laws;
 mod payload;
