@@ -15,3 +15,4 @@ pub mod Stores
 pub mod Tallies
 pub mod Opening
 pub mod Fits
+pub mod Records

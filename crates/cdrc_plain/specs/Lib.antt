@@ -10,3 +10,4 @@ pub mod Images
 pub mod Settling
 pub mod Heaps
 pub mod Stores
+pub mod Records

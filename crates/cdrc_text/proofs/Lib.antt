@@ -1,0 +1,8 @@
+-- The lemmas that the contracts stand on.
+pub mod Counts
+pub mod Cutting
+pub mod Fields
+pub mod Reported
+pub mod Scan
+pub mod Sorting
+pub mod Unique

@@ -1,0 +1,6 @@
+pub mod Pieces
+pub mod Fold
+pub mod Refused
+pub mod Report
+pub mod Tally
+pub mod Text

@@ -1,0 +1,26 @@
+-- Words with their counts, in any order.
+use Rattle.std.specs.Prelude.{◌≡◌, ℕ, ◌+◌, ◌<◌, if◌then◌else◌, List, map}
+use Rattle.std.specs.List.{All, sum}
+use Rattle.std.specs.Map.{keys_of, lookup, values_of}
+use Rattle.std.specs.Option.{unwrap_or}
+use Rattle.std.specs.Str.{bytes_eq}
+use Rattle.cdrc_text.specs.Fold.{IsInByteOrder}
+
+-- how often w was counted
+unfoldable pub count_of : List (List ℕ × ℕ) → List ℕ → ℕ
+count_of counted w = unwrap_or (lookup (bytes_eq w) counted) 0
+
+-- how much was counted in all
+unfoldable pub total_of : List (List ℕ × ℕ) → ℕ
+total_of counted = sum (values_of counted)
+
+-- the second counts w once more than the first, and every other word as often
+pub record CountsOneMore (before after : List (List ℕ × ℕ)) (w : List ℕ) : Type 0 where
+  pub counts : (v : List ℕ) → count_of after v ≡ count_of before v + (if bytes_eq w v then 1 else 0)
+  pub total : total_of after ≡ total_of before + 1
+
+-- the rows are the words that were counted, each once and with its count, in byte order
+pub record ListsWords (counted rows : List (List ℕ × ℕ)) : Type 0 where
+  pub in_order : IsInByteOrder (keys_of rows)
+  pub counts : (w : List ℕ) → count_of rows w ≡ count_of counted w
+  pub positive : All (λ count. 0 < count) (values_of rows)

@@ -1,0 +1,3 @@
+pub mod FirstEntry
+pub mod Known
+pub mod Streams

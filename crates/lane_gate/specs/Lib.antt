@@ -1,0 +1,9 @@
+pub mod Causes
+pub mod Contents
+pub mod Failing
+pub mod HonestFiles
+pub mod MemFiles
+pub mod MemSink
+pub mod Reads
+pub mod Streams
+pub mod Writes
