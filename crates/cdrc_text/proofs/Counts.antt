@@ -1,5 +1,5 @@
 -- Counts of words as a list of entries: what a map's change of one word does to them.
-use Rattle.std.proofs.Common.{◌≡◌, ℕ, ◌+◌, ◌<◌, ◌≤◌, Bool, true, false, cond, List, [], ◌∷◌, ◌++◌, Option, Some, None, Vec, Global, length, map, refl, sym, ap, subst, ◌∙◌, arith, if◌then◌else◌}
+use Rattle.std.proofs.Common.{◌≡◌, ℕ, ◌+◌, ◌≤◌, Bool, true, false, cond, List, [], ◌∷◌, Option, Some, None, Vec, Global, map, refl, sym, ap, ◌∙◌, arith, if◌then◌else◌}
 use Rattle.std.proofs.lemmas.Bool.{cond-true, cond-false}
 use Rattle.std.proofs.lemmas.List.Sums.{sum_by-cons}
 use Rattle.std.proofs.lemmas.Map.Entries.{sum_by-set_value, sum_by_values_permutation}
@@ -7,7 +7,7 @@ use Rattle.std.proofs.lemmas.Map.Steps.{lookup-le-sum}
 use Rattle.std.specs.Cmp.Lexicographic.{bytes_decides, nat_list_eq_equiv}
 use Rattle.std.specs.List.{sum}
 use Rattle.std.specs.List.Sorted.{IsPermutation}
-use Rattle.std.specs.Map.{keys_of, values_of, lookup, set_value, KeepsOthers, IsKeyTest, AreApart}
+use Rattle.std.specs.Map.{values_of, lookup, set_value, KeepsOthers, IsKeyTest, AreApart}
 use Rattle.std.specs.Option.{unwrap_or}
 use Rattle.std.specs.Str.{bytes_eq}
 use Rattle.cdrc_text.specs.Tally.{count_of, total_of, CountsOneMore}
@@ -63,10 +63,11 @@ lookup-updated p x old new at others w = by_test (bytes_eq p w) refl
 -- the counts after the word p is at one more
 pub counts-one_more : (p : List ℕ) (n : ℕ) (old new : List (Vec ℕ Global × ℕ)) → unwrap_or (lookup (is_word p) old) 0 ≡ n
     → ((w : List ℕ) → lookup (is_word w) new ≡ cond (bytes_eq p w) (Some (n + 1)) (lookup (is_word w) old))
-    → (v : List ℕ) → count_of (entries_of new) v ≡ count_of (entries_of old) v + (if bytes_eq p v then 1 else 0)
+    → (v : List ℕ) → count_of (entries_of new) v ≡ count_of (entries_of old) v + (if bytes_eq v p then 1 else 0)
 counts-one_more p n old new had updated v =
     count_of-is v new ∙ ap (λ o. unwrap_or o 0) (updated v) ∙ by_test (bytes_eq p v) refl
     ∙ ap (λ k. k + (if bytes_eq p v then 1 else 0)) (sym (count_of-is v old))
+    ∙ ap (λ b. count_of (entries_of old) v + (if b then 1 else 0)) (nat_list_eq_equiv.symm p v)
   where
     by_test : (b : Bool) → bytes_eq p v ≡ b
         → unwrap_or (cond (bytes_eq p v) (Some (n + 1)) (lookup (is_word v) old)) 0 ≡ unwrap_or (lookup (is_word v) old) 0 + (if bytes_eq p v then 1 else 0)

@@ -1,5 +1,5 @@
 -- The places of fields are those of the fields that `bstr` gives.
-use Rattle.std.proofs.Common.{◌≡◌, ℕ, ◌+◌, ◌-◌, ◌<◌, ◌≤◌, Bool, true, false, cond, List, [], ◌∷◌, ◌++◌, Option, Some, None, length, take, drop, map, refl, sym, ap, ◌∙◌, arith}
+use Rattle.std.proofs.Common.{◌≡◌, ℕ, Bool, true, false, cond, List, [], ◌∷◌, Option, Some, None, map, refl, ap}
 use Rattle.std.specs.Char.{is_whitespace}
 use Rattle.bstr.specs.Fields.{fields_acc}
 use Rattle.bstr.specs.Text.{part}

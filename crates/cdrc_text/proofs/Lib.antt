@@ -2,6 +2,7 @@
 pub mod Counts
 pub mod Cutting
 pub mod Fields
+pub mod Listed
 pub mod Reported
 pub mod Scan
 pub mod Sorting

@@ -1,5 +1,5 @@
 -- What is known on the way through the characters of a text, and what follows at its end.
-use Rattle.std.proofs.Common.{◌≡◌, ℕ, ◌+◌, ◌-◌, ◌<◌, ◌≤◌, Bool, true, false, cond, List, [], ◌∷◌, ◌++◌, Option, Some, None, length, take, drop, map, get_or, refl, sym, ap, subst, ◌∙◌, arith, append_assoc, append-nil, length-append}
+use Rattle.std.proofs.Common.{◌≡◌, ℕ, ◌≤◌, Bool, true, false, cond, List, [], ◌∷◌, ◌++◌, Option, Some, None, length, map, get_or, refl, sym, ap, subst, ◌∙◌, arith, append_assoc, append-nil, length-append}
 use Rattle.std.proofs.lemmas.Bool.{cond-true, cond-false}
 use Rattle.std.proofs.lemmas.List.{map-append, get_or_append_left, length-map}
 use Rattle.std.proofs.lemmas.List.Elements.{All-append, All-cons, All-nil, All-head, All-tail}
@@ -8,7 +8,7 @@ use Rattle.std.specs.Char.{is_whitespace}
 use Rattle.std.specs.List.{All, flat_map}
 use Rattle.std.specs.Option.{IfSome}
 use Rattle.bstr.proofs.lemmas.FieldLemmas.{chain-step, chain-le, chain-whole}
-use Rattle.bstr.specs.Fields.{SpanChain, fields_acc}
+use Rattle.bstr.specs.Fields.{SpanChain}
 use Rattle.bstr.specs.Text.{part}
 use Rattle.cdrc_text.proofs.Cutting.{All-cut_places, IsPlace, texts-cut_places}
 use Rattle.cdrc_text.proofs.Fields.{parts-field_ends}

@@ -1,10 +1,10 @@
 -- The distinct words of some files are one list, and so their text is one.
-use Rattle.std.proofs.Common.{◌≡◌, ℕ, zero, suc, ◌+◌, ◌<◌, ◌≤◌, ◌⊎◌, inl, inr, List, [], ◌∷◌, length, get_or, refl, sym, ap, subst, ◌∙◌, arith}
+use Rattle.std.proofs.Common.{◌≡◌, ℕ, zero, suc, ◌<◌, ◌⊎◌, inl, inr, List, [], ◌∷◌, length, get_or, refl, sym, ap, subst, ◌∙◌, arith}
 use Rattle.std.proofs.lemmas.Cmp.{nat_list_cmp_total}
 use Rattle.std.proofs.lemmas.List.Elements.{All-contains, All-from_recursion}
 use Rattle.std.proofs.lemmas.Map.Keys.{sorted_head, sorted_tail}
 use Rattle.std.specs.Cmp.Lexicographic.{slice_cmp}
-use Rattle.std.specs.declared.cmp.Ordering.TheVariants.{Less, Equal, Greater}
+use Rattle.std.specs.declared.cmp.Ordering.TheVariants.{Less, Greater}
 use Rattle.std.specs.List.{Contains}
 use Rattle.std.specs.Ordering.{nat_cmp, ordering_reverse}
 use Rattle.cdrc_text.specs.Fold.{IsInByteOrder, IsWords}
@@ -15,13 +15,13 @@ first_or_later : (x : List ℕ) (xs : List (List ℕ)) (y : List ℕ) (k : ℕ) 
 first_or_later x xs y zero below is = inl is
 first_or_later x xs y (suc k) below is = let fits : k < length xs = omega arith in inr (k, fits, is)
 
-cases-cons : (x : List ℕ) (xs : List (List ℕ)) (y : List ℕ) → Contains (x ∷ xs) y → (x ≡ y) ⊎ Contains xs y
+pub cases-cons : (x : List ℕ) (xs : List (List ℕ)) (y : List ℕ) → Contains (x ∷ xs) y → (x ≡ y) ⊎ Contains xs y
 cases-cons x xs y has = first_or_later x xs y has.0 has.1 has.2
 
-Contains-first : (x : List ℕ) (xs : List (List ℕ)) → Contains (x ∷ xs) x
+pub Contains-first : (x : List ℕ) (xs : List (List ℕ)) → Contains (x ∷ xs) x
 Contains-first x xs = (0, omega arith, refl)
 
-Contains-later : (x : List ℕ) (xs : List (List ℕ)) (y : List ℕ) → Contains xs y → Contains (x ∷ xs) y
+pub Contains-later : (x : List ℕ) (xs : List (List ℕ)) (y : List ℕ) → Contains xs y → Contains (x ∷ xs) y
 Contains-later x xs y has = let fits : suc has.0 < length (x ∷ xs) = omega (arith, has.1) in (suc has.0, fits, has.2)
 
 -- a word is below each that follows it

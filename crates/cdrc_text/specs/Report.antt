@@ -1,5 +1,5 @@
 -- The lines of a report, over any rows and totals.
-use Rattle.std.specs.Prelude.{ℕ, List, [], ◌∷◌, ◌++◌, length, codes}
+use Rattle.std.specs.Prelude.{ℕ, List, ◌++◌, length, codes}
 use Rattle.std.specs.Fmt.{decimal}
 use Rattle.std.specs.List.{flat_map}
 use Rattle.cdrc_text.specs.declared.row.AuditLine.{AuditLine}

@@ -1,5 +1,5 @@
 -- Words with their counts, in any order.
-use Rattle.std.specs.Prelude.{◌≡◌, ℕ, ◌+◌, ◌<◌, if◌then◌else◌, List, map}
+use Rattle.std.specs.Prelude.{◌≡◌, ℕ, ◌+◌, ◌<◌, if◌then◌else◌, List}
 use Rattle.std.specs.List.{All, sum}
 use Rattle.std.specs.Map.{keys_of, lookup, values_of}
 use Rattle.std.specs.Option.{unwrap_or}
@@ -16,7 +16,7 @@ total_of counted = sum (values_of counted)
 
 -- the second counts w once more than the first, and every other word as often
 pub record CountsOneMore (before after : List (List ℕ × ℕ)) (w : List ℕ) : Type 0 where
-  pub counts : (v : List ℕ) → count_of after v ≡ count_of before v + (if bytes_eq w v then 1 else 0)
+  pub counts : (v : List ℕ) → count_of after v ≡ count_of before v + (if bytes_eq v w then 1 else 0)
   pub total : total_of after ≡ total_of before + 1
 
 -- the rows are the words that were counted, each once and with its count, in byte order

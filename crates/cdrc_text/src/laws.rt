@@ -1,11 +1,14 @@
 //! What holds of the definitions themselves: the text of some files is one, and a report of their counts is it.
 
-ghost use Rattle.std.specs.Prelude.{◌≡◌, ℕ, List, [], ◌∷◌, map, codes};
+ghost use Rattle.std.specs.Prelude.{◌≡◌, ◌<◌, ◌++◌, ℕ, List, [], ◌∷◌, map, codes, replicate};
 ghost use Rattle.std.specs.List.{All};
 ghost use Rattle.cdrc_text.specs.declared.row.Row.{Row};
 ghost use Rattle.cdrc_text.specs.declared.row.Totals.{Totals};
-ghost use Rattle.cdrc_text.specs.Fold.{IsWords};
+ghost use Rattle.std.specs.Map.{keys_of};
+ghost use Rattle.cdrc_text.specs.Fold.{IsWords, occurrences_of};
+ghost use Rattle.cdrc_text.specs.Pieces.{pieces_of, places_of};
 ghost use Rattle.cdrc_text.specs.Report.{report_of};
+ghost use Rattle.cdrc_text.specs.Tally.{ListsWords, count_of};
 ghost use Rattle.cdrc_text.specs.Text.{IsRowOf, IsText, text_of, totals_of, word_of};
 
 /// The files and the rounds determine the text.
@@ -20,4 +23,36 @@ pub fn report_is_text()
     ensures { (files : List (List ℕ)) (rounds : ℕ) (rows : List Row) (totals : Totals)
         → IsWords files (map word_of rows) → All (IsRowOf files rounds) rows
         → totals ≡ totals_of (map word_of rows) files → IsText files rounds (report_of rows totals) }
+{}
+
+/// The words of a tally are the distinct words of the files, if it counted each as often as it occurs in them.
+pub fn tally_gives_words()
+    ensures { (files : List (List ℕ)) (rounds : ℕ) (counted rows : List (List ℕ × ℕ)) → 0 < rounds
+        → ((w : List ℕ) → count_of counted w ≡ occurrences_of w rounds files) → ListsWords counted rows
+        → IsWords files (keys_of rows) }
+{}
+
+/// Worked pieces: words of one byte, a field of 120 bytes and one of 121, and bytes that aren't UTF-8 before U+0085,
+/// which is White_Space.
+pub fn worked_pieces()
+    ensures places { places_of (codes "a b c") ≡ (0, 1) ∷ (2, 1) ∷ (4, 1) ∷ [] }
+    ensures full { pieces_of (replicate 120 120) ≡ replicate 120 120 ∷ [] }
+    ensures longer { pieces_of (replicate 121 120) ≡ replicate 120 120 ∷ (120 ∷ []) ∷ [] }
+    ensures bytes { pieces_of (255 ∷ 254 ∷ 194 ∷ 133 ∷ 97 ∷ []) ≡ (255 ∷ 254 ∷ []) ∷ (97 ∷ []) ∷ [] }
+{}
+
+/// Worked texts: of `a b a`, of one file named twice, and of two files that share a word, in three rounds.
+pub fn worked_texts()
+    ensures one { text_of (codes "a" ∷ codes "b" ∷ []) (codes "a b a" ∷ []) 1
+        ≡ codes "2 1 a\n1 1 b\nfiles 1 pieces 3 distinct 2\n"
+        ++ codes "held live 2 deferred 0 cyclic 0 bytes 2\n"
+        ++ codes "freed live 0 deferred 0 cyclic 0 bytes 0\n" }
+    ensures twice { text_of (codes "x" ∷ []) (codes "x" ∷ codes "x" ∷ []) 1
+        ≡ codes "2 2 x\nfiles 2 pieces 2 distinct 1\n"
+        ++ codes "held live 1 deferred 0 cyclic 0 bytes 1\n"
+        ++ codes "freed live 0 deferred 0 cyclic 0 bytes 0\n" }
+    ensures rounds { text_of (codes "a" ∷ codes "b" ∷ codes "c" ∷ []) (codes "a b" ∷ codes "b b c" ∷ []) 3
+        ≡ codes "3 1 a\n9 2 b\n3 1 c\nfiles 2 pieces 5 distinct 3\n"
+        ++ codes "held live 3 deferred 0 cyclic 0 bytes 3\n"
+        ++ codes "freed live 0 deferred 0 cyclic 0 bytes 0\n" }
 {}

@@ -32,7 +32,9 @@ const CLOSING_ROOM: usize = 512;
 fn room_for(rows: &[Row]) -> usize {
     let mut room = CLOSING_ROOM;
     for line in rows {
-        room = room.saturating_add(LINE_ROOM).saturating_add(line.word.len());
+        room = room
+            .saturating_add(LINE_ROOM)
+            .saturating_add(line.word.len());
     }
     room
 }

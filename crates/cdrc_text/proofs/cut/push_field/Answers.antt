@@ -1,8 +1,7 @@
-use Rattle.std.proofs.Common.{◌≡◌, ℕ, ◌+◌, ◌-◌, ◌++◌, ◌∷◌, [], ◌≤◌, List, length, map, sym, ap, ◌∙◌, arith, append_assoc, length-append}
+use Rattle.std.proofs.Common.{◌≡◌, ◌+◌, ◌-◌, ◌++◌, ◌∷◌, [], length, map, sym, ap, ◌∙◌, arith, append_assoc, length-append}
 use Rattle.std.proofs.lemmas.List.FromFn.{length-map-range_with_len, map-range_with_len_more}
 use Rattle.std.specs.Int.{div_ceil}
 use Rattle.std.specs.List.{range_with_len}
-use Rattle.cdrc_text.specs.Pieces.{cut_places}
 use Rattle.cdrc_text.proofs.Cutting.{cut_places-is, over-cut_places, run_at}
 use Rattle.cdrc_text.proofs.cut.push_field.Goals as goal
 

@@ -1,4 +1,4 @@
-use Rattle.std.proofs.Common.{◌≡◌, ◌++◌, ◌≤◌, length, take, ap, ◌∙◌, arith}
+use Rattle.std.proofs.Common.{◌++◌, length, ap, ◌∙◌, arith}
 use Rattle.std.proofs.lemmas.List.{take_all}
 use Rattle.std.specs.List.{flat_map}
 use Rattle.cdrc_text.specs.Report.{closing_lines, report_of, row_line}

@@ -1,4 +1,4 @@
-use Rattle.std.proofs.Common.{◌≡◌, ◌+◌, ◌<◌, ◌∷◌, ℕ, List, Vec, Global, ◌≤◌, Some, None, refl, sym, ap, ◌∙◌, subst, arith}
+use Rattle.std.proofs.Common.{◌≡◌, ◌+◌, ◌<◌, ◌∷◌, ℕ, Vec, Global, Some, None, refl, sym, ap, ◌∙◌, subst, arith}
 use Rattle.std.proofs.lemmas.Result.{err_from_is_err_and}
 use Rattle.std.proofs.lemmas.List.Elements.{All-cons}
 use Rattle.std.proofs.lemmas.Map.Views.{All-map-IsPermutation, All-values-set_value}
@@ -7,7 +7,7 @@ use Rattle.std.specs.List.Sorted.{IsPermutation}
 use Rattle.std.specs.Map.{lookup, set_value, values_of, KeepsOthers}
 use Rattle.std.specs.Option.{unwrap_or, IsSome, MatchOption}
 use Rattle.cdrc_text.proofs.Counts.{count-le-total, count_of-is, entries_of, is_word, one_more-new, one_more-old, same_bytes}
-use Rattle.cdrc_text.specs.Tally.{count_of, total_of, CountsOneMore}
+use Rattle.cdrc_text.specs.Tally.{total_of, CountsOneMore}
 use Rattle.cdrc_text.proofs.tally.Tally.add.Goals as goal
 
 abbrev IsPositive : ℕ → Type 0

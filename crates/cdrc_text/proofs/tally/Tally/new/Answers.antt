@@ -1,4 +1,4 @@
-use Rattle.std.proofs.Common.{◌≡◌, ℕ, List, [], refl, ap, ◌∙◌}
+use Rattle.std.proofs.Common.{ap}
 use Rattle.cdrc_text.proofs.Counts.{entries_of}
 use Rattle.cdrc_text.specs.Tally.{count_of, total_of}
 use Rattle.cdrc_text.proofs.tally.Tally.new.Goals as goal

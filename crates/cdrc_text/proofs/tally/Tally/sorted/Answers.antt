@@ -1,4 +1,4 @@
-use Rattle.std.proofs.Common.{◌≡◌, ◌++◌, ◌∷◌, [], List, ℕ, sym, ap, ◌∙◌, subst, append-nil}
+use Rattle.std.proofs.Common.{◌≡◌, ◌++◌, sym, ap, ◌∙◌, subst, append-nil}
 use Rattle.cdrc_text.specs.Tally.{ListsWords}
 use Rattle.cdrc_text.proofs.Counts.{entries_of}
 use Rattle.cdrc_text.proofs.Sorting.{lists-sorted, rows-more}

@@ -1,0 +1,54 @@
+//! `cdrc_words` counts the words of a file: how often each occurs, and in how many files, with an audit of the heap of
+//! its records before and after all handles are dropped.
+//!
+//! The work is `run`, a call over any source, sink and gate, which answers a status. Its contract says that with status
+//! 0 the bytes taken are the text of the file, and of every other status but want of memory what caused it. It doesn't
+//! say that a run ends: the gate may wait. `main` hands it the words after the program's name, the host's files and
+//! standard output.
+//!
+//! ```text
+//! cdrc_words words FILE
+//! ```
+#![tactic(auto)]
+
+mod audit;
+mod command;
+mod counting;
+mod explain;
+mod limits;
+mod outcome;
+mod output;
+mod records;
+mod run;
+
+use crate::explain::explain;
+use crate::run::run;
+use lane_gate::{HostFiles, HostSink, Open};
+use std::env;
+use std::io;
+use std::process::ExitCode;
+
+/// The words after the program's name, or the status of a command line that can't be had: a word that isn't UTF-8 is
+/// no word of the grammar.
+fn command_line(rt: &HostRuntime) -> Result<Vec<String>, u8> {
+    match env::args(rt) {
+        Ok(arguments) => arguments.skip(1).collect(rt.alloc()).map_err(|_| 9),
+        Err(error) if error.kind() == io::ErrorKind::OutOfMemory => Err(9),
+        Err(_) => Err(2),
+    }
+}
+
+fn main(rt: HostRuntime) -> ExitCode {
+    let status = match command_line(&rt) {
+        Ok(words) => {
+            let mut files = HostFiles::new(&rt);
+            let mut sink = HostSink::new(&rt);
+            run(&rt, rt.alloc(), &words, &mut files, &mut sink, &Open).status
+        }
+        Err(status) => status,
+    };
+    if status != 0 {
+        let _ = rt.eprintln(explain(status));
+    }
+    ExitCode::from(status)
+}

@@ -1,0 +1,65 @@
+//! The heap of records: one for each distinct word.
+use crate::audit::audit_line;
+use crate::counting::Counted;
+use cdrc_plain::{Hand, MakeRefused, PlainHeap, RecordKind, record_of};
+use cdrc_text::{AuditLine, Row, Totals, report};
+use out_of_memory::OutOfMemory;
+use std::alloc::Global;
+
+/// The report of a file with these distinct words: each word becomes a record, whose holders are the references to it.
+/// The two audits are of the heap that holds all records, and of that heap after all handles are dropped.
+pub fn report_of(alloc: Global, list: Vec<Counted>, pieces: u64) -> Result<Vec<u8>, OutOfMemory> {
+    let mut heap = PlainHeap::<RecordKind>::new(alloc, 2 * pieces as u32 + 2, 0, 0)?;
+    let hands = make_records(alloc, &mut heap, &list)?;
+    let rows = rows_of(alloc, &heap, &hands, list)?;
+    let held = audit_line(&heap.image(alloc)?);
+    let freed = free_all(alloc, &mut heap, hands)?;
+    report(alloc, &rows, &Totals { files: 1, pieces, held, freed })
+}
+
+/// A record of each word, and a handle of each, in the words' order.
+fn make_records(
+    alloc: Global,
+    heap: &mut PlainHeap<RecordKind>,
+    list: &[Counted],
+) -> Result<Vec<Hand>, OutOfMemory> {
+    let mut hands = Vec::new(alloc);
+    for counted in list {
+        hands.reserve(1)?;
+        match heap.make(record_of(&counted.word)) {
+            Ok(hand) => hands.push_reserved(hand),
+            Err(MakeRefused::OutOfMemory) => return Err(OutOfMemory),
+            Err(MakeRefused::Full) => unreachable!(),
+        }
+    }
+    Ok(hands)
+}
+
+/// A row for each word, with the references to its record.
+fn rows_of(
+    alloc: Global,
+    heap: &PlainHeap<RecordKind>,
+    hands: &[Hand],
+    list: Vec<Counted>,
+) -> Result<Vec<Row>, OutOfMemory> {
+    let mut rows = Vec::with_capacity(alloc, list.len())?;
+    for (counted, hand) in list.into_iter().zip(hands) {
+        let (holders, _) = heap.counts(hand.slot());
+        let Counted { word, occurrences } = counted;
+        rows.push_reserved(Row { occurrences, holders, word });
+    }
+    Ok(rows)
+}
+
+/// Drops all handles and lets the heap settle; the line of what is left.
+fn free_all(
+    alloc: Global,
+    heap: &mut PlainHeap<RecordKind>,
+    hands: Vec<Hand>,
+) -> Result<AuditLine, OutOfMemory> {
+    for hand in hands {
+        heap.drop_hand(hand);
+    }
+    heap.settle()?;
+    Ok(audit_line(&heap.image(alloc)?))
+}

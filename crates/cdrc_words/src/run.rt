@@ -1,0 +1,75 @@
+//! The top call.
+use crate::command::file_of;
+use crate::counting::counted;
+use crate::limits::{MOST_BYTES, MOST_PIECES};
+use crate::outcome::{End, Refusal, Why};
+use crate::output::write_all;
+use crate::records::report_of;
+use cdrc_text::{PiecesError, pieces};
+use lane_gate::{FileFault, Files, Gate, Sink};
+use std::alloc::Global;
+use std::sync::Wait;
+use std::thread::Threads;
+
+/// Does what the words say: reads the file by its name, counts, and offers the report to the sink.
+pub fn run<R: Threads + Wait + Sync, F: Files, K: Sink, G: Gate + Sync>(
+    rt: &R,
+    alloc: Global,
+    words: &[String],
+    files: &mut F,
+    sink: &mut K,
+    gate: &G,
+) -> End {
+    let status = match words_command(rt, alloc, words, files, sink, gate) {
+        Ok(()) => 0,
+        Err(refusal) => refusal.status(),
+    };
+    End {
+        status,
+        why: Why::Nothing,
+    }
+}
+
+/// The command `words FILE`.
+fn words_command<R: Wait, F: Files, K: Sink, G: Gate>(
+    rt: &R,
+    alloc: Global,
+    words: &[String],
+    files: &mut F,
+    sink: &mut K,
+    gate: &G,
+) -> Result<(), Refusal> {
+    let Some(name) = file_of(words) else {
+        return Err(Refusal::Usage);
+    };
+    let text = read_file(alloc, files, name)?;
+    let bytes = report_text(rt, alloc, &text, gate)?;
+    write_all(sink, &bytes)
+}
+
+/// The content of a file of at most 67,108,864 bytes.
+fn read_file<F: Files>(alloc: Global, files: &mut F, name: &str) -> Result<Vec<u8>, Refusal> {
+    let mut text = Vec::new(alloc);
+    match files.read(name, &mut text, MOST_BYTES) {
+        Ok(()) => Ok(text),
+        Err(FileFault::Failed) => Err(Refusal::Read),
+        Err(FileFault::TooLong) => Err(Refusal::TooLarge),
+        Err(FileFault::OutOfMemory) => Err(Refusal::OutOfMemory),
+    }
+}
+
+/// The report of one file with this content.
+fn report_text<R: Wait, G: Gate>(
+    rt: &R,
+    alloc: Global,
+    text: &[u8],
+    gate: &G,
+) -> Result<Vec<u8>, Refusal> {
+    let found = match pieces(alloc, text, MOST_PIECES) {
+        Ok(found) => found,
+        Err(PiecesError::TooMany(_)) => return Err(Refusal::TooLarge),
+        Err(PiecesError::OutOfMemory) => return Err(Refusal::OutOfMemory),
+    };
+    let list = counted(rt, alloc, text, &found, gate)?;
+    Ok(report_of(alloc, list, found.len())?)
+}
