@@ -2,9 +2,11 @@
 #![tactic(auto)]
 
 mod act;
+mod announced;
 mod hand;
 mod heap;
 mod heap_image;
+mod heap_settle;
 mod image;
 mod laws;
 mod payload;
@@ -16,6 +18,7 @@ mod store_hands;
 mod tally;
 
 pub use act::{EventPlace, PlainAct};
+pub use announced::Announced;
 pub use hand::{Hand, WeakHand};
 pub use heap::PlainHeap;
 pub use image::{Heap, SlotImage, ZERO};

@@ -1,5 +1,5 @@
 -- Counts of words as a list of entries: what a map's change of one word does to them.
-use Rattle.std.proofs.Common.{◌≡◌, ℕ, ◌+◌, ◌≤◌, Bool, true, false, cond, List, [], ◌∷◌, Option, Some, None, Vec, Global, map, refl, sym, ap, ◌∙◌, arith, if◌then◌else◌}
+use Rattle.std.proofs.Common.{◌≡◌, ℕ, ◌+◌, ◌≤◌, Bool, true, false, cond, List, [], ◌∷◌, Option, Some, None, Vec, Global, refl, sym, ap, ◌∙◌, arith, if◌then◌else◌}
 use Rattle.std.proofs.lemmas.Bool.{cond-true, cond-false}
 use Rattle.std.proofs.lemmas.List.Sums.{sum_by-cons}
 use Rattle.std.proofs.lemmas.Map.Entries.{sum_by-set_value, sum_by_values_permutation}
@@ -10,14 +10,7 @@ use Rattle.std.specs.List.Sorted.{IsPermutation}
 use Rattle.std.specs.Map.{values_of, lookup, set_value, KeepsOthers, IsKeyTest, AreApart}
 use Rattle.std.specs.Option.{unwrap_or}
 use Rattle.std.specs.Str.{bytes_eq}
-use Rattle.cdrc_text.specs.Tally.{count_of, total_of, CountsOneMore}
-
--- a map's entries, with the bytes of their words
-abbrev pub entry_of : Vec ℕ Global × ℕ → List ℕ × ℕ
-entry_of e = (e.0.items, e.1)
-
-abbrev pub entries_of : List (Vec ℕ Global × ℕ) → List (List ℕ × ℕ)
-entries_of es = map entry_of es
+use Rattle.cdrc_text.specs.Tally.{count_of, total_of, CountsOneMore, entries_of}
 
 -- the test by which a map looks the word w up, and that by which it compares its words
 abbrev pub is_word : List ℕ → Vec ℕ Global → Bool

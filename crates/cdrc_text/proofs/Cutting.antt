@@ -7,7 +7,7 @@ use Rattle.std.proofs.lemmas.List.FromFn.{length-map-range_with_len, get_or-map-
 use Rattle.std.specs.Fork.{slice_chunk}
 use Rattle.std.specs.Int.{div_ceil}
 use Rattle.std.specs.List.{All, range_with_len}
-use Rattle.cdrc_text.specs.Pieces.{bytes_at, cut, cut_places}
+use Rattle.cdrc_text.specs.Pieces.{bytes_at, cut, cut_places, IsPlace}
 
 -- the first byte and the length of run k of the field from a up to b
 abbrev pub run_at : ℕ → ℕ → ℕ → ℕ × ℕ
@@ -64,10 +64,6 @@ texts-cut_places bytes a b fits =
     get_or-map (bytes_at bytes) (cut_places (a, b)) k (0, 0) [] listed
     ∙ ap (bytes_at bytes) (get_or-cut_places a b k below)
     ∙ bytes-run bytes a b k (omega arith))
-
--- a place of a piece of n bytes has 1 to 120 bytes, and lies within them
-abbrev pub IsPlace : ℕ → ℕ × ℕ → Type 0
-IsPlace n p = (0 < p.1) × (p.1 ≤ 120) × (p.0 + p.1 ≤ n)
 
 pub All-cut_places : (a b n : ℕ) → b ≤ n → All (IsPlace n) (cut_places (a, b))
 All-cut_places a b n fits =

@@ -10,11 +10,11 @@ use Rattle.std.specs.Option.{IfSome}
 use Rattle.bstr.proofs.lemmas.FieldLemmas.{chain-step, chain-le, chain-whole}
 use Rattle.bstr.specs.Fields.{SpanChain}
 use Rattle.bstr.specs.Text.{part}
-use Rattle.cdrc_text.proofs.Cutting.{All-cut_places, IsPlace, texts-cut_places}
+use Rattle.cdrc_text.proofs.Cutting.{All-cut_places, texts-cut_places}
 use Rattle.cdrc_text.proofs.Fields.{parts-field_ends}
 use Rattle.cdrc_text.specs.declared.error.PiecesError.{PiecesError}
 use Rattle.cdrc_text.specs.declared.error.PiecesError.TheVariants.{TooMany, OutOfMemory}
-use Rattle.cdrc_text.specs.Pieces.{bytes_at, cut, cut_places, field_ends, fields_of, pieces_of, places_of, spans_of}
+use Rattle.cdrc_text.specs.Pieces.{bytes_at, cut, cut_places, field_ends, fields_of, pieces_of, places_of, spans_of, IsPlace}
 use Rattle.cdrc_text.specs.Refused.{IsCauseOf, IsOver}
 
 -- ---- flat_map

@@ -18,8 +18,8 @@ use Rattle.std.specs.Option.{unwrap_or}
 use Rattle.std.specs.Ordering.{is_lt, nat_cmp, ordering_reverse, ordering_then}
 use Rattle.std.specs.Str.{bytes_eq}
 use Rattle.cdrc_text.specs.Fold.{IsInByteOrder}
-use Rattle.cdrc_text.specs.Tally.{count_of, ListsWords}
-use Rattle.cdrc_text.proofs.Counts.{entries_of, entry_of, same_bytes, values-entries_of}
+use Rattle.cdrc_text.specs.Tally.{count_of, ListsWords, entries_of, entry_of}
+use Rattle.cdrc_text.proofs.Counts.{same_bytes, values-entries_of}
 
 -- ---- a count as a sum, which the order does not change
 

@@ -1,5 +1,5 @@
 -- The pieces of a text, and where they lie in it.
-use Rattle.std.specs.Prelude.{ℕ, ◌+◌, ◌-◌, ◌*◌, min, cond, List, [], ◌∷◌, map, length, take, drop, slice_index_or, Option, None, Some}
+use Rattle.std.specs.Prelude.{ℕ, ◌+◌, ◌-◌, ◌*◌, ◌<◌, ◌≤◌, min, cond, List, [], ◌∷◌, map, length, take, drop, slice_index_or, Option, None, Some}
 use Rattle.std.specs.Char.{is_whitespace}
 use Rattle.std.specs.Fork.{slice_chunk}
 use Rattle.std.specs.Int.{div_ceil}
@@ -47,6 +47,10 @@ places_of bytes = flat_map cut_places (field_ends None (spans_of bytes))
 -- the bytes at a place
 abbrev pub bytes_at : List ℕ → ℕ × ℕ → List ℕ
 bytes_at bytes place = take place.1 (drop place.0 bytes)
+
+-- a place of 1 to 120 bytes that lies within n bytes
+abbrev pub IsPlace : ℕ → ℕ × ℕ → Type 0
+IsPlace n place = (0 < place.1) × (place.1 ≤ 120) × (place.0 + place.1 ≤ n)
 
 -- the first byte of the piece after the first `limit` pieces
 abbrev pub place_over : List ℕ → ℕ → ℕ

@@ -21,7 +21,8 @@ files_line files pieces distinct =
 abbrev pub audit_line : List ℕ → AuditLine → List ℕ
 audit_line name audit =
     name ++ codes " live " ++ decimal audit.live ++ codes " deferred " ++ decimal audit.deferred
-    ++ codes " cyclic " ++ decimal audit.cyclic ++ codes " bytes " ++ decimal audit.bytes ++ codes "\n"
+    ++ codes " cyclic " ++ decimal audit.cyclic
+    ++ codes " bytes " ++ decimal audit.bytes ++ codes "\n"
 
 -- the line of a row
 abbrev pub row_line : Row → List ℕ

@@ -1,10 +1,18 @@
 -- Words with their counts, in any order.
-use Rattle.std.specs.Prelude.{◌≡◌, ℕ, ◌+◌, ◌<◌, if◌then◌else◌, List}
+use Rattle.std.specs.Prelude.{◌≡◌, ℕ, ◌+◌, ◌<◌, if◌then◌else◌, List, map}
+use Rattle.std.specs.Global.{Vec}
 use Rattle.std.specs.List.{All, sum}
 use Rattle.std.specs.Map.{keys_of, lookup, values_of}
 use Rattle.std.specs.Option.{unwrap_or}
 use Rattle.std.specs.Str.{bytes_eq}
 use Rattle.cdrc_text.specs.Fold.{IsInByteOrder}
+
+-- the entries of a map or of a list of words, with the words' bytes
+abbrev pub entry_of : Vec ℕ × ℕ → List ℕ × ℕ
+entry_of entry = (entry.0.items, entry.1)
+
+abbrev pub entries_of : List (Vec ℕ × ℕ) → List (List ℕ × ℕ)
+entries_of entries = map entry_of entries
 
 -- how often w was counted
 unfoldable pub count_of : List (List ℕ × ℕ) → List ℕ → ℕ

@@ -6,7 +6,7 @@ use Rattle.cdrc_text.specs.declared.row.Totals.{Totals}
 use Rattle.cdrc_text.specs.Fold.{IsWords, holders_of, occurrences_of, pieces_in}
 use Rattle.cdrc_text.specs.Report.{closing_lines, word_line}
 
--- the totals of the files with these distinct words: every word is live once, and nothing is left at the end
+-- the totals of the files with these distinct words: each is live once, and nothing is left then
 abbrev pub totals_of : List (List ℕ) → List (List ℕ) → Totals
 totals_of words files = record {
   files = length files;

@@ -1,8 +1,8 @@
 //! The pieces of a text.
 
-ghost use Rattle.std.specs.Prelude.{◌≡◌, ◌+◌, ◌<◌, ◌≤◌, ◌++◌, List, map, length, slice_index_or, IfOk, IfErr, OnOk};
+ghost use Rattle.std.specs.Prelude.{◌≡◌, ◌≤◌, ◌++◌, map, length, IfOk, IfErr, OnOk};
 ghost use Rattle.std.specs.List.{All};
-ghost use Rattle.cdrc_text.specs.Pieces.{bytes_at, cut_places, pieces_of, places_of};
+ghost use Rattle.cdrc_text.specs.Pieces.{bytes_at, cut_places, pieces_of, places_of, IsPlace};
 ghost use Rattle.cdrc_text.specs.Refused.{IsCauseOf, IsOver};
 
 use crate::error::PiecesError;
@@ -13,15 +13,16 @@ use std::alloc::Global;
 /// The most bytes of a piece.
 const LONGEST: usize = 120;
 
-/// The places of the pieces of a text, in its order: of its fields, the maximal runs of bytes without White_Space,
-/// each cut into consecutive runs of 120 bytes. Bytes that aren't UTF-8 count as no space. Linear in the bytes.
+/// The places of the pieces of a text, in its order: of its fields, the maximal runs of bytes without
+/// White_Space, each cut into consecutive runs of 120 bytes. Bytes that aren't UTF-8 count as no space.
+/// Linear in the bytes.
 ///
-/// It is refused exactly where there are more than `limit` pieces, with the place of the first piece over the limit,
-/// and reads no further then; and it may want memory.
+/// It is refused exactly where there are more than `limit` pieces, with the place of the first piece over the
+/// limit, and reads no further then; and it may want memory.
 pub fn pieces(alloc: Global, bytes: &[u8], limit: u64) -> Result<Pieces, PiecesError>
     ensures places { IfOk result (λ found. found ≡ places_of bytes.now) }
     ensures texts { IfOk result (λ found. map (bytes_at bytes.now) found ≡ pieces_of bytes.now) }
-    ensures sizes { IfOk result (λ found. All (λ p. (0 < p.1) × (p.1 ≤ 120) × (p.0 + p.1 ≤ length bytes.now)) found) }
+    ensures sizes { IfOk result (All (IsPlace (length bytes.now))) }
 
     // It succeeds only within the limit, and is refused as too many only past it.
     ensures within { OnOk result (length (pieces_of bytes.now) ≤ limit) }

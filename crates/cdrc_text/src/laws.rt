@@ -2,9 +2,9 @@
 
 ghost use Rattle.std.specs.Prelude.{◌≡◌, ◌<◌, ◌++◌, ℕ, List, [], ◌∷◌, map, codes, replicate};
 ghost use Rattle.std.specs.List.{All};
+ghost use Rattle.std.specs.Map.{keys_of};
 ghost use Rattle.cdrc_text.specs.declared.row.Row.{Row};
 ghost use Rattle.cdrc_text.specs.declared.row.Totals.{Totals};
-ghost use Rattle.std.specs.Map.{keys_of};
 ghost use Rattle.cdrc_text.specs.Fold.{IsWords, occurrences_of};
 ghost use Rattle.cdrc_text.specs.Pieces.{pieces_of, places_of};
 ghost use Rattle.cdrc_text.specs.Report.{report_of};
@@ -22,14 +22,15 @@ pub fn text_is_one()
 pub fn report_is_text()
     ensures { (files : List (List ℕ)) (rounds : ℕ) (rows : List Row) (totals : Totals)
         → IsWords files (map word_of rows) → All (IsRowOf files rounds) rows
-        → totals ≡ totals_of (map word_of rows) files → IsText files rounds (report_of rows totals) }
+        → totals ≡ totals_of (map word_of rows) files
+        → IsText files rounds (report_of rows totals) }
 {}
 
 /// The words of a tally are the distinct words of the files, if it counted each as often as it occurs in them.
 pub fn tally_gives_words()
     ensures { (files : List (List ℕ)) (rounds : ℕ) (counted rows : List (List ℕ × ℕ)) → 0 < rounds
-        → ((w : List ℕ) → count_of counted w ≡ occurrences_of w rounds files) → ListsWords counted rows
-        → IsWords files (keys_of rows) }
+        → ((w : List ℕ) → count_of counted w ≡ occurrences_of w rounds files)
+        → ListsWords counted rows → IsWords files (keys_of rows) }
 {}
 
 /// Worked pieces: words of one byte, a field of 120 bytes and one of 121, and bytes that aren't UTF-8 before U+0085,
@@ -38,7 +39,8 @@ pub fn worked_pieces()
     ensures places { places_of (codes "a b c") ≡ (0, 1) ∷ (2, 1) ∷ (4, 1) ∷ [] }
     ensures full { pieces_of (replicate 120 120) ≡ replicate 120 120 ∷ [] }
     ensures longer { pieces_of (replicate 121 120) ≡ replicate 120 120 ∷ (120 ∷ []) ∷ [] }
-    ensures bytes { pieces_of (255 ∷ 254 ∷ 194 ∷ 133 ∷ 97 ∷ []) ≡ (255 ∷ 254 ∷ []) ∷ (97 ∷ []) ∷ [] }
+    ensures bytes { pieces_of (255 ∷ 254 ∷ 194 ∷ 133 ∷ 97 ∷ [])
+        ≡ (255 ∷ 254 ∷ []) ∷ (97 ∷ []) ∷ [] }
 {}
 
 /// Worked texts: of `a b a`, of one file named twice, and of two files that share a word, in three rounds.
@@ -51,7 +53,8 @@ pub fn worked_texts()
         ≡ codes "2 2 x\nfiles 2 pieces 2 distinct 1\n"
         ++ codes "held live 1 deferred 0 cyclic 0 bytes 1\n"
         ++ codes "freed live 0 deferred 0 cyclic 0 bytes 0\n" }
-    ensures rounds { text_of (codes "a" ∷ codes "b" ∷ codes "c" ∷ []) (codes "a b" ∷ codes "b b c" ∷ []) 3
+    ensures rounds { text_of (codes "a" ∷ codes "b" ∷ codes "c" ∷ [])
+        (codes "a b" ∷ codes "b b c" ∷ []) 3
         ≡ codes "3 1 a\n9 2 b\n3 1 c\nfiles 2 pieces 5 distinct 3\n"
         ++ codes "held live 3 deferred 0 cyclic 0 bytes 3\n"
         ++ codes "freed live 0 deferred 0 cyclic 0 bytes 0\n" }

@@ -1,9 +1,9 @@
 //! A count of words.
 
-ghost use Rattle.std.specs.Prelude.{◌≡◌, ◌^◌, ◌<◌, ℕ, List, map, IfOk, OnOk, OnErr};
+ghost use Rattle.std.specs.Prelude.{◌≡◌, ◌^◌, ◌<◌, ℕ, List, IfOk, OnOk, OnErr};
 ghost use Rattle.std.specs.List.{All};
 ghost use Rattle.std.specs.Map.{values_of};
-ghost use Rattle.cdrc_text.specs.Tally.{count_of, total_of, CountsOneMore, ListsWords};
+ghost use Rattle.cdrc_text.specs.Tally.{count_of, entries_of, total_of, CountsOneMore, ListsWords};
 
 use out_of_memory::OutOfMemory;
 use std::alloc::Global;
@@ -20,7 +20,7 @@ pub struct Tally {
 impl Model for Tally {
     ghost Value = { List (List ℕ × ℕ) };
 
-    ghost view = { λ t. map (λ e. (e.0.items, e.1)) t.counts.entries };
+    ghost view = { λ t. entries_of t.counts.entries };
 
     ghost invariant = { λ t. All (λ count. 0 < count) (values_of t.counts.entries) };
 }
@@ -62,7 +62,7 @@ impl Tally {
 
     /// The words that were counted, each with its count, in byte order. It takes the steps of a sort.
     pub fn sorted(&self, alloc: Global) -> Result<Vec<(Vec<u8>, u64)>, OutOfMemory>
-        ensures { IfOk result (λ rows. ListsWords self.now (map (λ row. (row.0.items, row.1)) rows.items)) }
+        ensures { IfOk result (λ rows. ListsWords self.now (entries_of rows.items)) }
     {
         let mut rows = Vec::with_capacity(alloc, self.counts.len())?;
         for (word, count) in self.counts.iter() {

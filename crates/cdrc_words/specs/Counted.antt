@@ -6,7 +6,10 @@ use Rattle.cdrc_words.specs.declared.counting.Counted.{Counted}
 abbrev pub word_of : Counted → List ℕ
 word_of c = c.word.items
 
--- it is a piece's text, and occurs so often
+-- its word has the size of a piece
+abbrev pub HasSize : Counted → Type 0
+HasSize c = (1 ≤ length (word_of c)) × (length (word_of c) ≤ 120)
+
+-- its word is a piece's text, and occurs so often in the text
 abbrev pub IsCounted : List ℕ → Counted → Type 0
-IsCounted text c =
-    (1 ≤ length (word_of c)) × (length (word_of c) ≤ 120) × (c.occurrences ≡ occurrences_of (word_of c) 1 (text ∷ []))
+IsCounted text c = HasSize c × (c.occurrences ≡ occurrences_of (word_of c) 1 (text ∷ []))

@@ -1,3 +1,5 @@
 pub mod Statuses
 pub mod Commands
 pub mod Counted
+pub mod Reports
+pub mod Outcomes

@@ -1,5 +1,5 @@
 //! The distinct words of a text, counted.
-ghost use Rattle.std.specs.Prelude.{◌≡◌, ◌×◌, ◌≤◌, ◌∷◌, [], IfOk, length, map};
+ghost use Rattle.std.specs.Prelude.{◌≡◌, ◌≤◌, ◌∷◌, [], IfOk, length, map};
 ghost use Rattle.std.specs.List.{All};
 ghost use Rattle.cdrc_text.specs.Pieces.{bytes_at, pieces_of, places_of};
 ghost use Rattle.cdrc_text.specs.Fold.{IsWords, occurrences_of};
@@ -20,7 +20,7 @@ pub struct Counted {
 
 /// The distinct words of the text in byte order, each with the number of its pieces. The gate is passed before each
 /// piece, for lane 0.
-pub fn counted<R: Wait, G: Gate>(
+pub fn count_words<R: Wait, G: Gate>(
     rt: &R,
     alloc: Global,
     text: &[u8],

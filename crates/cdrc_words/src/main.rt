@@ -19,6 +19,7 @@ mod limits;
 mod outcome;
 mod output;
 mod records;
+mod report;
 mod run;
 
 use crate::explain::explain;

@@ -1,4 +1,9 @@
 //! The heap of records: one for each distinct word.
+ghost use Rattle.std.specs.Prelude.{◌≡◌, ◌≤◌, IfOk, length};
+ghost use Rattle.std.specs.List.{All};
+ghost use Rattle.cdrc_words.specs.Counted.{HasSize};
+ghost use Rattle.cdrc_words.specs.Reports.{one_file_text};
+
 use crate::audit::audit_line;
 use crate::counting::Counted;
 use cdrc_plain::{Hand, MakeRefused, PlainHeap, RecordKind, record_of};
@@ -8,7 +13,11 @@ use std::alloc::Global;
 
 /// The report of a file with these distinct words: each word becomes a record, whose holders are the references to it.
 /// The two audits are of the heap that holds all records, and of that heap after all handles are dropped.
-pub fn report_of(alloc: Global, list: Vec<Counted>, pieces: u64) -> Result<Vec<u8>, OutOfMemory> {
+pub fn report_of(alloc: Global, list: Vec<Counted>, pieces: u64) -> Result<Vec<u8>, OutOfMemory>
+    requires few { (length list.items ≤ pieces) × (pieces ≤ 1000000) }
+    requires sizes { All HasSize list.items }
+    ensures { IfOk result (λ text. text.items ≡ one_file_text list.items pieces) }
+{
     let mut heap = PlainHeap::<RecordKind>::new(alloc, 2 * pieces as u32 + 2, 0, 0)?;
     let hands = make_records(alloc, &mut heap, &list)?;
     let rows = rows_of(alloc, &heap, &hands, list)?;

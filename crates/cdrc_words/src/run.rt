@@ -1,11 +1,9 @@
 //! The top call.
 use crate::command::file_of;
-use crate::counting::counted;
-use crate::limits::{MOST_BYTES, MOST_PIECES};
+use crate::limits::MOST_BYTES;
 use crate::outcome::{End, Refusal, Why};
 use crate::output::write_all;
-use crate::records::report_of;
-use cdrc_text::{PiecesError, pieces};
+use crate::report::report_text;
 use lane_gate::{FileFault, Files, Gate, Sink};
 use std::alloc::Global;
 use std::sync::Wait;
@@ -56,20 +54,4 @@ fn read_file<F: Files>(alloc: Global, files: &mut F, name: &str) -> Result<Vec<u
         Err(FileFault::TooLong) => Err(Refusal::TooLarge),
         Err(FileFault::OutOfMemory) => Err(Refusal::OutOfMemory),
     }
-}
-
-/// The report of one file with this content.
-fn report_text<R: Wait, G: Gate>(
-    rt: &R,
-    alloc: Global,
-    text: &[u8],
-    gate: &G,
-) -> Result<Vec<u8>, Refusal> {
-    let found = match pieces(alloc, text, MOST_PIECES) {
-        Ok(found) => found,
-        Err(PiecesError::TooMany(_)) => return Err(Refusal::TooLarge),
-        Err(PiecesError::OutOfMemory) => return Err(Refusal::OutOfMemory),
-    };
-    let list = counted(rt, alloc, text, &found, gate)?;
-    Ok(report_of(alloc, list, found.len())?)
 }

@@ -1,8 +1,7 @@
 use Rattle.std.proofs.Common.{◌≡◌, ℕ, Vec, Global, ◌++◌, ◌≤◌, [], ◌∷◌, Some, None, length, refl, sym, ap, ◌∙◌, subst, arith, append-nil}
 use Rattle.std.proofs.lemmas.Result.{err_from_is_err_and}
 use Rattle.std.specs.List.{All, flat_map}
-use Rattle.cdrc_text.specs.Pieces.{cut_places, field_ends, places_of}
-use Rattle.cdrc_text.proofs.Cutting.{IsPlace}
+use Rattle.cdrc_text.specs.Pieces.{cut_places, field_ends, places_of, IsPlace}
 use Rattle.cdrc_text.proofs.Scan.{All-places_of, cause-from_over, left-last, left-none, left-stop, length-places_of, reading-at, reading-begin, reading-more, reading-skip, reading-start, reading-stop, texts-places_of, IsReading}
 use Rattle.cdrc_text.proofs.cut.pieces.Goals as goal
 use Rattle.cdrc_text.proofs.cut.pieces.Goals.{in-Some-field-3+in_ok-push_field-2, in_default-field}

@@ -6,8 +6,8 @@ use Rattle.std.specs.List.{All}
 use Rattle.std.specs.List.Sorted.{IsPermutation}
 use Rattle.std.specs.Map.{lookup, set_value, values_of, KeepsOthers}
 use Rattle.std.specs.Option.{unwrap_or, IsSome, MatchOption}
-use Rattle.cdrc_text.proofs.Counts.{count-le-total, count_of-is, entries_of, is_word, one_more-new, one_more-old, same_bytes}
-use Rattle.cdrc_text.specs.Tally.{total_of, CountsOneMore}
+use Rattle.cdrc_text.proofs.Counts.{count-le-total, count_of-is, is_word, one_more-new, one_more-old, same_bytes}
+use Rattle.cdrc_text.specs.Tally.{total_of, CountsOneMore, entries_of}
 use Rattle.cdrc_text.proofs.tally.Tally.add.Goals as goal
 
 abbrev IsPositive : ℕ → Type 0

@@ -1,7 +1,7 @@
 use Rattle.std.proofs.Common.{◌≡◌, sym, ap, ◌∙◌}
 use Rattle.std.specs.Option.{unwrap_or}
-use Rattle.cdrc_text.proofs.Counts.{count_of-is, entries_of}
-use Rattle.cdrc_text.specs.Tally.{count_of}
+use Rattle.cdrc_text.proofs.Counts.{count_of-is}
+use Rattle.cdrc_text.specs.Tally.{count_of, entries_of}
 use Rattle.cdrc_text.proofs.tally.Tally.get.Goals as goal
 
 pub returns : goal.returns

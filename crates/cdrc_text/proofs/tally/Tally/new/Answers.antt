@@ -1,6 +1,5 @@
 use Rattle.std.proofs.Common.{ap}
-use Rattle.cdrc_text.proofs.Counts.{entries_of}
-use Rattle.cdrc_text.specs.Tally.{count_of, total_of}
+use Rattle.cdrc_text.specs.Tally.{count_of, total_of, entries_of}
 use Rattle.cdrc_text.proofs.tally.Tally.new.Goals as goal
 
 pub returns-clause-counts : goal.returns-clause-counts

@@ -1,6 +1,5 @@
 use Rattle.std.proofs.Common.{◌≡◌, ◌++◌, sym, ap, ◌∙◌, subst, append-nil}
-use Rattle.cdrc_text.specs.Tally.{ListsWords}
-use Rattle.cdrc_text.proofs.Counts.{entries_of}
+use Rattle.cdrc_text.specs.Tally.{ListsWords, entries_of}
 use Rattle.cdrc_text.proofs.Sorting.{lists-sorted, rows-more}
 use Rattle.cdrc_text.proofs.tally.Tally.sorted.Goals as goal
 

@@ -1,5 +1,5 @@
 use Rattle.std.proofs.Common.{◌≡◌, ◌++◌}
-use Rattle.cdrc_text.proofs.Counts.{entries_of}
+use Rattle.cdrc_text.specs.Tally.{entries_of}
 use Rattle.cdrc_text.proofs.tally.Tally.sorted.Given as goal
 
 -- the rows so far and the entries that are left are those of the tally

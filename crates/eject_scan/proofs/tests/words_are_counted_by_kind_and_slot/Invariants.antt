@@ -1,0 +1,5 @@
+use Rattle.std.proofs.Common.{◌≡◌, ◌≤◌, length}
+use Rattle.eject_scan.proofs.tests.words_are_counted_by_kind_and_slot.Given as goal
+
+abbrev pub invariant-loop-word : goal.invariant-loop-word
+invariant-loop-word g l = (length l.seen.words ≤ l.word-index) × (l.seen.room ≡ 8)

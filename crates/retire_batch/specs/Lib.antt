@@ -1,0 +1,2 @@
+pub mod Ejection
+pub mod Entries

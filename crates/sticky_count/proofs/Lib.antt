@@ -1,0 +1,8 @@
+pub mod Bits
+pub mod Sums
+pub mod Steps
+pub mod Law
+pub mod Padded
+pub mod Atomic
+pub mod Opening
+pub mod Walks

@@ -1,0 +1,41 @@
+use Rattle.std.proofs.Common.{◌≡◌, ◌≢◌, [], ◌∷◌, true, rules, ap, ◌∙◌, refl, inr, arith}
+use Rattle.std.proofs.lemmas.Bool.Decides.{nat_tests}
+use Rattle.sticky_count.specs.declared.view.Act.TheVariants as act
+use Rattle.sticky_count.specs.Words.{has_help}
+use Rattle.sticky_count.specs.Views.{moved}
+use Rattle.sticky_count.specs.Calls.{move, TakesHelp}
+use Rattle.sticky_count.specs.Seats.{SeatState}
+use Rattle.sticky_count.proofs.Atomic.{allows}
+use Rattle.sticky_count.proofs.Walks.{makes}
+use Rattle.sticky_count.proofs.seat.Sticky.decrement.Goals as goal
+
+pub fetch_sub-requires : goal.fetch_sub-requires
+fetch_sub-requires c =
+    let h = ap (λ (s : SeatState). s.view.held) c.seat.view_is in
+    (search rules, search rules, allows _ _ _ act.Sub _ _ (c.seat.invariant.idle, omega (arith, c.requires.holds)) tt)
+
+pub compare_exchange-requires : goal.compare_exchange-requires
+compare_exchange-requires c = (search rules, search rules, allows _ _ _ act.Finish _ _ (grind (arith, nat_tests)) tt)
+
+pub fetch_and-requires : goal.fetch_and-requires
+fetch_and-requires c = (search rules, search rules, allows _ _ _ act.Take _ _ (grind (arith, nat_tests)) tt)
+
+pub returns-in-Help-clause-made : goal.returns-in-Help-clause-made
+returns-in-Help-clause-made c =
+    let v = c.seat.inside.seat.me.0.view in
+    let w = c.compare_exchange.result in
+    let x = c.fetch_and.result in
+    let e = c.fetch_sub.ensures in
+    let f = c.compare_exchange.ensures in
+    let g = c.fetch_and.ensures in
+    let last : c.fetch_sub.result ≡ 1 = grind (arith, nat_tests) in
+    let ms = move act.Sub 1 ∷ move act.Finish w ∷ move act.Take x ∷ [] in
+    let some_word : w ≢ 0 = grind (arith, nat_tests) in
+    let help : has_help w ≡ true = grind (arith, nat_tests) in
+    let b : c.take_help.result.1 ≡ has_help x = ap (λ r. r.1) c.take_help.ensures in
+    let taken : TakesHelp ms c.take_help.result.1 = (w, x, some_word, help, refl, b) in (
+      ms,
+      inr (inr (inr taken)),
+      makes ms _ _ _ _ _ _ c.seat.view_is (g.0 ∙ f.0 ∙ e.0)
+          (g.2.view ∙ ap (moved act.Take x) (f.2.view ∙ ap (moved act.Finish w) (e.2.view ∙ ap (λ n. moved act.Sub n v) last))),
+    )

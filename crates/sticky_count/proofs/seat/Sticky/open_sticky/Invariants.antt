@@ -1,0 +1,14 @@
+use Rattle.std.proofs.Common.{◌≡◌, ◌+◌, vec_len, vec_capacity}
+use Rattle.sticky_count.specs.Views.{fresh}
+use Rattle.sticky_count.proofs.Opening.{count_at, front}
+use Rattle.sticky_count.proofs.seat.Sticky.open_sticky.Given as goal
+
+abbrev pub invariant-loop-opened : goal.invariant-loop-opened
+invariant-loop-opened l = record {
+  capacity : vec_capacity l.list ≡ l.fn.seats;
+  len : vec_len l.list + 1 ≡ l._opened;
+  items : l.list.items ≡ front l.table.shared.table_id l.adds (vec_len l.list);
+  table : l.last.table_id ≡ l.table.shared.table_id;
+  view : l.last.me.0.view ≡ fresh (count_at (vec_len l.list));
+  to_open : l.last.me.0.to_open + l._opened ≡ l.fn.seats;
+}

@@ -1,0 +1,7 @@
+pub mod Words
+pub mod Views
+pub mod History
+pub mod Sound
+pub mod Running
+pub mod Calls
+pub mod Seats
