@@ -23,6 +23,9 @@ pub run_sound : (p q : Plain) (n : ℕ) (acts : List PlainAct) → Sound p → R
 run_sound p q n [] so e = subst Sound (sym e) so
 run_sound p q n (act ∷ acts) so (m, found, d, more) = run_sound m q n acts (step_sound p m n act found so d) more
 
+pub makes_sound : (p q : Plain) (s : SlotId) (payload : List ℕ) → Sound p → Makes p s payload q → Sound q
+makes_sound p q s payload so m = run_sound p q 0 (act.Claim s ∷ fills s 0 payload ++ act.Make s ∷ []) so m
+
 -- what isn't a list of references stays
 pub record IsSameRest (h h' : Store) : Type 0 where
   pub adds : h'.adds ≡ h.adds

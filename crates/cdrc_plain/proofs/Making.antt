@@ -56,19 +56,18 @@ module _ (p : Plain) (s : SlotId) (here : IsSeat p 0) (at : s.0 < length p.slots
   seat_stays : (pl : List ℕ) → IsSeat (filling p s pl) 0
   seat_stays pl = (omega (arith, length-set p.seats 0 (record (seat_at p 0) { filling = Some s }), here.0), ap (λ (v : PlainSeat). v.left) (seat_then pl) ∙ here.1)
 
+  -- one more word is filled
+  filled : (pl : List ℕ) (i word : ℕ)
+      → with_slot (filling p s pl) s (record (slot_at (filling p s pl) s) { payload = set (slot_at (filling p s pl) s).payload i word })
+      ≡ filling p s (set pl i word)
+  filled pl i word =
+      ap (λ (x : PlainSlot). with_slot (filling p s pl) s (record x { payload = set x.payload i word })) (slot_then pl)
+      ∙ ap (λ (xs : List PlainSlot). record (filling p s pl) { slots = xs }) (set-set p.slots s.0 (blank pl) (blank (set pl i word)))
+
   fill_one : (pl : List ℕ) (i word : ℕ) → i < 16 → Does (filling p s pl) 0 (act.Fill s i word) 0 (filling p s (set pl i word))
   fill_one pl i word lt = (
     seat_stays pl,
-    (
-      ap (λ (x : PlainSlot). x.stage) (slot_then pl),
-      ap (λ (v : PlainSeat). v.filling) (seat_then pl),
-      lt,
-      refl,
-      sym (
-          ap (λ (x : PlainSlot). with_slot (filling p s pl) s (record x { payload = set x.payload i word })) (slot_then pl)
-          ∙ ap (λ (xs : List PlainSlot). record (filling p s pl) { slots = xs }) (set-set p.slots s.0 (blank pl) (blank (set pl i word)))
-          ),
-    ),
+    (ap (λ (x : PlainSlot). x.stage) (slot_then pl), ap (λ (v : PlainSeat). v.filling) (seat_then pl), lt, refl, sym (filled pl i word)),
   )
 
   fill_all : (words pl : List ℕ) (i : ℕ) (more : List PlainAct) (q : Plain) → i + length words ≤ 16
@@ -77,21 +76,27 @@ module _ (p : Plain) (s : SlotId) (here : IsSeat p 0) (at : s.0 < length p.slots
   fill_all (word ∷ words) pl i more q le r =
       (filling p s (set pl i word), 0, fill_one pl i word (omega arith), fill_all words (set pl i word) (i + 1) more q (omega arith) r)
 
+  -- the filled object starts
+  started : Plain → Plain
+  started m =
+      with_slot
+      (with_seat m 0 (record (seat_at m 0) { owned = (seat_at m 0).owned ++ s ∷ []; filling = None; adds = (seat_at m 0).adds + 1 }))
+      s (record (slot_at m s) { stage = Live; marked = false; life = (slot_at m s).life + 1 })
+
+  starts_made : (pl : List ℕ) → started (filling p s pl) ≡ made p s pl
+  unfolding started
+  starts_made pl =
+      ap (λ (v : PlainSeat). with_slot (with_seat (filling p s pl) 0 (record v { owned = v.owned ++ s ∷ []; filling = None; adds = v.adds + 1 })) s
+        (record (slot_at (filling p s pl) s) { stage = Live; marked = false; life = (slot_at (filling p s pl) s).life + 1 })) (seat_then pl)
+      ∙ ap (λ (x : PlainSlot). with_slot (with_seat (filling p s pl) 0 starts) s (record x { stage = Live; marked = false; life = x.life + 1 })) (slot_then pl)
+      ∙ ap (λ (vs : List PlainSeat). record p { seats = vs; slots = set (set p.slots s.0 (blank pl)) s.0 (alive pl) }) (set-set p.seats 0 claims starts)
+      ∙ ap (λ (xs : List PlainSlot). record p { seats = set p.seats 0 starts; slots = xs }) (set-set p.slots s.0 (blank pl) (alive pl))
+
   make_last : (pl : List ℕ) → Does (filling p s pl) 0 (act.Make s) 0 (made p s pl)
+  unfolding started
   make_last pl = (
     seat_stays pl,
-    (
-      ap (λ (x : PlainSlot). x.stage) (slot_then pl),
-      ap (λ (v : PlainSeat). v.filling) (seat_then pl),
-      refl,
-      sym (
-          ap (λ (v : PlainSeat). with_slot (with_seat (filling p s pl) 0 (record v { owned = v.owned ++ s ∷ []; filling = None; adds = v.adds + 1 })) s
-          (record (slot_at (filling p s pl) s) { stage = Live; marked = false; life = (slot_at (filling p s pl) s).life + 1 })) (seat_then pl)
-          ∙ ap (λ (x : PlainSlot). with_slot (with_seat (filling p s pl) 0 starts) s (record x { stage = Live; marked = false; life = x.life + 1 })) (slot_then pl)
-          ∙ ap (λ (vs : List PlainSeat). record p { seats = vs; slots = set (set p.slots s.0 (blank pl)) s.0 (alive pl) }) (set-set p.seats 0 claims starts)
-          ∙ ap (λ (xs : List PlainSlot). record p { seats = set p.seats 0 starts; slots = xs }) (set-set p.slots s.0 (blank pl) (alive pl))
-          ),
-    ),
+    (ap (λ (x : PlainSlot). x.stage) (slot_then pl), ap (λ (v : PlainSeat). v.filling) (seat_then pl), refl, sym (starts_made pl)),
   )
 
   pub makes : (payload : List ℕ) → (slot_at p s).stage ≡ Free → length payload ≡ 16 → length (slot_at p s).payload ≡ 16 → Makes p s payload (made p s payload)
@@ -102,3 +107,33 @@ module _ (p : Plain) (s : SlotId) (here : IsSeat p 0) (at : s.0 < length p.slots
     fill_all payload (slot_at p s).payload 0 (act.Make s ∷ []) (made p s payload) (omega (arith, len))
         (made p s payload, 0, subst (λ (pl : List ℕ). Does (filling p s pl) 0 (act.Make s) 0 (made p s payload)) (sym (written_is (slot_at p s).payload payload 0 (omega (arith, len, old)))) (make_last payload), refl),
   )
+
+  -- the fills lead nowhere else
+  filled_only : (words pl : List ℕ) (i : ℕ) (more : List PlainAct) (q : Plain)
+      → Runs (filling p s pl) 0 (fills s i words ++ more) q → Runs (filling p s (written pl i words)) 0 more q
+  filled_only [] pl i more q r = r
+  filled_only (word ∷ words) pl i more q (m, found, (_, (_, _, _, _, e)), r) =
+      filled_only words (set pl i word) (i + 1) more q
+        (subst (λ (z : Plain). Runs z 0 (fills s (i + 1) words ++ more) q) (e ∙ filled pl i word) r)
+
+  made_only : (pl : List ℕ) (q : Plain) → Runs (filling p s pl) 0 (act.Make s ∷ []) q → q ≡ made p s pl
+  unfolding started
+  made_only pl q (m, found, (_, (_, _, _, e)), r) = r ∙ e ∙ starts_made pl
+
+-- what a make leads to, and where it may be
+pub record IsMake (p : Plain) (s : SlotId) (payload : List ℕ) (q : Plain) : Type 0 where
+  pub there : s.0 < length p.slots
+  pub free : (slot_at p s).stage ≡ Free
+  pub state : q ≡ made p s payload
+
+pub make_is : (p q : Plain) (s : SlotId) (payload : List ℕ) → length payload ≡ 16
+    → ((t : SlotId) → t.0 < length p.slots → length (slot_at p t).payload ≡ 16) → Makes p s payload q → IsMake p s payload q
+make_is p q s payload len old (m, found, (here, (at, free, _, e)), r) = record {
+  there = at;
+  free = free;
+  state =
+    let back : Runs (filling p s (slot_at p s).payload) 0 (fills s 0 payload ++ act.Make s ∷ []) q = subst (λ (z : Plain). Runs z 0 (fills s 0 payload ++ act.Make s ∷ []) q) e r in
+    made_only p s here at payload q
+      (subst (λ (pl : List ℕ). Runs (filling p s pl) 0 (act.Make s ∷ []) q) (written_is (slot_at p s).payload payload 0 (omega (arith, len, old s at)))
+        (filled_only p s here at payload (slot_at p s).payload 0 (act.Make s ∷ []) q back));
+}

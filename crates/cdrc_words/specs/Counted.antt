@@ -6,9 +6,13 @@ use Rattle.cdrc_words.specs.declared.counting.Counted.{Counted}
 abbrev pub word_of : Counted → List ℕ
 word_of c = c.word.items
 
+-- how many bytes its word has
+abbrev pub size_of : Counted → ℕ
+size_of c = length (word_of c)
+
 -- its word has the size of a piece
 abbrev pub HasSize : Counted → Type 0
-HasSize c = (1 ≤ length (word_of c)) × (length (word_of c) ≤ 120)
+HasSize c = (1 ≤ size_of c) × (size_of c ≤ 120)
 
 -- its word is a piece's text, and occurs so often in the text
 abbrev pub IsCounted : List ℕ → Counted → Type 0

@@ -3,3 +3,5 @@ pub mod Commands
 pub mod Counted
 pub mod Reports
 pub mod Outcomes
+pub mod Records
+pub mod Audits

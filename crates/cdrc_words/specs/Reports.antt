@@ -1,17 +1,22 @@
 -- The report of one file, from its distinct words.
 use Rattle.std.specs.Prelude.{ℕ, List, [], ◌∷◌, ◌++◌, length, map}
 use Rattle.std.specs.List.{flat_map, sum_by}
+use Rattle.cdrc_text.specs.declared.row.Row.{Row}
 use Rattle.cdrc_text.specs.declared.row.Totals.{Totals}
 use Rattle.cdrc_text.specs.Report.{closing_lines, word_line}
 use Rattle.cdrc_words.specs.declared.counting.Counted.{Counted}
-use Rattle.cdrc_words.specs.Counted.{word_of}
+use Rattle.cdrc_words.specs.Counted.{word_of, size_of}
+
+-- the row of a word that one file holds
+abbrev pub held_row : Counted → Row
+held_row c = record { occurrences = c.occurrences; holders = 1; word = c.word }
 
 -- every word is held once, and nothing is left at the end
 abbrev pub one_file_totals : List Counted → ℕ → Totals
 one_file_totals list pieces = record {
   files = 1;
   pieces = pieces;
-  held = record { live = length list; deferred = 0; cyclic = 0; bytes = sum_by (λ c. length (word_of c)) list };
+  held = record { live = length list; deferred = 0; cyclic = 0; bytes = sum_by size_of list };
   freed = record { live = 0; deferred = 0; cyclic = 0; bytes = 0 };
 }
 

@@ -1,8 +1,9 @@
 //! The heap of records: one for each distinct word.
-ghost use Rattle.std.specs.Prelude.{◌≡◌, ◌≤◌, IfOk, length};
-ghost use Rattle.std.specs.List.{All};
-ghost use Rattle.cdrc_words.specs.Counted.{HasSize};
-ghost use Rattle.cdrc_words.specs.Reports.{one_file_text};
+ghost use Rattle.std.specs.Prelude.{◌≡◌, ◌≤◌, ◌<◌, IfOk, length, map, []};
+ghost use Rattle.std.specs.List.{All, sum_by};
+ghost use Rattle.cdrc_words.specs.Counted.{HasSize, size_of};
+ghost use Rattle.cdrc_words.specs.Records.{HoldsRecords};
+ghost use Rattle.cdrc_words.specs.Reports.{held_row, one_file_text};
 
 use crate::audit::audit_line;
 use crate::counting::Counted;
@@ -31,7 +32,13 @@ fn make_records(
     alloc: Global,
     heap: &mut PlainHeap<RecordKind>,
     list: &[Counted],
-) -> Result<Vec<Hand>, OutOfMemory> {
+) -> Result<Vec<Hand>, OutOfMemory>
+    requires fresh { HoldsRecords heap.old [] 0 }
+    requires room { length list.now < length heap.old.slots }
+    requires sizes { All HasSize list.now }
+    ensures count { IfOk result (λ hands. length hands.items ≡ length list.now) }
+    ensures held { IfOk result (λ hands. HoldsRecords heap.new hands.items (sum_by size_of list.now)) }
+{
     let mut hands = Vec::new(alloc);
     for counted in list {
         hands.reserve(1)?;
@@ -50,12 +57,20 @@ fn rows_of(
     heap: &PlainHeap<RecordKind>,
     hands: &[Hand],
     list: Vec<Counted>,
-) -> Result<Vec<Row>, OutOfMemory> {
-    let mut rows = Vec::with_capacity(alloc, list.len())?;
-    for (counted, hand) in list.into_iter().zip(hands) {
-        let (holders, _) = heap.counts(hand.slot());
+) -> Result<Vec<Row>, OutOfMemory>
+    requires held { HoldsRecords heap.now hands.now (sum_by size_of list.items) }
+    requires count { length hands.now ≡ length list.items }
+    ensures { IfOk result (λ rows. rows.items ≡ map held_row list.items) }
+{
+    let mut rows = Vec::with_capacity(alloc, hands.len())?;
+    for counted in list {
+        let (holders, _) = heap.counts(hands[rows.len()].slot());
         let Counted { word, occurrences } = counted;
-        rows.push_reserved(Row { occurrences, holders, word });
+        rows.push_reserved(Row {
+            occurrences,
+            holders,
+            word,
+        });
     }
     Ok(rows)
 }

@@ -1,0 +1,36 @@
+-- A heap that holds one record for each of some words, and nothing else.
+use Rattle.std.specs.Prelude.{ℕ, ◌≡◌, ◌≤◌, ◌+◌, ◌⊎◌, true, false, List, [], ◌∷◌, length, if◌then◌else◌}
+use Rattle.std.specs.List.{All, sum_by}
+use Rattle.cdrc_plain.specs.declared.slot.SlotId.{SlotId}
+use Rattle.cdrc_plain.specs.declared.slot.PlainSlot.{PlainSlot}
+use Rattle.cdrc_plain.specs.declared.slot.Stage.TheVariants.{Free, Live}
+use Rattle.cdrc_plain.specs.Lists.{times}
+use Rattle.cdrc_plain.specs.State.{Plain, new_seat}
+use Rattle.cdrc_plain.specs.Lawful.{HasNullFields}
+use Rattle.cdrc_plain.specs.Records.{record_weight}
+use Rattle.cdrc_plain.specs.Sound.{Sound}
+use Rattle.cdrc_plain.specs.References.{over_slots}
+
+-- the slot is free, or it has an object; no field of it is set
+abbrev pub IsFreeOrLive : PlainSlot → Type 0
+IsFreeOrLive x =
+    HasNullFields x × (((x.stage ≡ Free) × (x.marked ≡ true)) ⊎ ((x.stage ≡ Live) × (x.marked ≡ false)))
+
+-- 1 for an object, and what it weighs
+abbrev pub object : PlainSlot → ℕ
+object x = if x.marked then 0 else 1
+
+abbrev pub object_weight : PlainSlot → ℕ
+object_weight x = if x.marked then 0 else record_weight x.payload
+
+-- the one seat owns each of these slots once and has nothing else; the objects are as many as these slots, and weigh
+-- this in all
+pub record HoldsRecords (p : Plain) (hands : List SlotId) (weight : ℕ) : Type 0 where
+  pub sound : Sound p
+  pub seat : p.seats ≡ (record new_seat { owned = hands; adds = length hands }) ∷ []
+  pub cells : p.cells ≡ []
+  pub weak_cells : p.weak_cells ≡ []
+  pub once : (s : SlotId) → times s hands ≤ 1
+  pub slots : All IsFreeOrLive p.slots
+  pub objects : over_slots object p.slots ≡ length hands
+  pub weights : over_slots object_weight p.slots ≡ weight
