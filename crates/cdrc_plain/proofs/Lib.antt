@@ -16,3 +16,11 @@ pub mod Tallies
 pub mod Opening
 pub mod Fits
 pub mod Records
+pub mod Settlings
+pub mod SettlingSteps
+pub mod SettlingRefs
+pub mod SettlingStores
+pub mod SettlingEntries
+pub mod SettlingObjects
+pub mod SettlingRounds
+pub mod Owning

@@ -15,7 +15,10 @@ mod refusal;
 mod slot;
 mod store;
 mod store_hands;
+mod store_settle;
 mod tally;
+#[cfg(test)]
+mod tests_settle;
 
 pub use act::{EventPlace, PlainAct};
 pub use announced::Announced;
