@@ -1,2 +1,4 @@
 pub mod Holding
 pub mod Hands
+pub mod Freeing
+pub mod Imaging

@@ -5,7 +5,7 @@ use Rattle.cdrc_plain.specs.declared.slot.SlotId.{SlotId}
 use Rattle.cdrc_plain.specs.declared.slot.PlainSlot.{PlainSlot}
 use Rattle.cdrc_plain.specs.declared.slot.Stage.TheVariants.{Free, Live}
 use Rattle.cdrc_plain.specs.Lists.{times}
-use Rattle.cdrc_plain.specs.State.{Plain, new_seat}
+use Rattle.cdrc_plain.specs.State.{Plain, new_seat, seat_at}
 use Rattle.cdrc_plain.specs.Lawful.{HasNullFields}
 use Rattle.cdrc_plain.specs.Records.{record_weight}
 use Rattle.cdrc_plain.specs.Sound.{Sound}
@@ -34,3 +34,13 @@ pub record HoldsRecords (p : Plain) (hands : List SlotId) (weight : ℕ) : Type 
   pub slots : All IsFreeOrLive p.slots
   pub objects : over_slots object p.slots ≡ length hands
   pub weights : over_slots object_weight p.slots ≡ weight
+
+-- the one seat owns these slots, in whatever order, and nothing else refers to any slot
+pub record OwnsOnly (p : Plain) (hands : List SlotId) : Type 0 where
+  pub sound : Sound p
+  pub one : length p.seats ≡ 1
+  pub owned : (s : SlotId) → times s (seat_at p 0).owned ≡ times s hands
+  pub snapshots : (seat_at p 0).snapshots ≡ []
+  pub deferred : (seat_at p 0).deferred ≡ []
+  pub cells : p.cells ≡ []
+  pub fields : All HasNullFields p.slots

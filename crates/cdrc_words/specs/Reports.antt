@@ -1,6 +1,7 @@
 -- The report of one file, from its distinct words.
 use Rattle.std.specs.Prelude.{ℕ, List, [], ◌∷◌, ◌++◌, length, map}
 use Rattle.std.specs.List.{flat_map, sum_by}
+use Rattle.cdrc_text.specs.declared.row.AuditLine.{AuditLine}
 use Rattle.cdrc_text.specs.declared.row.Row.{Row}
 use Rattle.cdrc_text.specs.declared.row.Totals.{Totals}
 use Rattle.cdrc_text.specs.Report.{closing_lines, word_line}
@@ -11,13 +12,17 @@ use Rattle.cdrc_words.specs.Counted.{word_of, size_of}
 abbrev pub held_row : Counted → Row
 held_row c = record { occurrences = c.occurrences; holders = 1; word = c.word }
 
+-- the line of a heap with nothing in it
+abbrev pub nothing_held : AuditLine
+nothing_held = record { live = 0; deferred = 0; cyclic = 0; bytes = 0 }
+
 -- every word is held once, and nothing is left at the end
 abbrev pub one_file_totals : List Counted → ℕ → Totals
 one_file_totals list pieces = record {
   files = 1;
   pieces = pieces;
   held = record { live = length list; deferred = 0; cyclic = 0; bytes = sum_by size_of list };
-  freed = record { live = 0; deferred = 0; cyclic = 0; bytes = 0 };
+  freed = nothing_held;
 }
 
 -- a line for each word, which one file holds, and the closing lines

@@ -2,8 +2,8 @@
 ghost use Rattle.std.specs.Prelude.{◌≡◌, ◌≤◌, ◌<◌, IfOk, length, map, []};
 ghost use Rattle.std.specs.List.{All, sum_by};
 ghost use Rattle.cdrc_words.specs.Counted.{HasSize, size_of};
-ghost use Rattle.cdrc_words.specs.Records.{HoldsRecords};
-ghost use Rattle.cdrc_words.specs.Reports.{held_row, one_file_text};
+ghost use Rattle.cdrc_words.specs.Records.{HoldsRecords, OwnsOnly};
+ghost use Rattle.cdrc_words.specs.Reports.{held_row, nothing_held, one_file_text};
 
 use crate::audit::audit_line;
 use crate::counting::Counted;
@@ -80,7 +80,10 @@ fn free_all(
     alloc: Global,
     heap: &mut PlainHeap<RecordKind>,
     hands: Vec<Hand>,
-) -> Result<AuditLine, OutOfMemory> {
+) -> Result<AuditLine, OutOfMemory>
+    requires { OwnsOnly heap.old hands.items }
+    ensures { IfOk result (λ line. line ≡ nothing_held) }
+{
     for hand in hands {
         heap.drop_hand(hand);
     }

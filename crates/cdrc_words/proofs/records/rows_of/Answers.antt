@@ -1,6 +1,6 @@
 use Rattle.std.proofs.Common.{◌≡◌, ◌<◌, ℕ, List, ◌++◌, ◌∷◌, [], ap, sym, subst, ◌∙◌, arith, rules, length, map, vec_len}
 use Rattle.std.proofs.lemmas.List.{length-map, length-append}
-use Rattle.std.proofs.lemmas.List.Transform.{map_push}
+use Rattle.std.proofs.lemmas.List.{map_push}
 use Rattle.cdrc_text.specs.declared.row.Row.{Row}
 use Rattle.cdrc_plain.specs.declared.slot.SlotId.{SlotId}
 use Rattle.cdrc_plain.specs.State.{seat_at}
