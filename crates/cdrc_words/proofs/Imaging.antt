@@ -18,7 +18,6 @@ use Rattle.cdrc_plain.specs.Images.{IsImage, free_image, slot_image, image_at}
 use Rattle.cdrc_plain.specs.Settling.{IsSettled}
 use Rattle.cdrc_plain.proofs.Kit.{times_none, entry_none, cells_none}
 use Rattle.cdrc_text.specs.declared.row.AuditLine.{AuditLine}
-use Rattle.cdrc_words.specs.Reports.{nothing_held}
 use Rattle.cdrc_words.specs.Audits.{live_image, weight_image}
 use Rattle.cdrc_words.specs.Records.{object, object_weight, HoldsRecords, OwnsOnly}
 use Rattle.cdrc_words.proofs.Hands.{zeros, one_seat, no_fields, strong_is}
@@ -104,11 +103,12 @@ module _ (p : Plain) (o : OwnsOnly p []) (settled : IsSettled p) (heap : Heap) (
   pub freed_deferred : length heap.deferred.items ≡ 0
   freed_deferred = ap length (is.deferred ∙ o.deferred)
 
-pub nothing_is : (r : AuditLine) → r.live ≡ 0 → r.deferred ≡ 0 → r.cyclic ≡ 0 → r.bytes ≡ 0 → r ≡ nothing_held
-nothing_is r a b c d =
-    let line : ℕ → ℕ → ℕ → ℕ → AuditLine = λ l m n k. record { live = l; deferred = m; cyclic = n; bytes = k } in
-    ap (λ (n : ℕ). line n r.deferred r.cyclic r.bytes) a ∙ ap (λ (n : ℕ). line 0 n r.cyclic r.bytes) b
-    ∙ ap (λ (n : ℕ). line 0 0 n r.bytes) c ∙ ap (λ (n : ℕ). line 0 0 0 n) d
+-- a line is its four numbers
+pub line_is : (r : AuditLine) (l m n k : ℕ) → r.live ≡ l → r.deferred ≡ m → r.cyclic ≡ n → r.bytes ≡ k → r ≡ record { live = l; deferred = m; cyclic = n; bytes = k }
+line_is r l m n k a b c d =
+    let line : ℕ → ℕ → ℕ → ℕ → AuditLine = λ x y z w. record { live = x; deferred = y; cyclic = z; bytes = w } in
+    ap (λ (x : ℕ). line x r.deferred r.cyclic r.bytes) a ∙ ap (λ (x : ℕ). line l x r.cyclic r.bytes) b
+    ∙ ap (λ (x : ℕ). line l m x r.bytes) c ∙ ap (λ (x : ℕ). line l m n x) d
 
 pub nil_by : {A : Type 0} (xs : List A) → length xs ≡ 0 → xs ≡ []
 nil_by [] e = refl

@@ -2,3 +2,8 @@ pub mod Holding
 pub mod Hands
 pub mod Freeing
 pub mod Imaging
+pub mod Named
+pub mod OneFile
+pub mod OneFileText
+pub mod Turns
+pub mod Lines

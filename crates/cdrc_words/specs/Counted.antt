@@ -1,5 +1,6 @@
 -- A word of a text with what is counted of it.
 use Rattle.std.specs.Prelude.{ℕ, ◌≡◌, ◌≤◌, List, [], ◌∷◌, length}
+use Rattle.std.specs.Global.{Vec}
 use Rattle.cdrc_text.specs.Fold.{occurrences_of}
 use Rattle.cdrc_words.specs.declared.counting.Counted.{Counted}
 
@@ -10,9 +11,16 @@ word_of c = c.word.items
 abbrev pub size_of : Counted → ℕ
 size_of c = length (word_of c)
 
--- its word has the size of a piece
+-- a word with its count, from a pair of them
+abbrev pub counted_of : Vec ℕ × ℕ → Counted
+counted_of pair = record { word = pair.0; occurrences = pair.1 }
+
+-- the word has the size of a piece
+abbrev pub IsSized : List ℕ → Type 0
+IsSized word = (1 ≤ length word) × (length word ≤ 120)
+
 abbrev pub HasSize : Counted → Type 0
-HasSize c = (1 ≤ size_of c) × (size_of c ≤ 120)
+HasSize c = IsSized (word_of c)
 
 -- its word is a piece's text, and occurs so often in the text
 abbrev pub IsCounted : List ℕ → Counted → Type 0

@@ -1,5 +1,5 @@
 //! The report of one file.
-ghost use Rattle.std.specs.Prelude.{◌≡◌, ◌<◌, ◌≤◌, ◌⊎◌, ◌∷◌, [], IfOk, IfErr, OnOk, length};
+ghost use Rattle.std.specs.Prelude.{◌≡◌, ◌<◌, ◌≤◌, ◌⊎◌, ◌∷◌, [], IfOk, IfErr, OnOk, Err, length};
 ghost use Rattle.cdrc_text.specs.Pieces.{pieces_of};
 ghost use Rattle.cdrc_text.specs.Text.{IsText};
 ghost use Rattle.cdrc_words.specs.declared.outcome.Refusal.TheVariants as refusal;
@@ -22,7 +22,7 @@ pub fn report_text<R: Wait, G: Gate>(
 ) -> Result<Vec<u8>, Refusal>
     ensures text { IfOk result (λ bytes. IsText (text.now ∷ []) 1 bytes.items) }
     ensures within { OnOk result (length (pieces_of text.now) ≤ 1000000) }
-    ensures large { result ≡ Err Refusal.TooLarge → 1000000 < length (pieces_of text.now) }
+    ensures large { result ≡ Err refusal.TooLarge → 1000000 < length (pieces_of text.now) }
     ensures only { IfErr result (λ e. (e ≡ refusal.TooLarge) ⊎ (e ≡ refusal.OutOfMemory)) }
 {
     let found = match pieces(alloc, text, MOST_PIECES) {

@@ -5,7 +5,7 @@ use Rattle.cdrc_plain.specs.Records.{record_weight}
 use Rattle.cdrc_plain.proofs.Kit.{times_cons, held_self}
 use Rattle.cdrc_words.specs.Records.{OwnsOnly}
 use Rattle.cdrc_words.proofs.Freeing.{owns_records, drop_one, settles_free}
-use Rattle.cdrc_words.proofs.Imaging.{freed_live, freed_weight, freed_deferred, nothing_is, nil_by}
+use Rattle.cdrc_words.proofs.Imaging.{freed_live, freed_weight, freed_deferred, line_is, nil_by}
 use Rattle.cdrc_words.proofs.records.free_all.Goals as goal
 
 pub drop_hand-requires : goal.drop_hand-requires
@@ -40,4 +40,4 @@ returns c =
     let deferred : c.audit_line.result.deferred ≡ 0 = e.deferred ∙ freed_deferred q o settled heap image in
     let cyclic : c.audit_line.result.cyclic ≡ 0 = e.cyclic in
     let bytes : c.audit_line.result.bytes ≡ 0 = e.bytes ∙ freed_weight q o settled heap image in
-    nothing_is c.audit_line.result live deferred cyclic bytes
+    line_is c.audit_line.result 0 0 0 0 live deferred cyclic bytes
