@@ -30,14 +30,14 @@ fn free_from(slots: &[PlainSlot], from: usize) -> Option<usize>
     None
 }
 
-/// Where `slot` stands first in the list.
+/// Where `slot` stands last in the list: what was gained last is mostly given up first.
 fn index_of(list: &[SlotId], slot: SlotId) -> Option<usize>
     requires { 0 < times slot list.now }
     ensures there { IsSome result }
     ensures found { IfSome result (λ i. (i < length list.now) × (slice_index_or list.now i slot ≡ slot)) }
 {
-    for (i, x) in list.iter().enumerate() {
-        if x.0 == slot.0 {
+    for i in (0..list.len()).rev() {
+        if list[i].0 == slot.0 {
             return Some(i);
         }
     }

@@ -20,7 +20,7 @@ use Rattle.cdrc_plain.specs.Lawful.{HasNullFields}
 use Rattle.cdrc_plain.specs.Sound.{Sound}
 use Rattle.cdrc_plain.specs.Steps.{Does, joined}
 use Rattle.cdrc_plain.specs.Settling.{Settles, SettlesBy, SettlesTo}
-use Rattle.cdrc_plain.proofs.Kit.{held_self, times_none, times_cons, times_loses, entry_none, entry_cons, entry_self, entry_lost}
+use Rattle.cdrc_plain.proofs.Kit.{held_self, times_none, times_push, times_loses, entry_none, entry_cons, entry_self, entry_lost}
 use Rattle.cdrc_plain.proofs.EveryStep.{step_sound}
 use Rattle.cdrc_words.specs.Records.{HoldsRecords, OwnsOnly}
 
@@ -55,12 +55,12 @@ seat_written p q hands more w o so e owned snapshots deferred cells fields =
     }
 
 -- one reference is dropped
-pub drop_one : (p q : Plain) (s : SlotId) (hands : List SlotId) (found : ℕ) → OwnsOnly p (s ∷ hands) → Does p 0 (act.Drop s) found q → OwnsOnly q hands
+pub drop_one : (p q : Plain) (s : SlotId) (hands : List SlotId) (found : ℕ) → OwnsOnly p (hands ++ s ∷ []) → Does p 0 (act.Drop s) found q → OwnsOnly q hands
 drop_one p q s hands found o (here, (xs, l, z, e)) =
     let v = seat_at p 0 in
-    seat_written p q (s ∷ hands) hands (record v { owned = xs }) o (step_sound p q 0 (act.Drop s) found o.sound (here, (xs, l, z, e)))
+    seat_written p q (hands ++ s ∷ []) hands (record v { owned = xs }) o (step_sound p q 0 (act.Drop s) found o.sound (here, (xs, l, z, e)))
       (ap (λ (r : Plain). r.seats) e)
-      (λ t. omega (arith, times_loses t s v.owned xs l, o.owned t, times_cons t s hands))
+      (λ t. omega (arith, times_loses t s v.owned xs l, o.owned t, times_push t s hands))
       o.snapshots o.deferred (ap (λ (r : Plain). r.cells) e)
       (subst (λ (r : Plain). All HasNullFields r.slots) (sym e) o.fields)
 

@@ -9,5 +9,6 @@ IsOperand word = (length word < 2) ⊎ (slice_index word 0 ≢ 45)
 abbrev pub IsWordsOf : List (List ℕ) → List ℕ → Type 0
 IsWordsOf line file = (line ≡ codes "words" ∷ file ∷ []) × IsOperand file
 
+-- the words are understood
 abbrev pub IsCommand : List (List ℕ) → Type 0
 IsCommand line = (file : List ℕ) × IsWordsOf line file

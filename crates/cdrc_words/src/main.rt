@@ -21,13 +21,14 @@ mod output;
 mod records;
 mod report;
 mod run;
+#[cfg(test)]
+mod tests;
 
 use crate::explain::explain;
 use crate::run::run;
 use lane_gate::{HostFiles, HostSink, Open};
-use std::env;
-use std::io;
 use std::process::ExitCode;
+use std::{env, io};
 
 /// The words after the program's name, or the status of a command line that can't be had: a word that isn't UTF-8 is
 /// no word of the grammar.

@@ -1,6 +1,6 @@
 //! How a run ends.
 ghost use Rattle.std.specs.Prelude.{◌≡◌};
-ghost use Rattle.cdrc_words.specs.Statuses.{status_of};
+ghost use Rattle.cdrc_words.specs.Statuses.{status_after, status_of};
 ghost use Rattle.cdrc_words.specs.declared.outcome.Refusal.TheVariants as refusal;
 
 use out_of_memory::OutOfMemory;
@@ -53,4 +53,21 @@ pub enum Why {
 pub struct End {
     pub status: u8,
     pub why: Why,
+}
+
+impl End {
+    /// The end of the work that ended so.
+    pub fn of(work: Result<(), Refusal>) -> End
+        ensures status { result.status ≡ status_after work }
+        ensures why { result.why ≡ Why.Nothing }
+    {
+        let status = match work {
+            Ok(()) => 0,
+            Err(refusal) => refusal.status(),
+        };
+        End {
+            status,
+            why: Why::Nothing,
+        }
+    }
 }

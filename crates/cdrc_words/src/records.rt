@@ -75,16 +75,16 @@ fn rows_of(
     Ok(rows)
 }
 
-/// Drops all handles and lets the heap settle; the line of what is left.
+/// Drops all handles, the last one first, and lets the heap settle; the line of what is left.
 fn free_all(
     alloc: Global,
     heap: &mut PlainHeap<RecordKind>,
-    hands: Vec<Hand>,
+    mut hands: Vec<Hand>,
 ) -> Result<AuditLine, OutOfMemory>
     requires { OwnsOnly heap.old hands.items }
     ensures { IfOk result (λ line. line ≡ nothing_held) }
 {
-    for hand in hands {
+    while let Some(hand) = hands.pop() {
         heap.drop_hand(hand);
     }
     heap.settle()?;

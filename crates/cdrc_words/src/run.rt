@@ -1,4 +1,11 @@
 //! The top call.
+ghost use Rattle.std.specs.Prelude.{◌≡◌, ◌≢◌, ◌↔◌, ◌≤◌, ◌⊎◌, ℕ, List, IfErr, IfOk, IfSome, OnOk, length, map, string_bytes};
+ghost use Rattle.lane_gate.specs.Causes.{Rose, Stood};
+ghost use Rattle.cdrc_words.specs.Commands.{IsCommand, IsWordsOf};
+ghost use Rattle.cdrc_words.specs.Outcomes.{IsContent, IsTooLarge, IsTooLong, IsWithinLimits, PassesLimit, TookPartOfText, TookText};
+ghost use Rattle.cdrc_words.specs.Statuses.{IsStatus};
+ghost use Rattle.cdrc_words.specs.declared.outcome.Refusal.TheVariants as refusal;
+
 use crate::command::file_of;
 use crate::limits::MOST_BYTES;
 use crate::outcome::{End, Refusal, Why};
@@ -9,7 +16,14 @@ use std::alloc::Global;
 use std::sync::Wait;
 use std::thread::Threads;
 
-/// Does what the words say: reads the file by its name, counts, and offers the report to the sink.
+/// Does what the words say: reads the file by its name, counts its words, and offers the report to the sink.
+///
+/// The status is 0 where the work was done; 2 exactly where the words aren't understood; 3 only where the source's
+/// count of faults rose in this call; 4 only where the sink's did; 5 exactly where the content passes a limit, which is
+/// 67,108,864 bytes or 1,000,000 pieces; 9 where there was no memory, which may come in place of any but 2. Over a
+/// source that doesn't tell the content, what is said of it is said of some content.
+///
+/// With 0 the sink took the whole report, with 4 a front of it, with 9 a front or nothing, and else nothing.
 pub fn run<R: Threads + Wait + Sync, F: Files, K: Sink, G: Gate + Sync>(
     rt: &R,
     alloc: Global,
@@ -17,36 +31,82 @@ pub fn run<R: Threads + Wait + Sync, F: Files, K: Sink, G: Gate + Sync>(
     files: &mut F,
     sink: &mut K,
     gate: &G,
-) -> End {
-    let status = match words_command(rt, alloc, words, files, sink, gate) {
-        Ok(()) => 0,
-        Err(refusal) => refusal.status(),
+) -> End
+    ensures statuses { IsStatus result.status }
+    ensures why { result.why ≡ Why.Nothing }
+    ensures usage { (result.status ≡ 2) ↔ ¬ (IsCommand (map string_bytes words.now)) }
+    ensures done { result.status ≡ 0 →
+        (file : List ℕ) → IsWordsOf (map string_bytes words.now) file →
+        TookText (F.told files.old file) (K.taken sink.old) (K.taken sink.new) }
+    ensures read { result.status ≡ 3 → Rose (F.faults files.old) (F.faults files.new) }
+    ensures write { result.status ≡ 4 → Rose (K.faults sink.old) (K.faults sink.new) }
+    ensures write_part { result.status ≡ 4 →
+        (file : List ℕ) → IsWordsOf (map string_bytes words.now) file →
+        TookPartOfText (F.told files.old file) (K.taken sink.old) (K.taken sink.new) }
+    ensures large { result.status ≡ 5 →
+        (file : List ℕ) → IsWordsOf (map string_bytes words.now) file →
+        IsTooLarge (F.told files.old file) (F.overlong files.old) (F.overlong files.new) }
+    ensures large_exactly { (file : List ℕ) → IsWordsOf (map string_bytes words.now) file →
+        IfSome (F.told files.old file) (λ content. PassesLimit content →
+        Stood (F.faults files.old) (F.faults files.new) →
+        (result.status ≡ 5) ⊎ (result.status ≡ 9)) }
+    ensures complete { (file : List ℕ) → IsWordsOf (map string_bytes words.now) file →
+        IfSome (F.told files.old file) (λ content. IsWithinLimits content →
+        Stood (F.faults files.old) (F.faults files.new) →
+        Stood (K.faults sink.old) (K.faults sink.new) →
+        (result.status ≡ 0) ⊎ (result.status ≡ 9)) }
+    ensures memory { result.status ≡ 9 →
+        (file : List ℕ) → IsWordsOf (map string_bytes words.now) file →
+        (K.taken sink.new ≡ K.taken sink.old)
+        ⊎ TookPartOfText (F.told files.old file) (K.taken sink.old) (K.taken sink.new) }
+    ensures nothing { (result.status ≡ 2) ⊎ (result.status ≡ 3) ⊎ (result.status ≡ 5) →
+        K.taken sink.new ≡ K.taken sink.old }
+{
+    let Some(name) = file_of(words) else {
+        return End::of(Err(Refusal::Usage));
     };
-    End {
-        status,
-        why: Why::Nothing,
-    }
+    End::of(words_command(rt, alloc, name, files, sink, gate))
 }
 
-/// The command `words FILE`.
+/// The command `words FILE`, for the file of this name.
 fn words_command<R: Wait, F: Files, K: Sink, G: Gate>(
     rt: &R,
     alloc: Global,
-    words: &[String],
+    name: &str,
     files: &mut F,
     sink: &mut K,
     gate: &G,
-) -> Result<(), Refusal> {
-    let Some(name) = file_of(words) else {
-        return Err(Refusal::Usage);
-    };
+) -> Result<(), Refusal>
+    ensures only { IfErr result (λ e. e ≢ refusal.Usage) }
+    ensures done { OnOk result
+        (TookText (F.told files.old name.now) (K.taken sink.old) (K.taken sink.new)) }
+    ensures read { result ≡ Err Refusal.Read → Rose (F.faults files.old) (F.faults files.new) }
+    ensures write { result ≡ Err Refusal.Write → Rose (K.faults sink.old) (K.faults sink.new) }
+    ensures write_part { result ≡ Err Refusal.Write →
+        TookPartOfText (F.told files.old name.now) (K.taken sink.old) (K.taken sink.new) }
+    ensures large { result ≡ Err Refusal.TooLarge →
+        IsTooLarge (F.told files.old name.now) (F.overlong files.old) (F.overlong files.new) }
+    ensures memory { result ≡ Err Refusal.OutOfMemory →
+        (K.taken sink.new ≡ K.taken sink.old)
+        ⊎ TookPartOfText (F.told files.old name.now) (K.taken sink.old) (K.taken sink.new) }
+    ensures nothing { (result ≡ Err Refusal.Read) ⊎ (result ≡ Err Refusal.TooLarge) →
+        K.taken sink.new ≡ K.taken sink.old }
+{
     let text = read_file(alloc, files, name)?;
     let bytes = report_text(rt, alloc, &text, gate)?;
     write_all(sink, &bytes)
 }
 
 /// The content of a file of at most 67,108,864 bytes.
-fn read_file<F: Files>(alloc: Global, files: &mut F, name: &str) -> Result<Vec<u8>, Refusal> {
+fn read_file<F: Files>(alloc: Global, files: &mut F, name: &str) -> Result<Vec<u8>, Refusal>
+    ensures content { IfOk result (λ text. IsContent (F.told files.old name.now) text.items) }
+    ensures within { IfOk result (λ text. length text.items ≤ 67108864) }
+    ensures failed { result ≡ Err Refusal.Read → Rose (F.faults files.old) (F.faults files.new) }
+    ensures too_long { result ≡ Err Refusal.TooLarge →
+        IsTooLong (F.told files.old name.now) (F.overlong files.old) (F.overlong files.new) }
+    ensures only { IfErr result (λ e.
+        (e ≡ refusal.Read) ⊎ (e ≡ refusal.TooLarge) ⊎ (e ≡ refusal.OutOfMemory)) }
+{
     let mut text = Vec::new(alloc);
     match files.read(name, &mut text, MOST_BYTES) {
         Ok(()) => Ok(text),

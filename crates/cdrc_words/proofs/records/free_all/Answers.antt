@@ -1,8 +1,8 @@
-use Rattle.std.proofs.Common.{◌≡◌, ap, sym, subst, arith, rules, length, List, ℕ, [], ◌∷◌, ◌∙◌}
+use Rattle.std.proofs.Common.{◌≡◌, ap, sym, subst, arith, rules, length, vec_len, List, ℕ, [], ◌∷◌, ◌∙◌}
 use Rattle.cdrc_plain.specs.declared.slot.SlotId.{SlotId}
 use Rattle.cdrc_plain.specs.Lists.{times}
 use Rattle.cdrc_plain.specs.Records.{record_weight}
-use Rattle.cdrc_plain.proofs.Kit.{times_cons, held_self}
+use Rattle.cdrc_plain.proofs.Kit.{times_push, held_self}
 use Rattle.cdrc_words.specs.Records.{OwnsOnly}
 use Rattle.cdrc_words.proofs.Freeing.{owns_records, drop_one, settles_free}
 use Rattle.cdrc_words.proofs.Imaging.{freed_live, freed_weight, freed_deferred, line_is, nil_by}
@@ -11,24 +11,24 @@ use Rattle.cdrc_words.proofs.records.free_all.Goals as goal
 pub drop_hand-requires : goal.drop_hand-requires
 drop_hand-requires c =
     let s = c.in-Some.hand in
-    let rest = c.next.new.self.rest.items in
-    omega (arith, c.loop-hand.invariant.owned s, ap (times s) c.in-Some.ensures.steps.0, times_cons s s rest, held_self s)
+    let rest = c.pop.new.self.items in
+    omega (arith, c.loop-hand.invariant.owned s, ap (times s) c.in-Some.ensures.items, times_push s s rest, held_self s)
 
 pub loop-hand-preserved : goal.loop-hand-preserved
 loop-hand-preserved c =
-    drop_one c.loop-hand.heap c.drop_hand.new.self c.in-Some.hand c.next.new.self.rest.items 0
-      (subst (OwnsOnly c.loop-hand.heap) c.in-Some.ensures.steps.0 c.loop-hand.invariant) c.drop_hand.ensures
+    drop_one c.loop-hand.heap c.drop_hand.new.self c.in-Some.hand c.pop.new.self.items 0
+      (subst (OwnsOnly c.loop-hand.heap) c.in-Some.ensures.items c.loop-hand.invariant) c.drop_hand.ensures
 
 pub audit_line-requires : goal.audit_line-requires
 audit_line-requires c =
-    let rest : c.loop-hand.hand-iterator.rest.items ≡ [] = nil_by c.loop-hand.hand-iterator.rest.items ((let e : length c.loop-hand.hand-iterator.rest.items ≡ c.loop-hand.hand-iterator.rest.len = search rules in e) ∙ c.in-None.ensures.steps.0) in
+    let rest : c.loop-hand.hands.items ≡ [] = nil_by c.loop-hand.hands.items ((let e : length c.loop-hand.hands.items ≡ vec_len c.loop-hand.hands = search rules in e) ∙ c.in_default.ensures.cases.0) in
     let o = settles_free record_weight c.in_ok-settle.ensures.settles.0 c.loop-hand.heap c.settle.new.self c.in_ok-settle.field-0
       (subst (OwnsOnly c.loop-hand.heap) rest c.loop-hand.invariant) c.in_ok-settle.ensures.settles.1 in
     omega (arith, freed_weight c.settle.new.self o c.in_ok-settle.ensures.settled c.in_ok-image.field-0 c.in_ok-image.ensures.image)
 
 pub returns : goal.returns
 returns c =
-    let rest : c.loop-hand.hand-iterator.rest.items ≡ [] = nil_by c.loop-hand.hand-iterator.rest.items ((let e : length c.loop-hand.hand-iterator.rest.items ≡ c.loop-hand.hand-iterator.rest.len = search rules in e) ∙ c.in-None.ensures.steps.0) in
+    let rest : c.loop-hand.hands.items ≡ [] = nil_by c.loop-hand.hands.items ((let e : length c.loop-hand.hands.items ≡ vec_len c.loop-hand.hands = search rules in e) ∙ c.in_default.ensures.cases.0) in
     let o = settles_free record_weight c.in_ok-settle.ensures.settles.0 c.loop-hand.heap c.settle.new.self c.in_ok-settle.field-0
       (subst (OwnsOnly c.loop-hand.heap) rest c.loop-hand.invariant) c.in_ok-settle.ensures.settles.1 in
     let q = c.settle.new.self in

@@ -1,0 +1,164 @@
+-- How often a slot stands in lists, phases and places, of one seat and of all.
+use Rattle.std.specs.Prelude.{ℕ, zero, suc, ◌+◌, ◌==◌, ◌&&◌, ◌||◌, not, nat_lt, Bool, List, length, slice_index, sum_by, if◌then◌else◌}
+use Rattle.cdrc_plain.specs.declared.slot.Kind.{Kind}
+use Rattle.cdrc_plain.specs.declared.slot.Kind.TheVariants.{Strong, Weak}
+use Rattle.cdrc_plain.specs.declared.slot.SlotId.{SlotId}
+use Rattle.cdrc_plain.specs.declared.slot.Stage.{Stage}
+use Rattle.cdrc_plain.specs.declared.slot.Stage.TheVariants.{Free, Blank, Live, Ended, Husk}
+use Rattle.cdrc_plain.specs.Lists.{times, entry_times, is_slot}
+use Rattle.core_events.specs.declared.shape.Shape.{Shape}
+use Rattle.core_events.specs.declared.view.CoreView.{CoreView}
+use Rattle.core_events.specs.declared.view.Note.{Note}
+use Rattle.core_events.specs.declared.view.Note.TheVariants as note
+use Rattle.core_events.specs.declared.view.Phase.{Phase}
+use Rattle.core_events.specs.declared.view.Phase.TheVariants as phase
+use Rattle.core_events.specs.Words.{ZERO, has_zero, has_help, code, strong_at, weak_at, cell_at, weak_cell_at, field_at, weak_field_at}
+use Rattle.core_events.specs.Runs.{Core}
+
+-- 1 where they are the same slot
+unfoldable pub one : SlotId → SlotId → ℕ
+one s x = if is_slot s x then 1 else 0
+
+-- 1 where the word of a place holds s
+unfoldable pub in_word : SlotId → ℕ → ℕ
+in_word s w = if w == s.0 + 1 then 1 else 0
+
+-- f of each seat's view, added up
+unfoldable pub total : (CoreView → ℕ) → List CoreView → ℕ
+total f vs = sum_by f vs
+
+-- f of each number below n, added up
+unfoldable pub sum_below : ℕ → (ℕ → ℕ) → ℕ
+sum_below zero f = 0
+sum_below (suc n) f = sum_below n f + f n
+
+abbrev pub finishing : SlotId → Phase → ℕ
+finishing s phase.Idle = 0
+finishing s (phase.Finish x) = one s x
+finishing s (phase.Help x) = 0
+finishing s (phase.Zero x) = 0
+finishing s phase.Scan = 0
+finishing s (phase.Blank x) = 0
+finishing s (phase.Give x) = 0
+
+abbrev pub helping : SlotId → Phase → ℕ
+helping s phase.Idle = 0
+helping s (phase.Finish x) = 0
+helping s (phase.Help x) = one s x
+helping s (phase.Zero x) = 0
+helping s phase.Scan = 0
+helping s (phase.Blank x) = 0
+helping s (phase.Give x) = 0
+
+abbrev pub filling : SlotId → Phase → ℕ
+filling s phase.Idle = 0
+filling s (phase.Finish x) = 0
+filling s (phase.Help x) = 0
+filling s (phase.Zero x) = 0
+filling s phase.Scan = 0
+filling s (phase.Blank x) = one s x
+filling s (phase.Give x) = 0
+
+abbrev pub giving : SlotId → Phase → ℕ
+giving s phase.Idle = 0
+giving s (phase.Finish x) = 0
+giving s (phase.Help x) = 0
+giving s (phase.Zero x) = 0
+giving s phase.Scan = 0
+giving s (phase.Blank x) = 0
+giving s (phase.Give x) = one s x
+
+-- 1 where the phase has the slot s
+abbrev pub in_phase : SlotId → Phase → ℕ
+in_phase s phase.Idle = 0
+in_phase s (phase.Finish x) = one s x
+in_phase s (phase.Help x) = one s x
+in_phase s (phase.Zero x) = one s x
+in_phase s phase.Scan = 0
+in_phase s (phase.Blank x) = one s x
+in_phase s (phase.Give x) = one s x
+
+-- 1 where the note names s
+abbrev pub in_note : SlotId → Note → ℕ
+in_note s note.Idle = 0
+in_note s (note.Announced k x) = one s x
+in_note s (note.Valid k x) = one s x
+
+unfoldable pub noting : SlotId → List Note → ℕ
+noting s ns = sum_by (in_note s) ns
+
+-- the references of kind k that one seat owns or has yet to give up
+abbrev pub listed : Kind → SlotId → CoreView → ℕ
+listed Strong s v = times s v.owned + entry_times Strong s v.retired + entry_times Strong s v.owed
+listed Weak s v = times s v.weaks + entry_times Weak s v.retired + entry_times Weak s v.owed
+
+-- how often a seat's lists, notes and phase name s
+abbrev pub naming : SlotId → CoreView → ℕ
+naming s v =
+    listed Strong s v + listed Weak s v + times s v.dying + noting s v.notes + in_phase s v.phase
+
+-- the two strong fields of slot x that hold s
+abbrev pub fields_holding : Shape → List ℕ → SlotId → ℕ → ℕ
+fields_holding z ws s x =
+    in_word s (slice_index ws (field_at z (record { 0 = x }) 0))
+    + in_word s (slice_index ws (field_at z (record { 0 = x }) 1))
+
+-- the places of kind k that hold s
+abbrev pub places : Kind → Shape → List ℕ → SlotId → ℕ
+places Strong z ws s =
+    sum_below z.cells (λ i. in_word s (slice_index ws (cell_at z i)))
+    + sum_below z.slots (fields_holding z ws s)
+places Weak z ws s =
+    sum_below z.weak_cells (λ i. in_word s (slice_index ws (weak_cell_at z i)))
+    + sum_below z.slots (λ x. in_word s (slice_index ws (weak_field_at z (record { 0 = x }))))
+
+-- all references of kind k to s, but for the slot's own
+abbrev pub refs : Kind → Shape → Core → SlotId → ℕ
+refs k z c s = total (listed k s) c.views + places k z c.words s
+
+-- the seats that are to finish s, to help with it, that fill it, that are to give it back
+abbrev pub finishers : Core → SlotId → ℕ
+finishers c s = total (λ v. finishing s v.phase) c.views
+
+abbrev pub helpers : Core → SlotId → ℕ
+helpers c s = total (λ v. helping s v.phase) c.views
+
+abbrev pub fillers : Core → SlotId → ℕ
+fillers c s = total (λ v. filling s v.phase) c.views
+
+abbrev pub givers : Core → SlotId → ℕ
+givers c s = total (λ v. giving s v.phase) c.views
+
+-- how often s stands in dying lists
+abbrev pub dying_times : Core → SlotId → ℕ
+dying_times c s = total (λ v. times s v.dying) c.views
+
+abbrev pub adds_used : Core → ℕ
+adds_used c = total (λ v. v.adds) c.views
+
+abbrev pub strong : Shape → Core → SlotId → ℕ
+strong z c s = slice_index c.words (strong_at z s)
+
+abbrev pub weak : Shape → Core → SlotId → ℕ
+weak z c s = slice_index c.words (weak_at z s)
+
+-- how far a slot is, by its two words, the seats that fill it, and the dying lists
+unfoldable pub stage_of : ℕ → ℕ → ℕ → ℕ → Stage
+stage_of strong weak fillers dying =
+    if weak == ZERO then Free
+    else if nat_lt 0 fillers then Blank
+    else if nat_lt 0 dying then Ended
+    else if not (has_zero strong) || has_help strong then Live
+    else Husk
+
+abbrev pub stage : Shape → Core → SlotId → Stage
+stage z c s = stage_of (strong z c s) (weak z c s) (fillers c s) (dying_times c s)
+
+-- a scan has read announcement word a, counted from 0, and found another word there than w
+abbrev pub has_passed : ℕ → ℕ → List ℕ → Bool
+has_passed a w seen = nat_lt a (length seen) && not (slice_index seen a == w)
+
+-- the retired entries of one seat that still guard s for announcement word a: none where its scan
+-- has passed the word
+abbrev pub guarding : ℕ → Kind → SlotId → CoreView → ℕ
+guarding a k s v = if has_passed a (code k s) v.seen then 0 else entry_times k s v.retired

@@ -1,0 +1,110 @@
+-- What a seat has by its view: what it holds, which places are open to it, what a scan of it still
+-- guards.
+use Rattle.std.specs.Prelude.{ℕ, ◌<◌, ◌+◌, ◌*◌, false, List, [], ◌∷◌, slice_index_or, if◌then◌else◌}
+use Rattle.cdrc_plain.specs.declared.act.EventPlace.{EventPlace}
+use Rattle.cdrc_plain.specs.declared.act.EventPlace.TheVariants.{Cell, Field, WeakCell, WeakField}
+use Rattle.cdrc_plain.specs.declared.slot.Kind.TheVariants.{Strong, Weak}
+use Rattle.cdrc_plain.specs.declared.slot.SlotId.{SlotId}
+use Rattle.cdrc_plain.specs.Lists.{Entry, times, entry_times, is_slot}
+use Rattle.core_events.specs.declared.shape.Shape.{Shape}
+use Rattle.core_events.specs.declared.shape.Quota.{Quota}
+use Rattle.core_events.specs.declared.view.CoreView.{CoreView}
+use Rattle.core_events.specs.declared.view.Note.{Note}
+use Rattle.core_events.specs.declared.view.Note.TheVariants as note
+use Rattle.core_events.specs.declared.view.Phase.{Phase}
+use Rattle.core_events.specs.declared.view.Phase.TheVariants as phase
+
+-- one place for each announcement word, and the batch
+abbrev pub room_of : Shape → ℕ
+room_of z = 4 * z.seats + z.batch
+
+abbrev pub no_notes : List Note
+no_notes = note.Idle ∷ note.Idle ∷ note.Idle ∷ note.Idle ∷ []
+
+-- seat n has done nothing
+abbrev pub first_view : Shape → ℕ → Quota → CoreView
+first_view z n q = record {
+  seat = n;
+  shape = z;
+  quota = q;
+  room = room_of z;
+  owned = [];
+  weaks = [];
+  notes = no_notes;
+  retired = [];
+  owed = [];
+  dying = [];
+  phase = phase.Idle;
+  seen = [];
+  adds = 0;
+  makes = 0;
+  left = false;
+  trail = [];
+  made = [];
+  left_trails = [];
+}
+
+abbrev pub first_views : Shape → ℕ → List Quota → List CoreView
+first_views z n [] = []
+first_views z n (q ∷ qs) = first_view z n q ∷ first_views z (n + 1) qs
+
+-- a view where there is no seat
+abbrev pub no_view : CoreView
+no_view =
+    first_view (record { seats = 0; slots = 0; cells = 0; weak_cells = 0; batch = 0 }) 0
+    (record { makes = 0; adds = 0 })
+
+abbrev pub note_of : CoreView → ℕ → Note
+note_of v j = slice_index_or v.notes j note.Idle
+
+-- the entries of the valid notes, in the order of their words
+abbrev pub valid_of : List Note → List Entry
+valid_of [] = []
+valid_of (note.Idle ∷ ns) = valid_of ns
+valid_of (note.Announced k s ∷ ns) = valid_of ns
+valid_of (note.Valid k s ∷ ns) = (k, s) ∷ valid_of ns
+
+abbrev pub snapshots : CoreView → List Entry
+snapshots v = valid_of v.notes
+
+-- the seat owns s, strongly or weakly, or is under a snapshot of it
+abbrev pub held_times : SlotId → CoreView → ℕ
+held_times s v =
+    times s v.owned + times s v.weaks + entry_times Strong s (snapshots v)
+    + entry_times Weak s (snapshots v)
+
+abbrev pub Holds : CoreView → SlotId → Type 0
+Holds v s = 0 < held_times s v
+
+-- it owns s strongly, or is under a strong snapshot of it
+abbrev pub HoldsStrongly : CoreView → SlotId → Type 0
+HoldsStrongly v s = 0 < times s v.owned + entry_times Strong s (snapshots v)
+
+-- a cell is open to every seat, a field to a seat that holds its slot strongly
+abbrev pub IsOpen : Shape → CoreView → EventPlace → Type 0
+IsOpen z v (Cell i) = i < z.cells
+IsOpen z v (Field s i) = (i < 2) × HoldsStrongly v s
+IsOpen z v (WeakCell i) = i < z.weak_cells
+IsOpen z v (WeakField s) = HoldsStrongly v s
+
+-- the place is a field of a slot in the seat's dying list
+abbrev pub IsDyingField : CoreView → EventPlace → Type 0
+IsDyingField v (Cell i) = ⊥
+IsDyingField v (Field s i) = (i < 2) × (0 < times s v.dying)
+IsDyingField v (WeakCell i) = ⊥
+IsDyingField v (WeakField s) = 0 < times s v.dying
+
+-- the slot of a phase that has one
+abbrev pub slot_of : Phase → SlotId
+slot_of phase.Idle = record { 0 = 0 }
+slot_of (phase.Finish s) = s
+slot_of (phase.Help s) = s
+slot_of (phase.Zero s) = s
+slot_of phase.Scan = record { 0 = 0 }
+slot_of (phase.Blank s) = s
+slot_of (phase.Give s) = s
+
+-- the list without its first s
+abbrev pub without : SlotId → List SlotId → List SlotId
+without s [] = []
+without s (x ∷ xs) = if is_slot s x then xs else x ∷ without s xs

@@ -1,0 +1,95 @@
+-- The words of a domain, in the order of its table: the base word, four announcement words of
+-- each seat, the strong cells, the weak cells, and 21 words of each slot.
+use Rattle.std.specs.Prelude.{ℕ, zero, suc, ◌+◌, ◌-◌, ◌*◌, ◌%◌, ◌^◌, ◌==◌, Bool, nat_lt, nat_le, List, [], ◌∷◌, ◌++◌, replicate, Option, Some, None, if◌then◌else◌}
+use Rattle.cdrc_plain.specs.declared.act.EventPlace.{EventPlace}
+use Rattle.cdrc_plain.specs.declared.act.EventPlace.TheVariants.{Cell, Field, WeakCell, WeakField}
+use Rattle.cdrc_plain.specs.declared.slot.Kind.{Kind}
+use Rattle.cdrc_plain.specs.declared.slot.Kind.TheVariants.{Strong, Weak}
+use Rattle.cdrc_plain.specs.declared.slot.SlotId.{SlotId}
+use Rattle.core_events.specs.declared.shape.Shape.{Shape}
+
+-- the zero flag of a strong word, and the weak word of a free slot
+abbrev pub ZERO : ℕ
+ZERO = 2 ^ 63
+
+-- the help flag of a strong word
+abbrev pub HELP : ℕ
+HELP = 2 ^ 62
+
+abbrev pub has_zero : ℕ → Bool
+has_zero w = nat_le ZERO w
+
+abbrev pub has_help : ℕ → Bool
+has_help w = nat_le HELP (w % ZERO)
+
+-- the count below the flags
+abbrev pub low : ℕ → ℕ
+low w = w % HELP
+
+-- what a strong word counts
+abbrev pub value : ℕ → ℕ
+value w = if nat_lt w ZERO then w else 0
+
+-- the number of all announcement words
+abbrev pub announcements : Shape → ℕ
+announcements z = 4 * z.seats
+
+-- announcement word j of seat n
+abbrev pub note_at : ℕ → ℕ → ℕ
+note_at n j = 1 + 4 * n + j
+
+abbrev pub cell_at : Shape → ℕ → ℕ
+cell_at z i = 1 + 4 * z.seats + i
+
+abbrev pub weak_cell_at : Shape → ℕ → ℕ
+weak_cell_at z i = 1 + 4 * z.seats + z.cells + i
+
+-- the first word of a slot
+abbrev pub slot_at : Shape → ℕ → ℕ
+slot_at z x = 1 + 4 * z.seats + z.cells + z.weak_cells + 21 * x
+
+abbrev pub strong_at : Shape → SlotId → ℕ
+strong_at z s = slot_at z s.0
+
+abbrev pub weak_at : Shape → SlotId → ℕ
+weak_at z s = slot_at z s.0 + 1
+
+abbrev pub field_at : Shape → SlotId → ℕ → ℕ
+field_at z s i = slot_at z s.0 + 2 + i
+
+abbrev pub weak_field_at : Shape → SlotId → ℕ
+weak_field_at z s = slot_at z s.0 + 4
+
+abbrev pub payload_at : Shape → SlotId → ℕ → ℕ
+payload_at z s i = slot_at z s.0 + 5 + i
+
+-- how many words there are
+abbrev pub word_count : Shape → ℕ
+word_count z = slot_at z z.slots
+
+abbrev pub place_at : Shape → EventPlace → ℕ
+place_at z (Cell i) = cell_at z i
+place_at z (Field s i) = field_at z s i
+place_at z (WeakCell i) = weak_cell_at z i
+place_at z (WeakField s) = weak_field_at z s
+
+-- the slot that the word of a place holds
+abbrev pub slot_in : ℕ → Option SlotId
+slot_in w = if w == 0 then None else Some (record { 0 = w - 1 })
+
+-- the announcement word of a reference
+abbrev pub code : Kind → SlotId → ℕ
+code Strong s = 4 * (s.0 + 1)
+code Weak s = 4 * (s.0 + 1) + 1
+
+-- the words of a slot that nobody has claimed
+abbrev pub free_words : List ℕ
+free_words = ZERO ∷ ZERO ∷ replicate 19 0
+
+abbrev pub all_free : ℕ → List ℕ
+all_free zero = []
+all_free (suc n) = free_words ++ all_free n
+
+-- nothing has happened
+abbrev pub first_words : Shape → List ℕ
+first_words z = replicate (slot_at z 0) 0 ++ all_free z.slots

@@ -1,0 +1,23 @@
+//! The atomic steps of a domain of counted objects, as data and as definitions.
+//!
+//! Each event is one atomic action of one seat on one word. The definitions in `specs/` say which
+//! word, when a seat may act, what becomes of the word and of what the seat knows, and what holds
+//! of every state that events reach. The pure core, the proofs about it and the running domain
+//! all cite these. This crate promises nothing by itself: it has no code, and nothing is proved
+//! here.
+//!
+//! ```text
+//! let event = Event { seat: 0, act: Act::Add(SlotId(3)) };
+//! ```
+#![tactic(auto)]
+
+mod act;
+mod outcome;
+mod shape;
+mod view;
+
+pub use act::{Act, Event};
+pub use cdrc_plain::{EventPlace, Kind, SlotId};
+pub use outcome::Outcome;
+pub use shape::{Quota, Shape, ShapeField};
+pub use view::{CoreView, LeftTrail, Move, Note, Phase};

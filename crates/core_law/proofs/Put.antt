@@ -1,0 +1,312 @@
+-- A step of one seat that writes one word: what is enough for the invariant to stay.
+use Rattle.std.proofs.Common.{◌≡◌, ◌≢◌, ◌⊎◌, ⊎_elim, ℕ, ◌+◌, ◌*◌, ◌^◌, ◌<◌, ◌≤◌, List, [], length, get_or, set, refl, ap, sym, ◌∙◌, subst, arith}
+use Rattle.std.specs.Prelude.{slice_index}
+use Rattle.std.proofs.lemmas.List.{length-set, get_or-set_same, get_or-set_other, get_or_default}
+use Rattle.std.proofs.lemmas.List.Elements.{All-set}
+use Rattle.std.proofs.lemmas.List.Sums.{sum_by-le}
+use Rattle.std.proofs.lemmas.Bool.{cases_eq}
+use Rattle.cdrc_plain.specs.declared.slot.Kind.{Kind}
+use Rattle.cdrc_plain.specs.declared.slot.Kind.TheVariants.{Strong, Weak}
+use Rattle.cdrc_plain.specs.declared.slot.SlotId.{SlotId}
+use Rattle.cdrc_plain.specs.Lists.{times}
+use Rattle.core_events.specs.declared.shape.Shape.{Shape}
+use Rattle.core_events.specs.declared.view.CoreView.{CoreView}
+use Rattle.core_events.specs.declared.view.Note.TheVariants as note
+use Rattle.core_events.specs.Words.{note_at, code}
+use Rattle.core_events.specs.Views.{no_view, note_of}
+use Rattle.core_events.specs.Runs.{Core, view_at}
+use Rattle.core_events.specs.Counts.{total, listed, finishing, helping, filling, giving, places, adds_used, guarding, strong, weak}
+use Rattle.core_events.specs.Good.{SeatLaw, AreAnnounced, AreProtected, Room, ArePlacesInRange, word_of_note, staying_room}
+use Rattle.core_law.specs.Slots.{numbers, SlotLaw, field_words}
+use Rattle.core_law.specs.Sound.{Sound}
+use Rattle.core_law.proofs.Kit.{total_set, total_at, slot_cases}
+use Rattle.core_law.proofs.StrongSteps.{slot_same}
+
+-- the view of seat n, and one word, given anew
+abbrev pub put : Core → ℕ → CoreView → ℕ → ℕ → Core
+put c n v p w = record { words = set c.words p w; views = set c.views n v }
+
+pub at_seat : (z : Shape) (c : Core) (n : ℕ) → Sound z c → n < z.seats → n < length c.views
+at_seat z c n so hn = let e = so.views in omega arith
+
+pub view_same : (z : Shape) (c : Core) (n : ℕ) (v : CoreView) → Sound z c → n < z.seats
+    → get_or (set c.views n v) n no_view ≡ v
+view_same z c n v so hn = get_or-set_same c.views n v no_view (at_seat z c n so hn)
+
+pub view_other : (c : Core) (n m : ℕ) (v : CoreView) → m ≢ n
+    → get_or (set c.views n v) m no_view ≡ view_at c m
+view_other c n m v ne = get_or-set_other c.views n m v no_view ne
+
+-- the adds that all seats have used are few
+pub adds_fit : (z : Shape) (c : Core) → Sound z c → adds_used c < 2 ^ 60
+unfolding total
+adds_fit z c so =
+    let e = so.views in
+    let few = so.shape.1 in
+    let le = sum_by-le (λ (v : CoreView). v.adds) (2 ^ 40) c.views
+    (λ k d h.
+    let l = so.seats k (omega arith) in
+    let q = l.quota.1 in
+    let a = l.adds in
+    let same = ap (λ (v : CoreView). v.adds) (get_or_default c.views k d no_view h) in omega
+    arith) in
+    omega arith
+
+-- how the sums over all seats move at slot x, where seat n's view becomes v
+pub record Totals (c : Core) (n : ℕ) (v : CoreView) (x : SlotId) : Type 0 where
+  pub strong : total (listed Strong x) (set c.views n v) + listed Strong x (view_at c n)
+      ≡ total (listed Strong x) c.views + listed Strong x v
+  pub weak : total (listed Weak x) (set c.views n v) + listed Weak x (view_at c n)
+      ≡ total (listed Weak x) c.views + listed Weak x v
+  pub fin : total (λ (u : CoreView). finishing x u.phase) (set c.views n v)
+      + finishing x (view_at c n).phase ≡ total (λ (u : CoreView). finishing x u.phase) c.views
+      + finishing x v.phase
+  pub hlp : total (λ (u : CoreView). helping x u.phase) (set c.views n v)
+      + helping x (view_at c n).phase ≡ total (λ (u : CoreView). helping x u.phase) c.views
+      + helping x v.phase
+  pub fill : total (λ (u : CoreView). filling x u.phase) (set c.views n v)
+      + filling x (view_at c n).phase ≡ total (λ (u : CoreView). filling x u.phase) c.views
+      + filling x v.phase
+  pub giv : total (λ (u : CoreView). giving x u.phase) (set c.views n v)
+      + giving x (view_at c n).phase ≡ total (λ (u : CoreView). giving x u.phase) c.views
+      + giving x v.phase
+  pub dyi : total (λ (u : CoreView). times x u.dying) (set c.views n v)
+      + times x (view_at c n).dying ≡ total (λ (u : CoreView). times x u.dying) c.views
+      + times x v.dying
+  pub add : total (λ (u : CoreView). u.adds) (set c.views n v) + (view_at c n).adds
+      ≡ total (λ (u : CoreView). u.adds) c.views + v.adds
+  pub strong_in : listed Strong x (view_at c n) ≤ total (listed Strong x) c.views
+  pub weak_in : listed Weak x (view_at c n) ≤ total (listed Weak x) c.views
+  pub fin_in : finishing x (view_at c n).phase ≤ total (λ (u : CoreView). finishing x u.phase)
+      c.views
+  pub hlp_in : helping x (view_at c n).phase ≤ total (λ (u : CoreView). helping x u.phase) c.views
+  pub fill_in : filling x (view_at c n).phase ≤ total (λ (u : CoreView). filling x u.phase) c.views
+  pub giv_in : giving x (view_at c n).phase ≤ total (λ (u : CoreView). giving x u.phase) c.views
+  pub dyi_in : times x (view_at c n).dying ≤ total (λ (u : CoreView). times x u.dying) c.views
+  pub fit : total (λ (u : CoreView). u.adds) c.views < 2 ^ 60
+
+pub totals : (z : Shape) (c : Core) (n : ℕ) (v : CoreView) (x : SlotId) → Sound z c → n < z.seats
+    → Totals c n v x
+totals z c n v x so hn =
+    let h = at_seat z c n so hn in
+    record {
+      strong = total_set (listed Strong x) c.views n v h;
+      weak = total_set (listed Weak x) c.views n v h;
+      fin = total_set (λ (u : CoreView). finishing x u.phase) c.views n v h;
+      hlp = total_set (λ (u : CoreView). helping x u.phase) c.views n v h;
+      fill = total_set (λ (u : CoreView). filling x u.phase) c.views n v h;
+      giv = total_set (λ (u : CoreView). giving x u.phase) c.views n v h;
+      dyi = total_set (λ (u : CoreView). times x u.dying) c.views n v h;
+      add = total_set (λ (u : CoreView). u.adds) c.views n v h;
+      strong_in = total_at (listed Strong x) c.views n h;
+      weak_in = total_at (listed Weak x) c.views n h;
+      fin_in = total_at (λ (u : CoreView). finishing x u.phase) c.views n h;
+      hlp_in = total_at (λ (u : CoreView). helping x u.phase) c.views n h;
+      fill_in = total_at (λ (u : CoreView). filling x u.phase) c.views n h;
+      giv_in = total_at (λ (u : CoreView). giving x u.phase) c.views n h;
+      dyi_in = total_at (λ (u : CoreView). times x u.dying) c.views n h;
+      fit = adds_fit z c so;
+    }
+
+-- the two views stand alike to slot x
+pub record Alike (x : SlotId) (old new : CoreView) : Type 0 where
+  pub strong : listed Strong x new ≡ listed Strong x old
+  pub weak : listed Weak x new ≡ listed Weak x old
+  pub fin : finishing x new.phase ≡ finishing x old.phase
+  pub hlp : helping x new.phase ≡ helping x old.phase
+  pub fill : filling x new.phase ≡ filling x old.phase
+  pub giv : giving x new.phase ≡ giving x old.phase
+  pub dyi : times x new.dying ≡ times x old.dying
+
+pub alike : {x : SlotId} {old new : CoreView} → listed Strong x new ≡ listed Strong x old
+    → listed Weak x new ≡ listed Weak x old → finishing x new.phase ≡ finishing x old.phase
+    → helping x new.phase ≡ helping x old.phase → filling x new.phase ≡ filling x old.phase
+    → giving x new.phase ≡ giving x old.phase → times x new.dying ≡ times x old.dying
+    → Alike x old new
+alike a b d e f g h =
+    record { strong = a; weak = b; fin = d; hlp = e; fill = f; giv = g; dyi = h }
+
+-- the two rows of words say the same of slot x
+pub record SameWords (z : Shape) (ws ws' : List ℕ) (x : SlotId) : Type 0 where
+  pub strong : strong z (record { words = ws'; views = [] }) x
+      ≡ strong z (record { words = ws; views = [] }) x
+  pub weak : weak z (record { words = ws'; views = [] }) x
+      ≡ weak z (record { words = ws; views = [] }) x
+  pub strong_places : places Strong z ws' x ≡ places Strong z ws x
+  pub weak_places : places Weak z ws' x ≡ places Weak z ws x
+  pub fields : field_words z (record { words = ws'; views = [] }) x
+      ≡ field_words z (record { words = ws; views = [] }) x
+
+-- a slot that the step doesn't touch keeps its law
+pub law_alike : (z : Shape) (c : Core) (n : ℕ) (v : CoreView) (ws : List ℕ) (x : SlotId) → Sound z c
+    → n < z.seats
+    → (view_at c n).adds ≤ v.adds → Alike x (view_at c n) v → SameWords z c.words ws x
+    → x.0 < z.slots
+    → SlotLaw (adds_used (record { words = ws; views = set c.views n v }))
+    (numbers z (record { words = ws; views = set c.views n v }) x)
+law_alike z c n v ws x so hn more alike words hx =
+    let t = totals z c n v x so hn in
+    slot_same _ _ _ _ (so.slots x hx) (omega arith)
+    (record {
+      weak = words.weak;
+      weak_refs = omega arith;
+      filling = omega arith;
+      giving = omega
+          arith;
+      fields = words.fields;
+    })
+    (record {
+      strong = words.strong;
+      strong_refs = omega arith;
+      finishing = omega arith;
+      helping =
+          omega arith;
+      fields = words.fields;
+    })
+    (omega arith) (omega arith)
+
+-- where one slot is touched, and its law is shown, all laws stay
+pub laws_but : (z : Shape) (c : Core) (n : ℕ) (v : CoreView) (ws : List ℕ) (s : SlotId) → Sound z c
+    → n < z.seats
+    → (view_at c n).adds ≤ v.adds
+    → ((x : SlotId) → x.0 ≢ s.0 → Alike x (view_at c n) v × SameWords z c.words ws x)
+    → SlotLaw (adds_used (record { words = ws; views = set c.views n v }))
+    (numbers z (record { words = ws; views = set c.views n v }) s)
+    → (x : SlotId) → x.0 < z.slots
+    → SlotLaw (adds_used (record { words = ws; views = set c.views n v }))
+    (numbers z (record { words = ws; views = set c.views n v }) x)
+laws_but z c n v ws s so hn more others here x hx = ⊎_elim
+    (λ e. subst (λ (y : SlotId). SlotLaw (adds_used (record {
+      words = ws;
+      views = set c.views n
+          v;
+    })) (numbers z (record { words = ws; views = set c.views n v }) y)) (sym e) here)
+    (λ ne. let o = others x ne in law_alike z c n v ws x so hn more o.0 o.1 hx)
+    (slot_cases x s)
+
+-- what holds of each seat by itself
+pub seats_put : (z : Shape) (c : Core) (n : ℕ) (v : CoreView) → Sound z c → n < z.seats
+    → SeatLaw z n v
+    → (m : ℕ) → m < z.seats → SeatLaw z m (get_or (set c.views n v) m no_view)
+seats_put z c n v so hn law m hm = ⊎_elim
+    (λ e. subst (λ (k : ℕ). SeatLaw z k (get_or (set c.views n v) k no_view)) (sym e)
+    (subst (SeatLaw z n) (sym (view_same z c n v so hn)) law))
+    (λ ne. subst (SeatLaw z m) (sym (view_other c n m v ne)) (so.seats m hm))
+    (cases_eq m n)
+
+pub room_put : (z : Shape) (c : Core) (n : ℕ) (v : CoreView) (ws : List ℕ) → Sound z c → n < z.seats
+    → v.room ≡ (view_at c n).room → v.left ≡ (view_at c n).left → length v.retired
+    + length v.owed ≤ v.room
+    → Room z (record { words = ws; views = set c.views n v })
+room_put z c n v ws so hn room' left' fits = record {
+  each = All-set (λ (u : CoreView). length u.retired + length u.owed ≤ u.room) c.views n v fits
+      so.room.each;
+  others = λ m pos hm. ⊎_elim
+      (λ (e : m ≡ n).
+      let i : get_or (set c.views n v) m no_view ≡ v = rw e (view_same z c n v so hn) in
+      let r = so.room.others n (omega arith) (at_seat z c n so hn) in
+      ap (λ (u : CoreView). u.room) i ∙ (room' ∙ r))
+      (λ (ne : m ≢ n).
+      let l = length-set c.views n v in
+      ap (λ (u : CoreView). u.room) (view_other c n m v ne) ∙ so.room.others m pos (omega arith))
+      (cases_eq m n);
+  sum =
+      let t = total_set staying_room c.views n v (at_seat z c n so hn) in
+      let e : staying_room v ≡ staying_room (view_at c n) = rw (room', left') refl in
+      let s = so.room.sum in omega arith;
+}
+
+-- the words of other seats' notes stay, and this seat's notes stand in theirs
+pub announced_put : (z : Shape) (c : Core) (n : ℕ) (v : CoreView) (ws : List ℕ) → Sound z c
+    → n < z.seats
+    → ((m j : ℕ) → m < z.seats → m ≢ n → j < 4 → slice_index ws (note_at m j)
+    ≡ slice_index c.words (note_at m j))
+    → ((j : ℕ) → j < 4 → slice_index ws (note_at n j) ≡ word_of_note (note_of v j))
+    → AreAnnounced (record { words = ws; views = set c.views n v })
+announced_put z c n v ws so hn others mine m j hm hj = ⊎_elim
+    (λ e. subst (λ (k : ℕ). slice_index ws (note_at k j)
+    ≡ word_of_note (note_of (get_or (set c.views n v) k no_view) j)) (sym e)
+    (mine j hj ∙ ap (λ (u : CoreView). word_of_note (note_of u j)) (sym (view_same z c n v so hn))))
+    (λ ne.
+    let l = length-set c.views n v in
+    let sv = so.views in
+    let h : m < length c.views = omega arith in
+    others m j (omega arith) ne hj ∙ (so.announced m j h hj
+    ∙ ap (λ (u : CoreView). word_of_note (note_of u j)) (sym (view_other c n m v ne))))
+    (cases_eq m n)
+
+-- It is enough that where this seat loses its guard, or places lose the slot, the other one or the
+-- new view has it
+pub protected_put : (z : Shape) (c : Core) (n : ℕ) (v : CoreView) (ws : List ℕ) → Sound z c
+    → n < z.seats
+    → ((j : ℕ) (k : Kind) (s : SlotId) → j < 4 → note_of v j ≡ note.Valid k s
+    → (note_of (view_at c n) j ≡ note.Valid k s) ⊎ (0 < places k z ws s))
+    → ((a : ℕ) (k : Kind) (s : SlotId) → a < 4 * z.seats → slice_index c.words (1 + a) ≡ code k s
+    → (0 < guarding a k s (view_at c n) → 0 < places k z ws s + guarding a k s v)
+    × (0 < places k z c.words s → 0 < places k z ws s + guarding a k s v))
+    → AreProtected z (record { words = ws; views = set c.views n v })
+protected_put z c n v ws so hn new_notes stays m j k s hm hj valid = ⊎_elim
+    (λ e. subst (λ (i : ℕ). 0 < places k z ws s + total (guarding (4 * i + j) k s)
+    (set c.views n v)) (sym e)
+    (⊎_elim (λ was. old n hn was) (λ pos. omega arith)
+    (new_notes j k s hj (ap (λ (u : CoreView). note_of u j) (sym (view_same z c n v so hn))
+    ∙ subst (λ (i : ℕ). note_of (get_or (set c.views n v) i no_view) j ≡ note.Valid k s) e
+    valid))))
+    (λ ne. old m (let l = length-set c.views n v in let sv = so.views in omega arith)
+    (ap (λ (u : CoreView). note_of u j) (sym (view_other c n m v ne)) ∙ valid))
+    (cases_eq m n)
+  where
+    sum_stays : (P T P' T' x y : ℕ) → 0 < P + T → T' + x ≡ T + y → x ≤ T → (0 < x → 0 < P' + y)
+        → (0 < P → 0 < P' + y) → 0 < P' + T'
+    sum_stays P T P' T' x y a b c e f = grind arith
+
+    -- a note that was valid stays protected
+    old : (i : ℕ) → i < z.seats → note_of (view_at c i) j ≡ note.Valid k s
+        → 0 < places k z ws s + total (guarding (4 * i + j) k s) (set c.views n v)
+    old i hi was =
+        let h = at_seat z c i so hi in
+        let hn' = at_seat z c n so hn in
+        let same : 1 + 4 * i + j ≡ 1 + (4 * i + j) = omega arith in
+        let is : slice_index c.words (1 + (4 * i + j)) ≡ code k s =
+        subst (λ (q : ℕ). slice_index c.words q ≡ code k s) same
+        (so.announced i j h hj ∙ ap word_of_note was) in
+        let g = stays (4 * i + j) k s (omega arith) is in
+        let p = so.protected i j k s h hj was in
+        let t = total_set (guarding (4 * i + j) k s) c.views n v hn' in
+        let l = total_at (guarding (4 * i + j) k s) c.views n hn' in
+        sum_stays _ _ _ _ _ _ p t l g.0 g.1
+
+-- where all is given for the new view and the new words
+pub step_sound : (z : Shape) (c : Core) (n : ℕ) (v : CoreView) (ws : List ℕ) → Sound z c
+    → n < z.seats
+    → length ws ≡ length c.words → SeatLaw z n v
+    → ((x : SlotId) → x.0 < z.slots
+    → SlotLaw (adds_used (record { words = ws; views = set c.views n v }))
+    (numbers z (record { words = ws; views = set c.views n v }) x))
+    → AreAnnounced (record { words = ws; views = set c.views n v })
+    → AreProtected z (record { words = ws; views = set c.views n v })
+    → v.room ≡ (view_at c n).room → v.left ≡ (view_at c n).left → length v.retired
+    + length v.owed ≤ v.room
+    → ArePlacesInRange z (record { words = ws; views = set c.views n v })
+    → Sound z (record { words = ws; views = set c.views n v })
+step_sound z c n v ws so hn len law slots announced protected room' left' fits range = record {
+  shape = so.shape;
+  words = len ∙ so.words;
+  views = length-set c.views n v ∙ so.views;
+  seats = seats_put z c n v so hn law;
+  slots = slots;
+  announced = announced;
+  protected = protected;
+  room = room_put z c n v ws so hn room' left' fits;
+  range = range;
+}
+
+pub put_sound : (z : Shape) (c : Core) (n : ℕ) (v : CoreView) (p w : ℕ) → Sound z c → n < z.seats
+    → SeatLaw z n v
+    → ((x : SlotId) → x.0 < z.slots → SlotLaw (adds_used (put c n v p w))
+    (numbers z (put c n v p w) x))
+    → AreAnnounced (put c n v p w) → AreProtected z (put c n v p w)
+    → v.room ≡ (view_at c n).room → v.left ≡ (view_at c n).left → length v.retired
+    + length v.owed ≤ v.room
+    → ArePlacesInRange z (put c n v p w) → Sound z (put c n v p w)
+put_sound z c n v p w so hn = step_sound z c n v (set c.words p w) so hn (length-set c.words p w)

@@ -1,0 +1,80 @@
+-- Every event shows one plain step.
+use Rattle.std.proofs.Common.{ℕ, ◌<◌, List, [], ◌∷◌, arith}
+use Rattle.core_events.specs.declared.act.Act.{Act}
+use Rattle.core_events.specs.declared.act.Act.TheVariants as act
+use Rattle.core_events.specs.declared.act.Event.{Event}
+use Rattle.core_events.specs.declared.shape.Shape.{Shape}
+use Rattle.core_events.specs.declared.shape.Quota.{Quota}
+use Rattle.core_events.specs.Runs.{Core, Enabled, after, AreEnabled, start, IsShape, AreQuotas}
+use Rattle.core_events.specs.Shows.{shows}
+use Rattle.core_law.specs.Sound.{Sound}
+use Rattle.core_law.proofs.Always.{step_keeps}
+use Rattle.core_law.proofs.Starts.{start_sound}
+use Rattle.core_shows.specs.Shown.{ShowsStep, ShowsLike, AllShow}
+use Rattle.core_shows.proofs.ShownCounters as counter
+use Rattle.core_shows.proofs.ShownEnds as ending
+use Rattle.core_shows.proofs.ShownLeaves.{leave_shows}
+use Rattle.core_shows.proofs.ShownLives as life
+use Rattle.core_shows.proofs.ShownNotes as reading
+use Rattle.core_shows.proofs.ShownSwaps as place
+
+exactly : (z : Shape) (c : Core) (n : ℕ) (a : Act) → ShowsStep z c n a → ShowsLike z c n a
+exactly z c n a does = (shows z (after z c n a), does, place.same_self (shows z (after z c n a)))
+
+by_act : (z : Shape) (c : Core) (n : ℕ) (so : Sound z c) (hn : n < z.seats) (a : Act)
+    → Enabled z c n a → ShowsLike z c n a
+by_act z c n so hn (act.Add s) on = exactly z c n (act.Add s) (counter.add_shows z c n so hn s on)
+by_act z c n so hn (act.Drop s) on = exactly z c n (act.Drop s)
+    (counter.drop_shows z c n so hn s on)
+by_act z c n so hn act.Pay on = exactly z c n act.Pay (counter.pay_shows z c n so hn on)
+by_act z c n so hn act.Finish on = exactly z c n act.Finish (ending.finish_shows z c n so hn on)
+by_act z c n so hn act.Take on = exactly z c n act.Take (ending.take_shows z c n so hn on)
+by_act z c n so hn (act.Count s) on = exactly z c n (act.Count s)
+    (counter.count_shows z c n so hn s on)
+by_act z c n so hn act.Mark on = exactly z c n act.Mark (ending.mark_shows z c n so hn on)
+by_act z c n so hn (act.Announce j k s) on =
+    exactly z c n (act.Announce j k s) (reading.announce_shows z c n so hn j k s on)
+by_act z c n so hn (act.Release j) on = exactly z c n (act.Release j)
+    (reading.release_shows z c n so hn j on)
+by_act z c n so hn (act.Look p) on = exactly z c n (act.Look p)
+    (reading.look_shows z c n so hn p on)
+by_act z c n so hn (act.Check j p) on = place.check_shows z c n so hn j p on
+by_act z c n so hn act.Scan on = exactly z c n act.Scan (reading.scan_shows z c n so hn on)
+by_act z c n so hn (act.Swap p new) on = exactly z c n (act.Swap p new)
+    (place.swap_shows z c n so hn p new on)
+by_act z c n so hn (act.Cas p old new) on =
+    exactly z c n (act.Cas p old new) (place.cas_shows z c n so hn p old new on)
+by_act z c n so hn (act.Claim s) on = exactly z c n (act.Claim s)
+    (life.claim_shows z c n so hn s on)
+by_act z c n so hn (act.Fill i x) on = exactly z c n (act.Fill i x)
+    (life.fill_shows z c n so hn i x on)
+by_act z c n so hn act.Start on = exactly z c n act.Start (life.start_shows z c n so hn on)
+by_act z c n so hn (act.See s i) on = exactly z c n (act.See s i)
+    (reading.see_shows z c n so hn s i on)
+by_act z c n so hn act.Free on = exactly z c n act.Free (life.free_shows z c n so hn on)
+by_act z c n so hn (act.Wadd s) on = exactly z c n (act.Wadd s)
+    (reading.wadd_shows z c n so hn s on)
+by_act z c n so hn (act.Wdrop s) on = exactly z c n (act.Wdrop s)
+    (reading.wdrop_shows z c n so hn s on)
+by_act z c n so hn (act.Destroy s) on = exactly z c n (act.Destroy s)
+    (life.destroy_shows z c n so hn s on)
+by_act z c n so hn (act.Wcount s) on = exactly z c n (act.Wcount s)
+    (reading.wcount_shows z c n so hn s on)
+by_act z c n so hn (act.Leave j) on = exactly z c n (act.Leave j) (leave_shows z c n j so hn on)
+
+pub event_shows : (z : Shape) (c : Core) (n : ℕ) (a : Act) → Sound z c → Enabled z c n a
+    → ShowsLike z c n a
+event_shows z c n a so on = let sv = so.views in let h = on.0 in by_act z c n so (omega arith) a on
+
+run_shows : (z : Shape) (c : Core) (es : List Event) → Sound z c → AreEnabled z c es
+    → AllShow z c es
+run_shows z c [] so on = tt
+run_shows z c (e ∷ es) so on = (
+  event_shows z c e.seat e.act so on.0,
+  run_shows z (after z c e.seat e.act) es (step_keeps z c e.seat e.act so on.0) on.1,
+)
+
+pub always_shows : (z : Shape) (qs : List Quota) (es : List Event) → IsShape z → AreQuotas z qs
+    → AreEnabled z (start z qs) es → AllShow z (start z qs) es
+always_shows z qs es shape quotas on = run_shows z (start z qs) es
+    (start_sound z qs shape quotas) on

@@ -1,0 +1,50 @@
+-- What a core shows of its words and of its events.
+use Rattle.std.specs.Prelude.{ℕ, ◌≡◌, ◌≢◌, ◌⊎◌, false, List, [], ◌∷◌}
+use Rattle.cdrc_plain.specs.declared.slot.SlotId.{SlotId}
+use Rattle.cdrc_plain.specs.declared.slot.Stage.TheVariants.{Free, Live}
+use Rattle.cdrc_plain.specs.References.{strong_refs, weak_refs}
+use Rattle.cdrc_plain.specs.State.{Plain, slot_at, stage_at}
+use Rattle.cdrc_plain.specs.Steps.{Does}
+use Rattle.core_events.specs.declared.act.Act.{Act}
+use Rattle.core_events.specs.declared.act.Event.{Event}
+use Rattle.core_events.specs.declared.shape.Shape.{Shape}
+use Rattle.core_events.specs.Words.{ZERO, value}
+use Rattle.core_events.specs.Views.{Holds, HoldsStrongly}
+use Rattle.core_events.specs.Counts.{strong, weak, fillers, givers}
+use Rattle.core_events.specs.Runs.{Core, view_at, found, after}
+use Rattle.core_events.specs.Shows.{shows}
+use Rattle.core_events.specs.ShownSteps.{shown_act, shown_number, IsSame}
+
+-- seat n's act shows its plain step, exactly
+abbrev pub ShowsStep : Shape → Core → ℕ → Act → Type 0
+ShowsStep z c n a =
+    Does (shows z c) n (shown_act z a (found z c n a) (view_at c n))
+    (shown_number a (found z c n a))
+    (shows z (after z c n a))
+
+-- seat n's act shows its plain step, but for the order of snapshots
+abbrev pub ShowsLike : Shape → Core → ℕ → Act → Type 0
+ShowsLike z c n a =
+    (q : Plain)
+    × Does (shows z c) n (shown_act z a (found z c n a) (view_at c n))
+    (shown_number a (found z c n a)) q
+    × IsSame q (shows z (after z c n a))
+
+-- so does each of these events in its turn
+abbrev pub AllShow : Shape → Core → List Event → Type 0
+AllShow z c [] = Unit {0}
+AllShow z c (e ∷ es) = ShowsLike z c e.seat e.act × AllShow z (after z c e.seat e.act) es
+
+-- a slot's words count the references of the plain state that the core shows
+abbrev pub CountsShown : Shape → Core → SlotId → Type 0
+CountsShown z c s =
+    (value (strong z c s) ≡ strong_refs (shows z c) s)
+    × ((weak z c s ≡ weak_refs (shows z c) s)
+    ⊎ ((weak z c s ≡ ZERO) × (weak_refs (shows z c) s ≡ 0) × (fillers c s ≡ 0) × (givers c s ≡ 0)))
+
+-- what a seat holds strongly is live without a zero mark, and what it holds at all isn't free
+abbrev pub HeldStays : Shape → Core → ℕ → SlotId → Type 0
+HeldStays z c n s =
+    (HoldsStrongly (view_at c n) s
+    → (stage_at (shows z c) s ≡ Live) × ((slot_at (shows z c) s).marked ≡ false))
+    × (Holds (view_at c n) s → stage_at (shows z c) s ≢ Free)

@@ -1,0 +1,11 @@
+pub mod Going
+pub mod Holding
+pub mod Weights
+pub mod Lawfulness
+pub mod Marking
+pub mod Spreading
+pub mod Leasts
+pub mod Turning
+pub mod Offering
+pub mod Searching
+pub mod Alone

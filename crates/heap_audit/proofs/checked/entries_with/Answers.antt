@@ -1,0 +1,7 @@
+use Rattle.std.proofs.Common.{rules}
+use Rattle.cdrc_plain.specs.Lists.{entry_times}
+use Rattle.heap_audit.proofs.checked.entries_with.Goals as goal
+
+pub returns : goal.returns
+unfolding entry_times
+returns c = search rules

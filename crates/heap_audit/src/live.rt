@@ -1,0 +1,33 @@
+//! The Live slots: how many, and what they weigh.
+ghost use Rattle.std.specs.Prelude.{◌≡◌, ◌<◌, ◌≤◌, ◌^◌, length, All, sum_by};
+ghost use Rattle.deleter.specs.Weighing.{Weighs};
+ghost use Rattle.heap_audit.specs.Heaps.{live_slots, weight_of};
+
+use cdrc_plain::{Heap, PayloadKind, SlotImage, ZERO};
+use deleter::Deleter;
+
+/// How many slots are Live. One look at each slot.
+pub fn count_live(heap: &Heap) -> u64
+    ensures { result ≡ live_slots heap.now }
+{
+    heap.slots.iter().filter(|slot| slot.strong < ZERO).count() as u64
+}
+
+/// What the Live slots weigh together. One look at each slot, and one call for each Live one.
+pub fn weigh_live<W: PayloadKind, F: Fn(&[u64; 16]) -> u64>(
+    slots: &[SlotImage],
+    weigh: &Deleter<W, F>,
+) -> u64
+    requires few { length slots.now ≤ 2 ^ 22 }
+    requires fits { All (λ x. x.strong < 2 ^ 63 → W.fits x.payload) slots.now }
+    requires weighs { Weighs W.fits W.weight F.Fn weigh.now.closure }
+    ensures { result ≡ sum_by (weight_of W.weight) slots.now }
+{
+    let mut bytes = 0;
+    for slot in slots {
+        if slot.strong < ZERO {
+            bytes += weigh.call(&slot.payload);
+        }
+    }
+    bytes
+}
