@@ -1,4 +1,4 @@
--- The plain steps, where the seat and the slot are known.
+-- The rows of the plain steps, where the seat and the slot are known.
 use Rattle.std.proofs.Common.{◌≡◌, ◌⊎◌, inl, inr, ℕ, ◌+◌, ◌<◌, true, false, List, [], ◌∷◌, ◌++◌, length, refl, ap, ◌∙◌}
 use Rattle.std.specs.Prelude.{slice_set, Some, None}
 use Rattle.cdrc_plain.specs.declared.act.PlainAct.TheVariants as plain
@@ -11,54 +11,74 @@ use Rattle.cdrc_plain.specs.State.{Plain, PlainSeat, seat_at, slot_at, with_seat
 use Rattle.cdrc_plain.specs.Places.{Holds, held_times}
 use Rattle.cdrc_plain.specs.References.{strong_refs, weak_refs}
 use Rattle.cdrc_plain.specs.Lawful.{IsCovered, HasNullFields}
-use Rattle.cdrc_plain.specs.Steps.{Does, IsReordering}
+use Rattle.cdrc_plain.specs.Steps.{Row, IsReordering}
+use Rattle.core_events.specs.declared.act.Act.{Act}
+use Rattle.core_events.specs.declared.shape.Shape.{Shape}
+use Rattle.core_events.specs.Runs.{Core, view_at, found, after}
+use Rattle.core_events.specs.Shows.{shows}
+use Rattle.core_events.specs.ShownSteps.{shown_act, shown_number, IsSame}
+
+-- seat n's act shows the row of its plain step, exactly
+abbrev pub ShowsRow : Shape → Core → ℕ → Act → Type 0
+ShowsRow z c n a =
+    Row (shows z c) n (shown_act z a (found z c n a) (view_at c n))
+    (shown_number a (found z c n a))
+    (shows z (after z c n a))
+
+-- seat n's act shows the row of its plain step, but for the order of snapshots
+abbrev pub LikeRow : Shape → Core → ℕ → Act → Type 0
+LikeRow z c n a =
+    (q : Plain)
+    × Row (shows z c) n (shown_act z a (found z c n a) (view_at c n))
+    (shown_number a (found z c n a)) q
+    × IsSame q (shows z (after z c n a))
 
 module _ (p q : Plain) (n : ℕ) (y : PlainSeat) (is : seat_at p n ≡ y) where
   -- a seat with its own view written back is the seat
   pub does_add_up : (s : SlotId) → Holds y s → (slot_at p s).marked ≡ false
       → q ≡ with_seat p n (record y { owned = y.owned ++ s ∷ []; adds = y.adds + 1 })
-      → Does p n (plain.Add s) 0 q
+      → Row p n (plain.Add s) 0 q
   does_add_up s held mark e = (rw is held, inl (refl, mark, rw is e))
 
   pub does_add_dead : (s : SlotId) → Holds y s → (slot_at p s).marked ≡ true
-      → q ≡ with_seat p n (record y { adds = y.adds + 1 }) → Does p n (plain.Add s) 1 q
+      → q ≡ with_seat p n (record y { adds = y.adds + 1 }) → Row p n (plain.Add s) 1 q
   does_add_dead s held mark e = (rw is held, inr (refl, mark, rw is e))
 
   pub does_drop : (s : SlotId) (xs : List SlotId) → Loses y.owned s xs
-      → q ≡ with_seat p n (record y { owned = xs }) → Does p n (plain.Drop s) 0 q
+      → q ≡ with_seat p n (record y { owned = xs }) → Row p n (plain.Drop s) 0 q
   does_drop s xs loses e = (xs, rw is loses, refl, rw is e)
 
   pub does_weak_gain : (s : SlotId) → Holds y s
       → q ≡ with_seat p n (record y { weaks = y.weaks ++ s ∷ []; adds = y.adds + 1 })
-      → Does p n (plain.WeakGain s) 0 q
+      → Row p n (plain.WeakGain s) 0 q
   does_weak_gain s held e = (rw is held, refl, rw is e)
 
   pub does_weak_drop : (s : SlotId) (xs : List SlotId) → Loses y.weaks s xs
-      → q ≡ with_seat p n (record y { weaks = xs }) → Does p n (plain.WeakDrop s) 0 q
+      → q ≡ with_seat p n (record y { weaks = xs }) → Row p n (plain.WeakDrop s) 0 q
   does_weak_drop s xs loses e = (xs, rw is loses, refl, rw is e)
 
   pub does_end_snapshot : (k : Kind) (s : SlotId) (es : List Entry) → Loses y.snapshots (k, s) es
-      → q ≡ with_seat p n (record y { snapshots = es }) → Does p n (plain.EndSnapshot k s) 0 q
+      → q ≡ with_seat p n (record y { snapshots = es }) → Row p n (plain.EndSnapshot k s) 0 q
   does_end_snapshot k s es loses e = (es, rw is loses, refl, rw is e)
 
   pub does_eject : (k : Kind) (s : SlotId) (es : List Entry) → Loses y.deferred (k, s) es
       → q ≡ with_seat p n (record y { deferred = es }) → IsCovered q
-      → Does p n (plain.Eject k s) 0 q
+      → Row p n (plain.Eject k s) 0 q
   does_eject k s es loses e covered = (es, rw is loses, refl, rw is e, covered)
 
   pub does_split : (es : List Entry) → IsReordering y.deferred es
-      → q ≡ with_seat p n (record y { deferred = es }) → Does p n plain.Split 0 q
+      → q ≡ with_seat p n (record y { deferred = es }) → Row p n plain.Split 0 q
   does_split es order e = (refl, (es, rw is order, rw is e))
 
   pub does_count : (s : SlotId) (m : ℕ) → Holds y s → m ≡ strong_refs p s → q ≡ p
-      → Does p n (plain.Count s) m q
+      → Row p n (plain.Count s) m q
   does_count s m held e same = (rw is held, e, same)
 
-  pub does_weak_count : (s : SlotId) → Holds y s → q ≡ p → Does p n (plain.WeakCount s) 0 q
+  pub does_weak_count : (s : SlotId) → Holds y s → q ≡ p → Row p n (plain.WeakCount s) 0 q
   does_weak_count s held same = (rw is held, refl, same)
 
   pub does_see : (s : SlotId) (i : ℕ) → 0 < held_times s y + times s y.dying → i < 16 → q ≡ p
-      → Does p n (plain.See s i) 0 q
+      → Row p n (plain.See s i) 0 q
   does_see s i held small same = (rw is held, small, refl, same)
 
   -- slot s is x
@@ -66,12 +86,12 @@ module _ (p q : Plain) (n : ℕ) (y : PlainSeat) (is : seat_at p n ≡ y) where
     pub does_claim : s.0 < length p.slots → x.stage ≡ Free
         → q ≡ with_slot (with_seat p n (record y { filling = Some s })) s
         (record x { stage = Blank })
-        → Does p n (plain.Claim s) 0 q
+        → Row p n (plain.Claim s) 0 q
     does_claim hs st e = (hs, rw there st, refl, rw (is, there) e)
 
     pub does_fill : (i w : ℕ) → x.stage ≡ Blank → y.filling ≡ Some s → i < 16
         → q ≡ with_slot p s (record x { payload = slice_set x.payload i w })
-        → Does p n (plain.Fill s i w) 0 q
+        → Row p n (plain.Fill s i w) 0 q
     does_fill i w st fills small e = (rw there st, rw is fills, small, refl, rw there e)
 
     pub does_make : x.stage ≡ Blank → y.filling ≡ Some s
@@ -82,17 +102,17 @@ module _ (p q : Plain) (n : ℕ) (y : PlainSeat) (is : seat_at p n ≡ y) where
           adds = y.adds + 1;
         })) s
         (record x { stage = Live; marked = false; life = x.life + 1 })
-        → Does p n (plain.Make s) 0 q
+        → Row p n (plain.Make s) 0 q
     does_make st fills e = (rw there st, rw is fills, refl, rw (is, there) e)
 
     pub does_end : x.stage ≡ Live → (x.marked ≡ true) ⊎ (strong_refs p s ≡ 0)
         → q ≡ with_slot (with_seat p n (record y { dying = y.dying ++ s ∷ [] })) s
         (record x { stage = Ended; marked = true })
-        → Does p n (plain.End s) 0 q
+        → Row p n (plain.End s) 0 q
     does_end st over e = (rw there st, rw there over, refl, rw (is, there) e)
 
     pub does_mark : (m : ℕ) → m ≡ strong_refs p s → x.stage ≡ Live → strong_refs p s ≡ 0
-        → q ≡ with_slot p s (record x { marked = true }) → Does p n (plain.Mark s) m q
+        → q ≡ with_slot p s (record x { marked = true }) → Row p n (plain.Mark s) m q
     does_mark m e st none f = (
       e,
       inr (
@@ -105,10 +125,10 @@ module _ (p q : Plain) (n : ℕ) (y : PlainSeat) (is : seat_at p n ≡ y) where
 
     pub does_destroy : (xs : List SlotId) → HasNullFields x → Loses y.dying s xs
         → q ≡ with_slot (with_seat p n (record y { dying = xs })) s (record x { stage = Husk })
-        → Does p n (plain.Destroy s) 0 q
+        → Row p n (plain.Destroy s) 0 q
     does_destroy xs nulls loses e = (rw there nulls, refl, (xs, rw is loses, rw (is, there) e))
 
     pub does_give : x.stage ≡ Husk → weak_refs p s ≡ 0 → q
         ≡ with_slot p s (record x { stage = Free })
-        → Does p n (plain.Give s) 0 q
+        → Row p n (plain.Give s) 0 q
     does_give st none e = (ap (λ (u : PlainSlot). u.stage) there ∙ st, none, refl, rw there e)

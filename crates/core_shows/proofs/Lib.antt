@@ -4,6 +4,7 @@ pub mod Lawful
 pub mod Frames
 pub mod Stages
 pub mod Does
+pub mod Seats
 pub mod Quiet
 pub mod Ranges
 pub mod Losing

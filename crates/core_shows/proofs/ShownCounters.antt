@@ -11,7 +11,7 @@ use Rattle.cdrc_plain.specs.declared.slot.PlainSlot.{PlainSlot}
 use Rattle.cdrc_plain.specs.Lists.{Entry, entry_times, Loses}
 use Rattle.cdrc_plain.specs.References.{strong_refs}
 use Rattle.cdrc_plain.specs.State.{Plain, PlainSeat, seat_at, with_seat, new_seat}
-use Rattle.cdrc_plain.specs.Steps.{Does}
+use Rattle.cdrc_plain.specs.Steps.{Row}
 use Rattle.core_events.specs.declared.act.Act.TheVariants as act
 use Rattle.core_events.specs.declared.outcome.Outcome.TheVariants as outcome
 use Rattle.core_events.specs.declared.shape.Shape.{Shape}
@@ -24,7 +24,7 @@ use Rattle.core_events.specs.Runs.{Core, Enabled, view_at}
 use Rattle.core_events.specs.Counts.{strong, weak, adds_used, listed}
 use Rattle.core_events.specs.Shows.{shows, show_seat}
 use Rattle.core_events.specs.ShownSteps.{ejects}
-use Rattle.core_shows.specs.Shown.{ShowsStep}
+use Rattle.core_shows.proofs.Does.{ShowsRow}
 use Rattle.core_law.specs.Slots.{numbers}
 use Rattle.core_law.specs.Sound.{Sound}
 use Rattle.core_law.proofs.Kit.{total_at, entry_cons, one_same}
@@ -62,7 +62,7 @@ module _ (z : Shape) (c : Core) (n : ℕ) (so : Sound z c) (hn : n < z.seats) wh
   fit : adds_used c < 2 ^ 60
   fit = adds_fit z c so
 
-  pub add_shows : (s : SlotId) → Enabled z c n (act.Add s) → ShowsStep z c n (act.Add s)
+  pub add_shows : (s : SlotId) → Enabled z c n (act.Add s) → ShowsRow z c n (act.Add s)
   add_shows s on = go (nat_lt (strong z c s) ZERO) refl (step_keeps z c n (act.Add s) so on)
     where
       hs : s.0 < z.slots
@@ -73,7 +73,7 @@ module _ (z : Shape) (c : Core) (n : ℕ) (so : Sound z c) (hn : n < z.seats) wh
           (if b then record v { owned = v.owned ++ s ∷ []; adds = v.adds + 1 } else record v
           { adds = v.adds + 1 }))
           (strong_at z s) (plus_one (strong z c s)))
-          → Does (shows z c) n (plain.Add s) (if b then 0 else 1)
+          → Row (shows z c) n (plain.Add s) (if b then 0 else 1)
           (shows z (put c n (noted (act.Add s) (if b then outcome.Up else outcome.Dead)
           (if b then record v { owned = v.owned ++ s ∷ []; adds = v.adds + 1 } else record v
           { adds = v.adds + 1 }))
@@ -97,7 +97,7 @@ module _ (z : Shape) (c : Core) (n : ℕ) (so : Sound z c) (hn : n < z.seats) wh
           marked' : has_zero (strong z c s) ≡ true
           marked' = grind (arith, nat_tests)
 
-  pub drop_shows : (s : SlotId) → Enabled z c n (act.Drop s) → ShowsStep z c n (act.Drop s)
+  pub drop_shows : (s : SlotId) → Enabled z c n (act.Drop s) → ShowsRow z c n (act.Drop s)
   drop_shows s on = go (strong z c s == 1) (step_keeps z c n (act.Drop s) so on)
     where
       hs : s.0 < z.slots
@@ -118,7 +118,7 @@ module _ (z : Shape) (c : Core) (n : ℕ) (so : Sound z c) (hn : n < z.seats) wh
                 phase.Idle;
           }))
           (strong_at z s) (minus_one (strong z c s)))
-          → Does (shows z c) n (plain.Drop s) 0
+          → Row (shows z c) n (plain.Drop s) 0
           (shows z (put c n (noted (act.Drop s) (if b then outcome.Zeroed else outcome.Left)
           (record v {
             owned = without s v.owned;
@@ -147,7 +147,7 @@ module _ (z : Shape) (c : Core) (n : ℕ) (so : Sound z c) (hn : n < z.seats) wh
           }) flags
           ∙ ap (with_seat (shows z c) n) (rw on.1.0.0 refl))
 
-  pub pay_shows : Enabled z c n act.Pay → ShowsStep z c n act.Pay
+  pub pay_shows : Enabled z c n act.Pay → ShowsRow z c n act.Pay
   pay_shows on = of v.owed refl (step_keeps z c n act.Pay so on)
     where
       loses : (k : Kind) (s : SlotId) (rest : List Entry) → v.owed ≡ (k, s) ∷ rest
@@ -163,7 +163,7 @@ module _ (z : Shape) (c : Core) (n : ℕ) (so : Sound z c) (hn : n < z.seats) wh
           → Sound z (put c n (noted act.Pay (if b then outcome.Zeroed else outcome.Left)
           (record v { owed = rest; phase = if b then phase.Finish s else phase.Idle }))
           (strong_at z s) (minus_one (strong z c s)))
-          → Does (shows z c) n (plain.Eject Strong s) 0
+          → Row (shows z c) n (plain.Eject Strong s) 0
           (shows z (put c n (noted act.Pay (if b then outcome.Zeroed else outcome.Left)
           (record v { owed = rest; phase = if b then phase.Finish s else phase.Idle }))
           (strong_at z s) (minus_one (strong z c s))))
@@ -202,7 +202,7 @@ module _ (z : Shape) (c : Core) (n : ℕ) (so : Sound z c) (hn : n < z.seats) wh
           → Sound z (put c n (noted act.Pay (if b then outcome.Last else outcome.Left)
           (record v { owed = rest; phase = if b then phase.Give s else phase.Idle }))
           (weak_at z s) (minus_one (weak z c s)))
-          → Does (shows z c) n (plain.Eject Weak s) 0
+          → Row (shows z c) n (plain.Eject Weak s) 0
           (shows z (put c n (noted act.Pay (if b then outcome.Last else outcome.Left)
           (record v { owed = rest; phase = if b then phase.Give s else phase.Idle }))
           (weak_at z s) (minus_one (weak z c s))))
@@ -242,7 +242,7 @@ module _ (z : Shape) (c : Core) (n : ℕ) (so : Sound z c) (hn : n < z.seats) wh
           → Sound z (put c n (noted act.Pay (decremented k (slice_index c.words (counter_at z k s)))
           (given_up k s (slice_index c.words (counter_at z k s)) (record v { owed = rest })))
           (counter_at z k s) (minus_one (slice_index c.words (counter_at z k s))))
-          → Does (shows z c) n (plain.Eject k s) 0
+          → Row (shows z c) n (plain.Eject k s) 0
           (shows z (put c n (noted act.Pay (decremented k (slice_index c.words (counter_at z k s)))
           (given_up k s (slice_index c.words (counter_at z k s)) (record v { owed = rest })))
           (counter_at z k s) (minus_one (slice_index c.words (counter_at z k s)))))
@@ -253,14 +253,14 @@ module _ (z : Shape) (c : Core) (n : ℕ) (so : Sound z c) (hn : n < z.seats) wh
           → Sound z (put c n (noted act.Pay (paid_outcome (slice_index c.words (owed_at z es)) es)
           (paid (slice_index c.words (owed_at z es)) es v))
           (owed_at z es) (minus_one (slice_index c.words (owed_at z es))))
-          → Does (shows z c) n (ejects es) 0
+          → Row (shows z c) n (ejects es) 0
           (shows z (put c n (noted act.Pay (paid_outcome (slice_index c.words (owed_at z es)) es)
           (paid (slice_index c.words (owed_at z es)) es v))
           (owed_at z es) (minus_one (slice_index c.words (owed_at z es)))))
       of [] owes so' = absurd (on.1.1 owes)
       of (e ∷ rest) owes so' = first e.0 e.1 rest owes so'
 
-  pub count_shows : (s : SlotId) → Enabled z c n (act.Count s) → ShowsStep z c n (act.Count s)
+  pub count_shows : (s : SlotId) → Enabled z c n (act.Count s) → ShowsRow z c n (act.Count s)
   count_shows s on = go (strong z c s == 0)
     where
       hs : s.0 < z.slots
@@ -269,7 +269,7 @@ module _ (z : Shape) (c : Core) (n : ℕ) (so : Sound z c) (hn : n < z.seats) wh
       reads : value (strong z c s) ≡ strong_refs (shows z c) s
       reads = value_is _ (numbers z c s) (so.slots s hs) fit ∙ sym (shown_strong z c s)
 
-      go : (b : Bool) → Does (shows z c) n (plain.Count s) (value (strong z c s))
+      go : (b : Bool) → Row (shows z c) n (plain.Count s) (value (strong z c s))
           (shows z (put c n (noted (act.Count s) (if b then outcome.Again else outcome.Number
           (value (strong z c s)))
           (if b then record v { phase = phase.Zero s } else v)) (strong_at z s) (strong z c s)))

@@ -1,16 +1,17 @@
 -- A finish, a take and a mark show a plain step each.
 use Rattle.std.proofs.Common.{◌≡◌, ◌⊎◌, inl, inr, ℕ, ◌+◌, ◌-◌, ◌^◌, ◌<◌, ◌≤◌, Bool, true, false, List, [], ◌∷◌, ◌++◌, length, set, refl, ap, sym, ◌∙◌, subst, arith}
-use Rattle.std.specs.Prelude.{slice_index, ◌==◌, bit_and, if◌then◌else◌, Option}
+use Rattle.std.specs.Prelude.{slice_index, ◌==◌, nat_lt, bit_and, if◌then◌else◌, Option}
 use prog.Atomic.{either}
 use Rattle.std.proofs.lemmas.List.{get_or-set_same}
 use Rattle.std.proofs.lemmas.Bool.Decides.{nat_tests}
 use Rattle.cdrc_plain.specs.declared.act.PlainAct.TheVariants as plain
+use Rattle.cdrc_plain.specs.declared.slot.PlainSlot.{PlainSlot}
 use Rattle.cdrc_plain.specs.declared.slot.SlotId.{SlotId}
 use Rattle.cdrc_plain.specs.declared.slot.Stage.TheVariants.{Live, Ended}
 use Rattle.cdrc_plain.specs.Lists.{times}
 use Rattle.cdrc_plain.specs.References.{strong_refs}
 use Rattle.cdrc_plain.specs.State.{Plain, seat_at, with_seat, with_slot}
-use Rattle.cdrc_plain.specs.Steps.{Does}
+use Rattle.cdrc_plain.specs.Steps.{Row}
 use Rattle.core_events.specs.declared.act.Act.TheVariants as act
 use Rattle.core_events.specs.declared.outcome.Outcome.TheVariants as outcome
 use Rattle.core_events.specs.declared.shape.Shape.{Shape}
@@ -36,9 +37,17 @@ use Rattle.core_shows.proofs.Changes.{strong_changes}
 use Rattle.core_shows.proofs.Does as does
 use Rattle.core_shows.proofs.Quiet.{Quiet, still_quiet, lives_same}
 use Rattle.core_shows.proofs.Ranges.{refs_le}
-use Rattle.core_shows.specs.Shown.{ShowsStep}
+use Rattle.core_shows.proofs.Does.{ShowsRow}
 use Rattle.core_shows.proofs.ShownCounters.{same_plain}
 use Rattle.core_shows.proofs.Stages.{live_counted, live_asked, ended_dying}
+
+-- a word other than 0 counts 0 only where the zero flag stands
+zero_stands : (w : ℕ) → (w == 0) ≡ false → value w ≡ 0 → has_zero w ≡ true
+zero_stands w test = go (nat_lt w ZERO) refl
+  where
+    go : (b : Bool) → nat_lt w ZERO ≡ b → (if b then w else 0) ≡ 0 → has_zero w ≡ true
+    go true low none = absurd (grind (arith, nat_tests))
+    go false high none = grind (arith, nat_tests)
 
 module _ (z : Shape) (c : Core) (n : ℕ) (so : Sound z c) (hn : n < z.seats) where
   abbrev v : CoreView
@@ -60,7 +69,7 @@ module _ (z : Shape) (c : Core) (n : ℕ) (so : Sound z c) (hn : n < z.seats) wh
       → has_zero w ≡ true
       → Sound z (put c n (record v { dying = v.dying ++ s ∷ []; phase = phase.Idle; trail = t })
       (strong_at z s) w)
-      → Does (shows z c) n (plain.End s) 0
+      → Row (shows z c) n (plain.End s) 0
       (shows z (put c n (record v { dying = v.dying ++ s ∷ []; phase = phase.Idle; trail = t })
       (strong_at z s) w))
   ends s t w hs fill none live over mark so' =
@@ -91,16 +100,16 @@ module _ (z : Shape) (c : Core) (n : ℕ) (so : Sound z c) (hn : n < z.seats) wh
 
   -- nothing but the phase changes
   stays : (u : CoreView) (p : ℕ) → ((x : SlotId) → Quiet x v u) → show_seat u ≡ show_seat v
-      → Does (shows z c) n plain.Still 0 (shows z (put c n u p (slice_index c.words p)))
+      → Row (shows z c) n plain.Still 0 (shows z (put c n u p (slice_index c.words p)))
   stays u p quiet same = (
     refl,
     same_plain (shows z c) _ n (show_seat u)
         (still_quiet z c n u p so hn quiet) (same ∙ sym is),
   )
 
-  pub finish_shows : Enabled z c n act.Finish → ShowsStep z c n act.Finish
+  pub finish_shows : Enabled z c n act.Finish → ShowsRow z c n act.Finish
   finish_shows on = subst
-      (λ (y : SlotId). Does (shows z c) n (if strong z c y == 0 then plain.End y else plain.Still) 0
+      (λ (y : SlotId). Row (shows z c) n (if strong z c y == 0 then plain.End y else plain.Still) 0
       (shows z (put c n (noted act.Finish
       (if strong z c y == 0 then outcome.Ended else if has_help
       (strong z c y) then outcome.Help else outcome.Lost)
@@ -132,7 +141,7 @@ module _ (z : Shape) (c : Core) (n : ℕ) (so : Sound z c) (hn : n < z.seats) wh
           let p = in_finish v.phase x on.1.0 on.1.1 in
           record { fill = omega arith; dyi = ap (times x) f; made = ap (times x) g }
 
-      lost : (b : Bool) → Does (shows z c) n plain.Still 0 (shows z (put c n (noted act.Finish
+      lost : (b : Bool) → Row (shows z c) n plain.Still 0 (shows z (put c n (noted act.Finish
           (if b then outcome.Help else outcome.Lost) (record v
           { phase = if b then phase.Help on.1.0 else phase.Idle }))
           (strong_at z on.1.0) (strong z c on.1.0)))
@@ -146,7 +155,7 @@ module _ (z : Shape) (c : Core) (n : ℕ) (so : Sound z c) (hn : n < z.seats) wh
           (ended b on.1.0 (if has_help (strong z c on.1.0) then phase.Help on.1.0 else phase.Idle)
           v))
           (strong_at z on.1.0) (either b ZERO (strong z c on.1.0)))
-          → Does (shows z c) n (if b then plain.End on.1.0 else plain.Still) 0
+          → Row (shows z c) n (if b then plain.End on.1.0 else plain.Still) 0
           (shows z (put c n (noted act.Finish
           (if b then outcome.Ended else if has_help (strong z c on.1.0) then outcome.Help else
           outcome.Lost)
@@ -163,9 +172,9 @@ module _ (z : Shape) (c : Core) (n : ℕ) (so : Sound z c) (hn : n < z.seats) wh
           (inr (omega arith)) refl so'
       go false test so' = lost (has_help (strong z c on.1.0))
 
-  pub take_shows : Enabled z c n act.Take → ShowsStep z c n act.Take
+  pub take_shows : Enabled z c n act.Take → ShowsRow z c n act.Take
   take_shows on = subst
-      (λ (y : SlotId). Does (shows z c) n (if has_help (strong z c y) then plain.End y else
+      (λ (y : SlotId). Row (shows z c) n (if has_help (strong z c y) then plain.End y else
       plain.Still) 0
       (shows z (put c n (noted act.Take (if has_help (strong z c y) then outcome.Ended else
       outcome.NoHelp)
@@ -200,7 +209,7 @@ module _ (z : Shape) (c : Core) (n : ℕ) (so : Sound z c) (hn : n < z.seats) wh
           → Sound z (put c n (noted act.Take (if b then outcome.Ended else outcome.NoHelp)
           (ended b on.1.0 phase.Idle v))
           (strong_at z on.1.0) (bit_and (strong z c on.1.0) (2 ^ 64 - 1 - HELP)))
-          → Does (shows z c) n (if b then plain.End on.1.0 else plain.Still) 0
+          → Row (shows z c) n (if b then plain.End on.1.0 else plain.Still) 0
           (shows z (put c n (noted act.Take (if b then outcome.Ended else outcome.NoHelp)
           (ended b on.1.0 phase.Idle v))
           (strong_at z on.1.0) (bit_and (strong z c on.1.0) (2 ^ 64 - 1 - HELP))))
@@ -221,7 +230,7 @@ module _ (z : Shape) (c : Core) (n : ℕ) (so : Sound z c) (hn : n < z.seats) wh
               → has_zero w ≡ true
           marked' e big = grind (arith, nat_tests)
       go false test so' =
-          subst (λ (w : ℕ). Does (shows z c) n plain.Still 0
+          subst (λ (w : ℕ). Row (shows z c) n plain.Still 0
           (shows z (put c n (noted act.Take outcome.NoHelp (ended false on.1.0 phase.Idle v))
           (strong_at z on.1.0) w)))
           (sym (mask false test))
@@ -237,9 +246,9 @@ module _ (z : Shape) (c : Core) (n : ℕ) (so : Sound z c) (hn : n < z.seats) wh
   marked' s = noted act.Mark (outcome.Number (value (strong z c s)))
       (record v { phase = phase.Idle })
 
-  pub mark_shows : Enabled z c n act.Mark → ShowsStep z c n act.Mark
+  pub mark_shows : Enabled z c n act.Mark → ShowsRow z c n act.Mark
   mark_shows on = subst
-      (λ (y : SlotId). Does (shows z c) n (plain.Mark y) (value (strong z c y))
+      (λ (y : SlotId). Row (shows z c) n (plain.Mark y) (value (strong z c y))
       (shows z (put c n (noted act.Mark (outcome.Number (value (strong z c y)))
       (record v { phase = phase.Idle }))
       (strong_at z y) (either (strong z c y == 0) (ZERO + HELP) (strong z c y)))))
@@ -271,7 +280,7 @@ module _ (z : Shape) (c : Core) (n : ℕ) (so : Sound z c) (hn : n < z.seats) wh
           → Sound z (put c n (noted act.Mark (outcome.Number (value (strong z c on.1.0)))
           (record v { phase = phase.Idle }))
           (strong_at z on.1.0) (either b (ZERO + HELP) (strong z c on.1.0)))
-          → Does (shows z c) n (plain.Mark on.1.0) (value (strong z c on.1.0))
+          → Row (shows z c) n (plain.Mark on.1.0) (value (strong z c on.1.0))
           (shows z (put c n (noted act.Mark (outcome.Number (value (strong z c on.1.0)))
           (record v { phase = phase.Idle }))
           (strong_at z on.1.0) (either b (ZERO + HELP) (strong z c on.1.0))))
@@ -302,7 +311,11 @@ module _ (z : Shape) (c : Core) (n : ℕ) (so : Sound z c) (hn : n < z.seats) wh
           (rw at refl ∙ sym is)))
       go false test so' = (
         reads,
-        inl (same_plain (shows z c) _ n _
-            (still_quiet z c n _ (strong_at z on.1.0) so hn (λ x. quiet x _))
-            (rw at refl ∙ sym is)),
+        inl (
+          same_plain (shows z c) _ n _
+              (still_quiet z c n _ (strong_at z on.1.0) so hn (λ x. quiet x _))
+              (rw at refl ∙ sym is),
+          λ none. ap (λ (x : PlainSlot). x.marked) (shown_slot z c on.1.0 hs)
+              ∙ zero_stands (strong z c on.1.0) test none,
+        ),
       )

@@ -23,7 +23,7 @@ use Rattle.core_law.proofs.Put.{at_seat}
 use Rattle.core_shows.proofs.Bridge.{shown_seat}
 use Rattle.core_shows.proofs.Frames.{plain_eq, slot_kept}
 use Rattle.core_shows.proofs.Lists.{each_same}
-use Rattle.core_shows.specs.Shown.{ShowsStep}
+use Rattle.core_shows.proofs.Does.{ShowsRow}
 
 -- where no note is valid there is no snapshot
 none_valid : (ns : List Note) → ((j : ℕ) → get_or ns j note.Idle ≡ note.Idle) → valid_of ns ≡ []
@@ -99,7 +99,7 @@ module _ (z : Shape) (c : Core) (so : Sound z c) (j : ℕ) (other : j ≢ 0) (hj
       (each_same z.slots _ _ (λ x l. slot_same (record { 0 = x })))
 
 pub leave_shows : (z : Shape) (c : Core) (n j : ℕ) → Sound z c → n < z.seats
-    → Enabled z c n (act.Leave j) → ShowsStep z c n (act.Leave j)
+    → Enabled z c n (act.Leave j) → ShowsRow z c n (act.Leave j)
 leave_shows z c n j so hn on =
     let number = (so.seats n hn).number in
     let first = on.1.0 in

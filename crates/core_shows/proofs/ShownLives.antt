@@ -12,7 +12,7 @@ use Rattle.cdrc_plain.specs.Lists.{times}
 use Rattle.cdrc_plain.specs.Lawful.{HasNullFields}
 use Rattle.cdrc_plain.specs.References.{own_reference}
 use Rattle.cdrc_plain.specs.State.{Plain, seat_at, with_seat, with_slot}
-use Rattle.cdrc_plain.specs.Steps.{Does}
+use Rattle.cdrc_plain.specs.Steps.{Row}
 use Rattle.core_events.specs.declared.act.Act.TheVariants as act
 use Rattle.core_events.specs.declared.outcome.Outcome.TheVariants as outcome
 use Rattle.core_events.specs.declared.shape.Shape.{Shape}
@@ -40,7 +40,7 @@ use Rattle.core_shows.proofs.Lists.{length_each, each_set}
 use Rattle.core_shows.proofs.Losing.{loses_without}
 use Rattle.core_shows.proofs.Quiet.{Quiet, still_quiet, lives_same, fillers_same, dying_same, slot_quiet, rest_same}
 use Rattle.core_shows.proofs.Ranges.{giving_none, Dying, dying_is}
-use Rattle.core_shows.specs.Shown.{ShowsStep}
+use Rattle.core_shows.proofs.Does.{ShowsRow}
 use Rattle.core_shows.proofs.ShownCounters.{same_plain}
 use Rattle.core_shows.proofs.Stages.{live_counted, blank_filled, free_weak, husk_left, husk_giving}
 
@@ -57,7 +57,7 @@ module _ (z : Shape) (c : Core) (n : ℕ) (so : Sound z c) (hn : n < z.seats) wh
   fit : adds_used c < 2 ^ 60
   fit = adds_fit z c so
 
-  pub claim_shows : (s : SlotId) → Enabled z c n (act.Claim s) → ShowsStep z c n (act.Claim s)
+  pub claim_shows : (s : SlotId) → Enabled z c n (act.Claim s) → ShowsRow z c n (act.Claim s)
   claim_shows s on = go (weak z c s == ZERO) refl (step_keeps z c n (act.Claim s) so on)
     where
       hs : s.0 < z.slots
@@ -67,7 +67,7 @@ module _ (z : Shape) (c : Core) (n : ℕ) (so : Sound z c) (hn : n < z.seats) wh
           → Sound z (put c n (noted (act.Claim s) (if b then outcome.Claimed else outcome.Taken)
           (if b then record v { makes = v.makes + 1; phase = phase.Blank s } else v)) (weak_at z s)
           (either b 1 (weak z c s)))
-          → Does (shows z c) n (if b then plain.Claim s else plain.Still) 0
+          → Row (shows z c) n (if b then plain.Claim s else plain.Still) 0
           (shows z (put c n (noted (act.Claim s) (if b then outcome.Claimed else outcome.Taken)
           (if b then record v { makes = v.makes + 1; phase = phase.Blank s } else v)) (weak_at z s)
           (either b 1 (weak z c s))))
@@ -121,7 +121,7 @@ module _ (z : Shape) (c : Core) (n : ℕ) (so : Sound z c) (hn : n < z.seats) wh
 
   -- one payload word of the slot that is filled
   filled_payload : (s : SlotId) (i x : ℕ) (t : List Move) → v.phase ≡ phase.Blank s → i < 16
-      → Does (shows z c) n (plain.Fill s i x) 0 (shows z
+      → Row (shows z c) n (plain.Fill s i x) 0 (shows z
       (put c n (record v { trail = t }) (payload_at z s i) x))
   filled_payload s i x t at small =
       let b = blank_here s at in
@@ -180,16 +180,16 @@ module _ (z : Shape) (c : Core) (n : ℕ) (so : Sound z c) (hn : n < z.seats) wh
               → stage_of a' b' e' g' ≡ stage_of a b e g
           stages p q r s' = cc
 
-  pub fill_shows : (i x : ℕ) → Enabled z c n (act.Fill i x) → ShowsStep z c n (act.Fill i x)
+  pub fill_shows : (i x : ℕ) → Enabled z c n (act.Fill i x) → ShowsRow z c n (act.Fill i x)
   fill_shows i x on = subst
-      (λ (y : SlotId). Does (shows z c) n (plain.Fill y i x) 0
+      (λ (y : SlotId). Row (shows z c) n (plain.Fill y i x) 0
       (shows z (put c n (noted (act.Fill i x) outcome.Plain v) (payload_at z y i) x)))
       (sym (ap slot_of on.1.0.1))
       (filled_payload on.1.0.0 i x _ on.1.0.1 on.1.1)
 
-  pub start_shows : Enabled z c n act.Start → ShowsStep z c n act.Start
+  pub start_shows : Enabled z c n act.Start → ShowsRow z c n act.Start
   start_shows on = subst
-      (λ (y : SlotId). Does (shows z c) n (plain.Make y) 0
+      (λ (y : SlotId). Row (shows z c) n (plain.Make y) 0
       (shows z (put c n (begun y) (strong_at z y) 1)))
       (sym (ap slot_of at))
       (go on.1.0 at (subst (λ (y : SlotId). Sound z (put c n (begun y) (strong_at z y) 1))
@@ -210,7 +210,7 @@ module _ (z : Shape) (c : Core) (n : ℕ) (so : Sound z c) (hn : n < z.seats) wh
           })
 
       go : (s : SlotId) → v.phase ≡ phase.Blank s → Sound z (put c n (begun s) (strong_at z s) 1)
-          → Does (shows z c) n (plain.Make s) 0 (shows z (put c n (begun s) (strong_at z s) 1))
+          → Row (shows z c) n (plain.Make s) 0 (shows z (put c n (begun s) (strong_at z s) 1))
       go s is_blank so' =
           let b = blank_here s is_blank in
           let hs = b.0 in
@@ -233,9 +233,9 @@ module _ (z : Shape) (c : Core) (n : ℕ) (so : Sound z c) (hn : n < z.seats) wh
           let m = times_push s s v.made in
           let o = one_same s s refl in omega arith))
 
-  pub free_shows : Enabled z c n act.Free → ShowsStep z c n act.Free
+  pub free_shows : Enabled z c n act.Free → ShowsRow z c n act.Free
   free_shows on = subst
-      (λ (y : SlotId). Does (shows z c) n (plain.Give y) 0
+      (λ (y : SlotId). Row (shows z c) n (plain.Give y) 0
       (shows z (put c n (noted act.Free outcome.Plain (record v { phase = phase.Idle }))
       (weak_at z y) ZERO)))
       (sym (ap slot_of at))
@@ -251,7 +251,7 @@ module _ (z : Shape) (c : Core) (n : ℕ) (so : Sound z c) (hn : n < z.seats) wh
       u = noted act.Free outcome.Plain (record v { phase = phase.Idle })
 
       go : (s : SlotId) → v.phase ≡ phase.Give s → Sound z (put c n u (weak_at z s) ZERO)
-          → Does (shows z c) n (plain.Give s) 0 (shows z (put c n u (weak_at z s) ZERO))
+          → Row (shows z c) n (plain.Give s) 0 (shows z (put c n u (weak_at z s) ZERO))
       go s gives so' =
           let p = in_give v.phase s s gives in
           let o = one_same s s refl in
@@ -277,7 +277,7 @@ module _ (z : Shape) (c : Core) (n : ℕ) (so : Sound z c) (hn : n < z.seats) wh
           ∙ ap (λ (P : Plain). with_slot P s (record (show_slot z c s) { stage = Free }))
           (same_plain (shows z c) _ n (show_seat u) refl (rw gives refl ∙ sym is)))
 
-  pub destroy_shows : (s : SlotId) → Enabled z c n (act.Destroy s) → ShowsStep z c n (act.Destroy s)
+  pub destroy_shows : (s : SlotId) → Enabled z c n (act.Destroy s) → ShowsRow z c n (act.Destroy s)
   destroy_shows s on = go (weak z c s == 1) (step_keeps z c n (act.Destroy s) so on)
     where
       hs : s.0 < z.slots
@@ -331,7 +331,7 @@ module _ (z : Shape) (c : Core) (n : ℕ) (so : Sound z c) (hn : n < z.seats) wh
       fields = (ap slot_in on.2.0, ap slot_in on.2.1, ap slot_in on.2.2)
 
       go : (b : Bool) → Sound z (put c n (gone b) (weak_at z s) (minus_one (weak z c s)))
-          → Does (shows z c) n (plain.Destroy s) 0 (shows z
+          → Row (shows z c) n (plain.Destroy s) 0 (shows z
           (put c n (gone b) (weak_at z s) (minus_one (weak z c s))))
       go true so' =
           does.does_destroy (shows z c) _ n (show_seat v) is s (show_slot z c s)

@@ -9,7 +9,7 @@ use Rattle.cdrc_plain.specs.declared.slot.Kind.TheVariants.{Weak}
 use Rattle.cdrc_plain.specs.declared.slot.SlotId.{SlotId}
 use Rattle.cdrc_plain.specs.Lists.{Entry, entry_times}
 use Rattle.cdrc_plain.specs.State.{seat_at, with_seat}
-use Rattle.cdrc_plain.specs.Steps.{Does}
+use Rattle.cdrc_plain.specs.Steps.{Row}
 use Rattle.core_events.specs.declared.act.Act.TheVariants as act
 use Rattle.core_events.specs.declared.outcome.Outcome.TheVariants as outcome
 use Rattle.core_events.specs.declared.shape.Shape.{Shape}
@@ -39,7 +39,7 @@ use Rattle.core_shows.proofs.Does as does
 use Rattle.core_shows.proofs.Losing.{loses_without, valid_same, valid_loses}
 use Rattle.core_shows.proofs.Quiet.{OffShown, Quiet, quiet_step, weak_quiet, still_quiet}
 use Rattle.core_shows.proofs.Ranges.{plus_free, minus_free, weak_positive}
-use Rattle.core_shows.specs.Shown.{ShowsStep}
+use Rattle.core_shows.proofs.Does.{ShowsRow}
 use Rattle.core_shows.proofs.ShownCounters.{same_plain}
 use Rattle.core_shows.proofs.ShownPlaces.{shown_open, shown_word}
 use Rattle.core_shows.proofs.Stages.{SameFree, weak_small}
@@ -86,9 +86,9 @@ module _ (z : Shape) (c : Core) (n : ℕ) (so : Sound z c) (hn : n < z.seats) wh
       (record { to = λ e. b ∙ e; from = λ e. sym b ∙ e })
 
   pub announce_shows : (j : ℕ) (k : Kind) (s : SlotId) → Enabled z c n (act.Announce j k s)
-      → ShowsStep z c n (act.Announce j k s)
+      → ShowsRow z c n (act.Announce j k s)
   announce_shows j k s on = subst
-      (λ (m : ℕ). Does (shows z c) n plain.Still 0
+      (λ (m : ℕ). Row (shows z c) n plain.Still 0
       (shows z (put c n (noted (act.Announce j k s) outcome.Plain
       (with_note j (note.Announced k s) v)) (note_at m j) (code k s))))
       (sym number) (
@@ -113,9 +113,9 @@ module _ (z : Shape) (c : Core) (n : ℕ) (so : Sound z c) (hn : n < z.seats) wh
           valid_same v.notes j (note.Announced k s) (omega arith) (λ k' x e. absurd (cc (e)))
           (λ k' x e. absurd (cc (idle, e)))
 
-  pub release_shows : (j : ℕ) → Enabled z c n (act.Release j) → ShowsStep z c n (act.Release j)
+  pub release_shows : (j : ℕ) → Enabled z c n (act.Release j) → ShowsRow z c n (act.Release j)
   release_shows j on = subst
-      (λ (m : ℕ). Does (shows z c) n (releases (note_of v j)) 0
+      (λ (m : ℕ). Row (shows z c) n (releases (note_of v j)) 0
       (shows z (put c n (noted (act.Release j) outcome.Plain (with_note j note.Idle v))
       (note_at m j) 0)))
       (sym number) (of (note_of v j) refl)
@@ -136,7 +136,7 @@ module _ (z : Shape) (c : Core) (n : ℕ) (so : Sound z c) (hn : n < z.seats) wh
           number (step_keeps z c n (act.Release j) so on))
           (λ x. record { fill = refl; dyi = refl; made = refl })
 
-      of : (x : Note) → note_of v j ≡ x → Does (shows z c) n (releases x) 0
+      of : (x : Note) → note_of v j ≡ x → Row (shows z c) n (releases x) 0
           (shows z (put c n (noted (act.Release j) outcome.Plain (with_note j note.Idle v))
           (note_at n j) 0))
       of note.Idle e = absurd (on.1.2 e)
@@ -152,7 +152,7 @@ module _ (z : Shape) (c : Core) (n : ℕ) (so : Sound z c) (hn : n < z.seats) wh
           (valid_of (set v.notes j note.Idle))
           (valid_loses v.notes j k s four e) q
 
-  pub look_shows : (p : EventPlace) → Enabled z c n (act.Look p) → ShowsStep z c n (act.Look p)
+  pub look_shows : (p : EventPlace) → Enabled z c n (act.Look p) → ShowsRow z c n (act.Look p)
   look_shows p on = (
     shown_open z c n p so hn on.1.1,
     shown_word z c p (open_there z c n so hn p on.1.1),
@@ -160,20 +160,20 @@ module _ (z : Shape) (c : Core) (n : ℕ) (so : Sound z c) (hn : n < z.seats) wh
         (λ x. record { fill = refl; dyi = refl; made = refl })) (sym is),
   )
 
-  pub see_shows : (s : SlotId) (i : ℕ) → Enabled z c n (act.See s i) → ShowsStep z c n (act.See s i)
+  pub see_shows : (s : SlotId) (i : ℕ) → Enabled z c n (act.See s i) → ShowsRow z c n (act.See s i)
   see_shows s i on =
       does.does_see (shows z c) _ n (show_seat v) is s i
       (⊎_elim (λ a. omega arith) (λ a. omega arith) on.1.1) on.1.2
       (same_plain (shows z c) _ n _ (still_quiet z c n _ (payload_at z s i) so hn
       (λ x. record { fill = refl; dyi = refl; made = refl })) (sym is))
 
-  pub wcount_shows : (s : SlotId) → Enabled z c n (act.Wcount s) → ShowsStep z c n (act.Wcount s)
+  pub wcount_shows : (s : SlotId) → Enabled z c n (act.Wcount s) → ShowsRow z c n (act.Wcount s)
   wcount_shows s on =
       does.does_weak_count (shows z c) _ n (show_seat v) is s on.1.1
       (same_plain (shows z c) _ n _ (still_quiet z c n _ (weak_at z s) so hn
       (λ x. record { fill = refl; dyi = refl; made = refl })) (sym is))
 
-  pub wadd_shows : (s : SlotId) → Enabled z c n (act.Wadd s) → ShowsStep z c n (act.Wadd s)
+  pub wadd_shows : (s : SlotId) → Enabled z c n (act.Wadd s) → ShowsRow z c n (act.Wadd s)
   wadd_shows s on =
       let hs = named_in_range z n v s (so.seats n hn) (held_named s v on.1.2) in
       let r = held_refs z c n s so hn on.1.2 in
@@ -183,7 +183,7 @@ module _ (z : Shape) (c : Core) (n : ℕ) (so : Sound z c) (hn : n < z.seats) wh
       (λ x. record { fill = refl; dyi = refl; made = refl })
       (plus_free (adds_used c) (weak z c s) fit q))
 
-  pub wdrop_shows : (s : SlotId) → Enabled z c n (act.Wdrop s) → ShowsStep z c n (act.Wdrop s)
+  pub wdrop_shows : (s : SlotId) → Enabled z c n (act.Wdrop s) → ShowsRow z c n (act.Wdrop s)
   wdrop_shows s on = go (weak z c s == 1) (step_keeps z c n (act.Wdrop s) so on)
     where
       hs : s.0 < z.slots
@@ -201,7 +201,7 @@ module _ (z : Shape) (c : Core) (n : ℕ) (so : Sound z c) (hn : n < z.seats) wh
           → Sound z (put c n (noted (act.Wdrop s) (if b then outcome.Last else outcome.Left)
           (record v { weaks = without s v.weaks; phase = if b then phase.Give s else phase.Idle }))
           (weak_at z s) (minus_one (weak z c s)))
-          → Does (shows z c) n (plain.WeakDrop s) 0
+          → Row (shows z c) n (plain.WeakDrop s) 0
           (shows z (put c n (noted (act.Wdrop s) (if b then outcome.Last else outcome.Left)
           (record v { weaks = without s v.weaks; phase = if b then phase.Give s else phase.Idle }))
           (weak_at z s) (minus_one (weak z c s))))
@@ -226,7 +226,7 @@ module _ (z : Shape) (c : Core) (n : ℕ) (so : Sound z c) (hn : n < z.seats) wh
           }) frees
           ∙ ap (with_seat (shows z c) n) (rw on.1.0.0 refl))
 
-  pub scan_shows : Enabled z c n act.Scan → ShowsStep z c n act.Scan
+  pub scan_shows : Enabled z c n act.Scan → ShowsRow z c n act.Scan
   scan_shows on = go (is_last z v)
     where
       w : ℕ
@@ -254,7 +254,7 @@ module _ (z : Shape) (c : Core) (n : ℕ) (so : Sound z c) (hn : n < z.seats) wh
           let m = entry_none k s in
           let t = split_times k s v.retired (v.seen ++ w ∷ []) in omega arith
 
-      go : (b : Bool) → Does (shows z c) n (if b then plain.Split else plain.Still) 0
+      go : (b : Bool) → Row (shows z c) n (if b then plain.Split else plain.Still) 0
           (shows z (put c n (noted act.Scan
           (if b
           then outcome.Split w (length (kept v.retired (v.seen ++ w ∷ [])))

@@ -14,7 +14,7 @@ use Rattle.cdrc_plain.specs.declared.slot.SlotId.{SlotId}
 use Rattle.cdrc_plain.specs.Lists.{Entry, times, entry_times}
 use Rattle.cdrc_plain.specs.Places.{place_kind, content, with_content}
 use Rattle.cdrc_plain.specs.State.{Plain, PlainSeat, seat_at, with_seat, new_seat}
-use Rattle.cdrc_plain.specs.Steps.{Does, word_of, joined, GivesUp, Replaces, Clears}
+use Rattle.cdrc_plain.specs.Steps.{Row, word_of, joined, GivesUp, Replaces, Clears}
 use Rattle.core_events.specs.declared.act.Act.TheVariants as act
 use Rattle.core_events.specs.declared.outcome.Outcome.TheVariants as outcome
 use Rattle.core_events.specs.declared.shape.Shape.{Shape}
@@ -28,7 +28,7 @@ use Rattle.core_events.specs.Steps.{CanGive, exchanged, without_given, noted, is
 use Rattle.core_events.specs.Runs.{Core, Enabled, view_at, after}
 use Rattle.core_events.specs.Shows.{shows, show_seat}
 use Rattle.core_events.specs.ShownSteps.{is_dying_field, IsSame, IsSameSeat}
-use Rattle.core_shows.specs.Shown.{ShowsStep, ShowsLike}
+use Rattle.core_shows.proofs.Does.{ShowsRow, LikeRow}
 use Rattle.core_law.specs.Slots.{numbers}
 use Rattle.core_law.specs.Sound.{Sound}
 use Rattle.core_law.proofs.Kit.{total_at, entry_push, valid_set, valid_one}
@@ -172,9 +172,9 @@ module _ (z : Shape) (c : Core) (n : ℕ) (so : Sound z c) (hn : n < z.seats) wh
   is_dying (WeakField s) on = grind (arith, nat_tests)
 
   pub swap_shows : (q : EventPlace) (new : Option SlotId) → Enabled z c n (act.Swap q new)
-      → ShowsStep z c n (act.Swap q new)
+      → ShowsRow z c n (act.Swap q new)
   swap_shows q new on = ⊎_elim
-      (λ e. subst (λ (b : Bool). Does (shows z c) n (if b then plain.Clear q else plain.Replace q
+      (λ e. subst (λ (b : Bool). Row (shows z c) n (if b then plain.Clear q else plain.Replace q
       new) (slice_index c.words (place_at z q)) (shows z (after z c n (act.Swap q new))))
       (sym (open_not_dying q e.0 (open_there z c n so hn q e.0))) (
         shown_open z c n q so hn e.0,
@@ -182,7 +182,7 @@ module _ (z : Shape) (c : Core) (n : ℕ) (so : Sound z c) (hn : n < z.seats) wh
         replaces q new
             _ (open_there z c n so hn q e.0) e.1,
       ))
-      (λ e. subst (λ (b : Bool). Does (shows z c) n (if b then plain.Clear q else plain.Replace q
+      (λ e. subst (λ (b : Bool). Row (shows z c) n (if b then plain.Clear q else plain.Replace q
       new) (slice_index c.words (place_at z q)) (shows z (after z c n (act.Swap q new))))
       (sym (is_dying q e.0)) (
         shown_dying_field z c n q so hn e.0,
@@ -193,7 +193,7 @@ module _ (z : Shape) (c : Core) (n : ℕ) (so : Sound z c) (hn : n < z.seats) wh
       on.1.2
 
   pub cas_shows : (q : EventPlace) (old new : Option SlotId) → Enabled z c n (act.Cas q old new)
-      → ShowsStep z c n (act.Cas q old new)
+      → ShowsRow z c n (act.Cas q old new)
   cas_shows q old new on = (
     shown_open z c n q so hn on.1.2,
     shown_word z c q there,
@@ -273,9 +273,9 @@ module _ (z : Shape) (c : Core) (n : ℕ) (so : Sound z c) (hn : n < z.seats) wh
   is' = shown_seat z c n (at_seat z c n so hn)
 
   pub check_shows : (j : ℕ) (q : EventPlace) → Enabled z c n (act.Check j q)
-      → ShowsLike z c n (act.Check j q)
+      → LikeRow z c n (act.Check j q)
   check_shows j q on = subst
-      (λ (x : Note). (r : Plain) × Does (shows z c) n (plain.Check j q)
+      (λ (x : Note). (r : Plain) × Row (shows z c) n (plain.Check j q)
       (slice_index c.words (place_at z q)) r
       × IsSame r (shows z (put c n (noted (act.Check j q)
       (if is_valid (slice_index c.words (place_at z q)) x then outcome.Valid else outcome.Moved
@@ -299,7 +299,7 @@ module _ (z : Shape) (c : Core) (n : ℕ) (so : Sound z c) (hn : n < z.seats) wh
           let e = entry_push k x (valid_of v'.notes) (place_kind q, on.1.2.0) in omega arith
 
       go : (b : Bool) → (slice_index c.words (place_at z q) == on.1.2.0.0 + 1) ≡ b
-          → (r : Plain) × Does (shows z c) n (plain.Check j q)
+          → (r : Plain) × Row (shows z c) n (plain.Check j q)
           (slice_index c.words (place_at z q)) r
           × IsSame r (shows z (put c n (noted (act.Check j q)
           (if b then outcome.Valid else outcome.Moved (slot_in
