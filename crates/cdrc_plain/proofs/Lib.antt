@@ -16,3 +16,7 @@ pub mod Tallies
 pub mod Opening
 pub mod Fits
 pub mod Records
+pub mod Gains
+pub mod Placing
+pub mod Loading
+pub mod Entries

@@ -11,3 +11,4 @@ pub mod Settling
 pub mod Heaps
 pub mod Stores
 pub mod Records
+pub mod Calls
