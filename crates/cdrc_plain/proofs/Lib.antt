@@ -20,3 +20,4 @@ pub mod Gains
 pub mod Placing
 pub mod Loading
 pub mod Entries
+pub mod Listed

@@ -16,7 +16,7 @@ use Rattle.cdrc_plain.specs.Lists.{times, entry_times}
 use Rattle.cdrc_plain.specs.Places.{place_kind, content}
 use Rattle.cdrc_plain.specs.Heaps.{Owns}
 use Rattle.cdrc_plain.specs.Runs.{Runs}
-use Rattle.cdrc_plain.specs.Steps.{Does, word_of}
+use Rattle.cdrc_plain.specs.Steps.{Does, GivesUp, word_of}
 
 -- the seat owns one more reference to s, for one more add
 abbrev pub gained : Plain → SlotId → Plain
@@ -69,9 +69,16 @@ MayGive k None v = Unit {0}
 MayGive Strong (Some s) v = 0 < times s v.owned
 MayGive Weak (Some s) v = 0 < times s v.weaks
 
+-- the seat gave up such a reference, if there is one
+abbrev pub HasGiven : Plain → Kind → Option SlotId → Plain → Type 0
+HasGiven p k new q =
+    (w : PlainSeat) × GivesUp k new (seat_at p 0) w × (q ≡ with_seat p 0 w)
+
 -- each slot has the stage and the payload that it had
 abbrev pub SameObjects : Plain → Plain → Type 0
-SameObjects p q = (s : SlotId) → (stage_at q s ≡ stage_at p s) × ((slot_at q s).payload ≡ (slot_at p s).payload)
+SameObjects p q =
+    (s : SlotId) → (stage_at q s ≡ stage_at p s)
+    × ((slot_at q s).payload ≡ (slot_at p s).payload)
 
 -- the place holds `new`, which the seat gave up, and what it held is deferred
 abbrev pub Puts : Plain → EventPlace → Option SlotId → Plain → Type 0
@@ -83,8 +90,8 @@ Tries p place expected new done q =
     (IsTrue done ↔ (content p place ≡ expected))
     × Does p 0 (act.TryReplace place expected new) (word_of (content p place)) q
 
--- a load: a snapshot, one reference more, the end of the snapshot; nothing but the reference and its add is left of
--- it. Null is only looked at
+-- a load: a snapshot, one reference more, the end of the snapshot. Nothing but the reference and
+-- its add is left of it. Null is only looked at
 abbrev pub Loads : Plain → EventPlace → Option SlotId → Plain → Type 0
 Loads p place (Some s) q =
     (content p place ≡ Some s) × (q ≡ gained p s)

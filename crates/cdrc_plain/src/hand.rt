@@ -59,7 +59,8 @@ impl WeakHand {
     }
 }
 
-/// A snapshot of a strong place. An uncounted one keeps its object by an announcement, a counted one by a reference.
+/// A snapshot of a strong place. An uncounted one keeps its object by an announcement, a counted
+/// one by a reference.
 #[derive(Debug, Drop)]
 pub struct SnapHand {
     slot: SlotId,

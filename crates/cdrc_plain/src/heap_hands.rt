@@ -13,8 +13,8 @@ use crate::payload::PayloadKind;
 use crate::slot::SlotId;
 use out_of_memory::OutOfMemory;
 
-/// Each call that gains a reference uses an add. It answers OutOfMemory where its list can't grow, and where the
-/// heap's adds would pass 2^64 - 2; the heap is then as it was.
+/// Each call that gains a reference uses an add. It answers OutOfMemory where its list can't grow,
+/// and where the heap's adds would pass 2^64 - 2; the heap is then as it was.
 impl<W: PayloadKind> PlainHeap<W> {
     /// One more owned reference to the object. Constant but for the growth of a list.
     pub fn copy(&mut self, h: &Hand) -> Result<Hand, OutOfMemory>
@@ -51,8 +51,8 @@ impl<W: PayloadKind> PlainHeap<W> {
         self.store.drop_weak(w.slot());
     }
 
-    /// An owned reference to the object, or None exactly where it has ended: where its zero mark stands. The add is
-    /// used then too. Constant but for the growth of a list.
+    /// An owned reference to the object, or None exactly where it has ended: where its zero mark
+    /// stands. The add is used then too. Constant but for the growth of a list.
     pub fn upgrade(&mut self, w: &WeakHand) -> Result<Option<Hand>, OutOfMemory>
         requires { OwnsWeakly self.old w.now }
         ensures upgrades { IfOk result (λ more. Upgrades self.old w.now more self.new) }

@@ -32,10 +32,12 @@ fn weak_slot_of(w: &Option<WeakHand>) -> Option<SlotId>
     }
 }
 
-/// A place is a cell of the heap, or a field of a slot that the seat holds strongly. What is put into it the seat owns,
-/// and gives up. Each call answers OutOfMemory where its list can't grow; the heap is then as it was.
+/// A place is a cell of the heap, or a field of a slot that the seat holds strongly. What is put
+/// into it the seat owns, and gives up. Each call answers OutOfMemory where its list can't grow;
+/// the heap is then as it was.
 impl<W: PayloadKind> PlainHeap<W> {
-    /// The place holds the reference, or null, and what it held is deferred. Linear in the references that are owned.
+    /// The place holds the reference, or null, and what it held is deferred. Linear in the
+    /// references that are owned.
     pub fn put(&mut self, place: PlainPlace, h: Option<Hand>) -> Result<(), Back<Option<Hand>>>
         requires opened { IsOpen self.old 0 (strong_place place) }
         requires given { MayGive Strong h (seat_at self.old 0) }
@@ -49,8 +51,8 @@ impl<W: PayloadKind> PlainHeap<W> {
         }
     }
 
-    /// The weak place holds the reference, or null, and what it held is deferred. Linear in the weak references that
-    /// are owned.
+    /// The weak place holds the reference, or null, and what it held is deferred. Linear in the
+    /// weak references that are owned.
     pub fn put_weak(
         &mut self,
         place: PlainWeakPlace,
@@ -68,8 +70,9 @@ impl<W: PayloadKind> PlainHeap<W> {
         }
     }
 
-    /// An owned reference to what the place holds, or None exactly where it holds null. It uses an add, and answers
-    /// OutOfMemory too where the heap's adds would pass 2^64 - 2. Constant but for the growth of a list.
+    /// An owned reference to what the place holds, or None exactly where it holds null. It uses an
+    /// add, and answers OutOfMemory too where the heap's adds would pass 2^64 - 2. Constant but for
+    /// the growth of a list.
     pub fn load(&mut self, place: PlainPlace) -> Result<Option<Hand>, OutOfMemory>
         requires { IsOpen self.old 0 (strong_place place) }
         ensures loads { IfOk result (λ h. Loads self.old (strong_place place) h self.new) }
@@ -78,7 +81,8 @@ impl<W: PayloadKind> PlainHeap<W> {
         self.store.load(place.event())
     }
 
-    /// A weak reference to what the weak place holds, or None exactly where it holds null. As `load` it uses an add.
+    /// A weak reference to what the weak place holds, or None exactly where it holds null. As
+    /// `load` it uses an add.
     pub fn load_weak(&mut self, place: PlainWeakPlace) -> Result<Option<WeakHand>, OutOfMemory>
         requires { IsOpen self.old 0 (weak_place place) }
         ensures loads { IfOk result (λ w. WeaklyLoads self.old (weak_place place) w self.new) }
@@ -87,8 +91,9 @@ impl<W: PayloadKind> PlainHeap<W> {
         self.store.load_weak(place.event())
     }
 
-    /// True exactly where the place held `expected`: it then holds the reference, or null, and what it held is deferred.
-    /// False changes nothing, and the reference stays owned under its slot. Linear in the references that are owned.
+    /// True exactly where the place held `expected`: it then holds the reference, or null, and what
+    /// it held is deferred. False changes nothing, and the reference stays owned under its slot.
+    /// Linear in the references that are owned.
     pub fn replace(
         &mut self,
         place: PlainPlace,
@@ -97,7 +102,9 @@ impl<W: PayloadKind> PlainHeap<W> {
     ) -> Result<bool, Back<Option<Hand>>>
         requires opened { IsOpen self.old 0 (strong_place place) }
         requires given { MayGive Strong h (seat_at self.old 0) }
-        ensures tries { IfOk result (λ done. Tries self.old (strong_place place) expected h done self.new) }
+        ensures tries {
+            IfOk result (λ done. Tries self.old (strong_place place) expected h done self.new)
+        }
         ensures err { OnErr result (self.new ≡ self.old) }
         ensures back { IfErr result (λ e. e.back ≡ h) }
     {

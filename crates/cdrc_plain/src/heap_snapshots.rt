@@ -11,9 +11,9 @@ use crate::place::PlainPlace;
 use out_of_memory::OutOfMemory;
 
 impl<W: PayloadKind> PlainHeap<W> {
-    /// A snapshot of what the place holds, or None exactly where it holds null. It is counted, and so owns a reference
-    /// as after `load`, exactly where three uncounted snapshots are held already. OutOfMemory leaves the heap as it
-    /// was. Constant but for the growth of a list.
+    /// A snapshot of what the place holds, or None exactly where it holds null. It is counted, and
+    /// so owns a reference as after `load`, exactly where three uncounted snapshots are held
+    /// already. OutOfMemory leaves the heap as it was. Constant but for the growth of a list.
     pub fn snap(&mut self, place: PlainPlace) -> Result<Option<SnapHand>, OutOfMemory>
         requires { IsOpen self.old 0 (strong_place place) }
         ensures snaps { IfOk result (λ s. Snaps self.old (strong_place place) s self.new) }
@@ -22,7 +22,8 @@ impl<W: PayloadKind> PlainHeap<W> {
         self.store.snap(place.event())
     }
 
-    /// The snapshot ends: its announcement, or where it is counted its reference. Linear in the list that has it.
+    /// The snapshot ends: its announcement, or where it is counted its reference. Linear in the
+    /// list that has it.
     pub fn unsnap(&mut self, s: SnapHand)
         requires { HasSnapshot self.old s.0 s.1 }
         ensures { Does self.old 0 (ending s.0 s.1) 0 self.new }
@@ -30,8 +31,8 @@ impl<W: PayloadKind> PlainHeap<W> {
         self.store.unsnap(s.slot(), counted(&s));
     }
 
-    /// One more owned reference to the snapshot's object. It uses an add, and answers OutOfMemory as `copy` does.
-    /// Constant but for the growth of a list.
+    /// One more owned reference to the snapshot's object. It uses an add, and answers OutOfMemory
+    /// as `copy` does. Constant but for the growth of a list.
     pub fn keep(&mut self, s: &SnapHand) -> Result<Hand, OutOfMemory>
         requires { HasSnapshot self.old s.now.0 s.now.1 }
         ensures gains { IfOk result (λ more. Gains self.old s.now.0 more self.new) }

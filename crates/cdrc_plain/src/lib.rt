@@ -24,6 +24,8 @@ mod store_loads;
 mod store_places;
 mod store_snapshots;
 mod tally;
+#[cfg(test)]
+mod tests;
 
 pub use act::{EventPlace, PlainAct};
 pub use announced::Announced;

@@ -1,9 +1,9 @@
 //! The places of a store: what they hold, and how another content comes into them.
 ghost use Rattle.std.specs.Prelude.{◌≡◌, ◌↔◌, ◌+◌, ◌<◌, IsTrue, IfOk, OnErr, length, vec_len, vec_capacity};
-ghost use Rattle.cdrc_plain.specs.State.{PlainSeat, seat_at, with_seat};
+ghost use Rattle.cdrc_plain.specs.State.{seat_at};
 ghost use Rattle.cdrc_plain.specs.Places.{IsOpen, place_kind, field_of, with_field, content, with_content};
-ghost use Rattle.cdrc_plain.specs.Steps.{joined, GivesUp, Replaces};
-ghost use Rattle.cdrc_plain.specs.Calls.{HasPlace, MayGive, SameObjects, Puts, Tries};
+ghost use Rattle.cdrc_plain.specs.Steps.{joined};
+ghost use Rattle.cdrc_plain.specs.Calls.{HasPlace, MayGive, HasGiven, SameObjects, Puts, Tries};
 ghost use Rattle.cdrc_plain.specs.Stores.{plain_of, Kept};
 
 use crate::act::EventPlace;
@@ -100,7 +100,7 @@ impl Store {
     /// The seat gives up a reference of this kind, if it is given one.
     fn give_up(&mut self, kind: Kind, new: Option<SlotId>)
         requires { MayGive kind new (seat_at (plain_of self.old) 0) }
-        ensures gives { (w : PlainSeat) × GivesUp kind new (seat_at (plain_of self.old) 0) w × (plain_of self.new ≡ with_seat (plain_of self.old) 0 w) }
+        ensures gives { HasGiven (plain_of self.old) kind new (plain_of self.new) }
         ensures deferred { self.new.deferred ≡ self.old.deferred }
         ensures strong { self.new.strong ≡ self.old.strong }
         ensures weak { self.new.weak ≡ self.old.weak }
@@ -116,7 +116,11 @@ impl Store {
     }
 
     /// The place takes a reference that the seat gives up, or null; what it held is deferred.
-    pub(crate) fn replace(&mut self, place: EventPlace, new: Option<SlotId>) -> Result<(), OutOfMemory>
+    pub(crate) fn replace(
+        &mut self,
+        place: EventPlace,
+        new: Option<SlotId>,
+    ) -> Result<(), OutOfMemory>
         requires kept { Kept self.old }
         requires opened { IsOpen (plain_of self.old) 0 place }
         requires given { MayGive (place_kind place) new (seat_at (plain_of self.old) 0) }
@@ -144,7 +148,9 @@ impl Store {
         requires kept { Kept self.old }
         requires opened { IsOpen (plain_of self.old) 0 place }
         requires given { MayGive (place_kind place) new (seat_at (plain_of self.old) 0) }
-        ensures tries { IfOk result (λ done. Tries (plain_of self.old) place expected new done (plain_of self.new)) }
+        ensures tries {
+            IfOk result (λ done. Tries (plain_of self.old) place expected new done (plain_of self.new))
+        }
         ensures objects { SameObjects (plain_of self.old) (plain_of self.new) }
         ensures err { OnErr result (plain_of self.new ≡ plain_of self.old) }
         ensures kept { Kept self.new }
