@@ -1,15 +1,15 @@
 -- What a place holds, loaded or under a snapshot.
-use Rattle.std.proofs.Common.{◌≡◌, ℕ, ◌+◌, ◌<◌, List, [], ◌∷◌, ◌++◌, length, refl, ap, sym, ◌∙◌, subst, arith, lit<, inl, inr, false, Option, Some, None, append-nil}
+use Rattle.std.proofs.Common.{◌≡◌, ◌+◌, ◌<◌, List, [], ◌∷◌, ◌++◌, length, refl, ap, sym, subst, arith, lit<, inl, inr, false, Some, append-nil}
 use Rattle.cdrc_plain.specs.declared.act.EventPlace.{EventPlace}
 use Rattle.cdrc_plain.specs.declared.act.PlainAct.TheVariants as act
 use Rattle.cdrc_plain.specs.declared.slot.Kind.{Kind}
 use Rattle.cdrc_plain.specs.declared.slot.Kind.TheVariants.{Strong, Weak}
 use Rattle.cdrc_plain.specs.declared.slot.SlotId.{SlotId}
 use Rattle.cdrc_plain.specs.declared.store.Store.{Store}
-use Rattle.cdrc_plain.specs.Lists.{Entry, Loses, entry_times}
+use Rattle.cdrc_plain.specs.Lists.{Loses, entry_times}
 use Rattle.cdrc_plain.specs.State.{Plain, PlainSeat, seat_at, slot_at}
 use Rattle.cdrc_plain.specs.Places.{IsOpen, Holds, place_kind, content}
-use Rattle.cdrc_plain.specs.References.{held_in, places, strong_refs}
+use Rattle.cdrc_plain.specs.References.{held_in, places}
 use Rattle.cdrc_plain.specs.Steps.{Does, word_of}
 use Rattle.cdrc_plain.specs.Runs.{Runs}
 use Rattle.cdrc_plain.specs.Sound.{Sound}
@@ -52,16 +52,28 @@ module _ (h : Store) (place : EventPlace) (s : SlotId) (k : Kept h) (opened : Is
 
   pub load_runs : place_kind place ≡ Strong → Runs (plain_of h) 0 (act.Check 0 place ∷ act.Add s ∷ act.EndSnapshot (place_kind place) s ∷ []) (gained (plain_of h) s)
   load_runs strong = (
-    snapped (plain_of h) place s, s.0 + 1, check_does,
-    (gained (snapped (plain_of h) place s) s, 0, ((lit< tt, refl), (snapped_held, inl (refl, placed_unmarked strong, refl))),
-    (gained (plain_of h) s, 0, ((lit< tt, refl), (h.snapshots.items, last_lost h.snapshots.items (place_kind place, s), refl, refl)), refl)),
+    snapped (plain_of h) place s,
+    s.0 + 1,
+    check_does,
+    (
+      gained (snapped (plain_of h) place s) s,
+      0,
+      ((lit< tt, refl), (snapped_held, inl (refl, placed_unmarked strong, refl))),
+      (gained (plain_of h) s, 0, ((lit< tt, refl), (h.snapshots.items, last_lost h.snapshots.items (place_kind place, s), refl, refl)), refl),
+    ),
   )
 
   pub load_weak_runs : Runs (plain_of h) 0 (act.Check 0 place ∷ act.WeakGain s ∷ act.EndSnapshot (place_kind place) s ∷ []) (weakly_gained (plain_of h) s)
   load_weak_runs = (
-    snapped (plain_of h) place s, s.0 + 1, check_does,
-    (weakly_gained (snapped (plain_of h) place s) s, 0, ((lit< tt, refl), (snapped_held, refl, refl)),
-    (weakly_gained (plain_of h) s, 0, ((lit< tt, refl), (h.snapshots.items, last_lost h.snapshots.items (place_kind place, s), refl, refl)), refl)),
+    snapped (plain_of h) place s,
+    s.0 + 1,
+    check_does,
+    (
+      weakly_gained (snapped (plain_of h) place s) s,
+      0,
+      ((lit< tt, refl), (snapped_held, refl, refl)),
+      (weakly_gained (plain_of h) s, 0, ((lit< tt, refl), (h.snapshots.items, last_lost h.snapshots.items (place_kind place, s), refl, refl)), refl),
+    ),
   )
 
   pub load_sound : place_kind place ≡ Strong → Sound (gained (plain_of h) s)

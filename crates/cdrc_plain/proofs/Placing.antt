@@ -1,6 +1,6 @@
 -- A place that takes another content: what the seat gives up, what is deferred, and the sums that stay.
-use Rattle.std.proofs.Common.{◌≡◌, ℕ, ◌+◌, ◌<◌, List, [], ◌∷◌, length, refl, ap, sym, ◌∙◌, subst, arith, lit<, Option, Some, None}
-use Rattle.std.specs.Prelude.{◌==◌, slice_index_or}
+use Rattle.std.proofs.Common.{◌≡◌, ◌<◌, List, length, refl, ap, sym, ◌∙◌, subst, arith, lit<, Option, Some, None}
+use Rattle.std.specs.Prelude.{slice_index_or}
 use Rattle.std.proofs.lemmas.List.{length-set}
 use Rattle.cdrc_plain.specs.declared.act.EventPlace.{EventPlace}
 use Rattle.cdrc_plain.specs.declared.act.EventPlace.TheVariants.{Cell, Field, WeakCell, WeakField}
@@ -9,11 +9,11 @@ use Rattle.cdrc_plain.specs.declared.slot.Kind.{Kind}
 use Rattle.cdrc_plain.specs.declared.slot.Kind.TheVariants.{Strong, Weak}
 use Rattle.cdrc_plain.specs.declared.slot.SlotId.{SlotId}
 use Rattle.cdrc_plain.specs.declared.store.Store.{Store}
-use Rattle.cdrc_plain.specs.Lists.{Entry, Loses, times, entry_times}
+use Rattle.cdrc_plain.specs.Lists.{Loses, entry_times}
 use Rattle.cdrc_plain.specs.State.{Plain, PlainSeat, new_seat, seat_at, slot_at, with_seat}
 use Rattle.cdrc_plain.specs.Places.{IsOpen, place_kind, with_field, content, with_content}
 use Rattle.cdrc_plain.specs.References.{strong_refs, weak_refs}
-use Rattle.cdrc_plain.specs.Steps.{joined, GivesUp, Replaces, Does, word_of}
+use Rattle.cdrc_plain.specs.Steps.{joined, GivesUp, Replaces, word_of}
 use Rattle.cdrc_plain.specs.Sound.{Sound}
 use Rattle.cdrc_plain.specs.Calls.{HasPlace, SameObjects}
 use Rattle.cdrc_plain.specs.Stores.{plain_of, Kept}
@@ -130,8 +130,8 @@ kept_replace h h' place new k opened (w, gives, e) f g next =
     let mid : Plain = with_seat p 0 (record w { deferred = joined (place_kind place) (content p place) w.deferred }) in
     let seats = (place_change mid place new (record { 0 = 0 }) (there_still p (seat_at mid 0) place there)).seats in
     let adds : h'.adds ≡ h.adds =
-      ap (λ (r : Plain). (seat_at r 0).adds) e ∙ ap (λ (vs : List PlainSeat). (slice_index_or vs 0 new_seat).adds) seats
-      ∙ (gave (place_kind place) new (seat_at p 0) w (record { 0 = 0 }) gives).adds in
+    ap (λ (r : Plain). (seat_at r 0).adds) e ∙ ap (λ (vs : List PlainSeat). (slice_index_or vs 0 new_seat).adds) seats
+    ∙ (gave (place_kind place) new (seat_at p 0) w (record { 0 = 0 }) gives).adds in
     kept_by h h' q k e (subst Sound e (step_sound p (plain_of h') 0 (act.Replace place new) (word_of (content p place)) k.sound ((lit< tt, refl), (opened, refl, (w, gives, e)))))
     (replaced_size p place new w)
     (rw (f, g) (tallied_same p q h.strong.items h.weak.items k.tallied (replaced_size p place new w) (λ s. (refs s).0) (λ s. (refs s).1)))

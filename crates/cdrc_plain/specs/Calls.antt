@@ -1,5 +1,5 @@
 -- What the calls on handles, places and snapshots do, in words of the plain state of the one seat.
-use Rattle.std.specs.Prelude.{ℕ, Bool, true, false, IsTrue, ◌≡◌, ◌↔◌, ◌<◌, ◌≤◌, ◌+◌, ◌++◌, List, [], ◌∷◌, length, Option, Some, None}
+use Rattle.std.specs.Prelude.{Bool, true, false, IsTrue, ◌≡◌, ◌↔◌, ◌<◌, ◌≤◌, ◌+◌, ◌++◌, [], ◌∷◌, length, Option, Some, None}
 use Rattle.cdrc_plain.specs.declared.act.PlainAct.{PlainAct}
 use Rattle.cdrc_plain.specs.declared.act.PlainAct.TheVariants as act
 use Rattle.cdrc_plain.specs.declared.act.EventPlace.{EventPlace}
@@ -21,13 +21,15 @@ use Rattle.cdrc_plain.specs.Steps.{Does, GivesUp, word_of}
 -- the seat owns one more reference to s, for one more add
 abbrev pub gained : Plain → SlotId → Plain
 gained p s = with_seat p 0 (record (seat_at p 0) {
-  owned = (seat_at p 0).owned ++ s ∷ []; adds = (seat_at p 0).adds + 1;
+  owned = (seat_at p 0).owned ++ s ∷ [];
+  adds = (seat_at p 0).adds + 1;
 })
 
 -- the same for a weak reference
 abbrev pub weakly_gained : Plain → SlotId → Plain
 weakly_gained p s = with_seat p 0 (record (seat_at p 0) {
-  weaks = (seat_at p 0).weaks ++ s ∷ []; adds = (seat_at p 0).adds + 1;
+  weaks = (seat_at p 0).weaks ++ s ∷ [];
+  adds = (seat_at p 0).adds + 1;
 })
 
 -- an add is spent, and nothing gained

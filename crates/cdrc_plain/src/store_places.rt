@@ -26,7 +26,11 @@ fn kind_of(place: EventPlace) -> Kind
 fn strong_field(object: &PlainSlot, field: u32) -> Option<SlotId>
     ensures { result ≡ field_of field object.now }
 {
-    if field == 0 { object.first } else { object.second }
+    if field == 0 {
+        object.first
+    } else {
+        object.second
+    }
 }
 
 /// The slot with another content of a strong field.
@@ -34,9 +38,15 @@ fn with_strong_field(object: PlainSlot, field: u32, new: Option<SlotId>) -> Plai
     ensures { result ≡ with_field field new object }
 {
     if field == 0 {
-        PlainSlot { first: new, ..object }
+        PlainSlot {
+            first: new,
+            ..object
+        }
     } else {
-        PlainSlot { second: new, ..object }
+        PlainSlot {
+            second: new,
+            ..object
+        }
     }
 }
 
@@ -92,7 +102,10 @@ impl Store {
             EventPlace::WeakCell(cell) => self.weak_cells[cell as usize] = new,
             EventPlace::WeakField(slot) => {
                 let at = slot.0 as usize;
-                self.slots[at] = PlainSlot { weak_field: new, ..self.slots[at] };
+                self.slots[at] = PlainSlot {
+                    weak_field: new,
+                    ..self.slots[at]
+                };
             }
         }
     }
@@ -148,9 +161,7 @@ impl Store {
         requires kept { Kept self.old }
         requires opened { IsOpen (plain_of self.old) 0 place }
         requires given { MayGive (place_kind place) new (seat_at (plain_of self.old) 0) }
-        ensures tries {
-            IfOk result (λ done. Tries (plain_of self.old) place expected new done (plain_of self.new))
-        }
+        ensures tries { IfOk result (λ done. Tries (plain_of self.old) place expected new done (plain_of self.new)) }
         ensures objects { SameObjects (plain_of self.old) (plain_of self.new) }
         ensures err { OnErr result (plain_of self.new ≡ plain_of self.old) }
         ensures kept { Kept self.new }

@@ -31,10 +31,8 @@ pub(crate) fn is_of(entry: &(Kind, SlotId), kind: Kind, slot: SlotId) -> bool
 fn entry_at(list: &[(Kind, SlotId)], kind: Kind, slot: SlotId) -> Option<usize>
     requires { 0 < entry_times kind slot list.now }
     ensures there { IsSome result }
-    ensures found {
-        IfSome result (λ i. (i < length list.now)
-        × (slice_index_or list.now i (kind, slot) ≡ (kind, slot)))
-    }
+    ensures found { IfSome result (λ i. (i < length list.now)
+        × (slice_index_or list.now i (kind, slot) ≡ (kind, slot))) }
 {
     for (i, entry) in list.iter().enumerate() {
         if is_of(entry, kind, slot) {
@@ -114,9 +112,7 @@ impl Store {
     fn end_snapshot(&mut self, slot: SlotId)
         requires kept { Kept self.old }
         requires under { 0 < entry_times Strong slot self.old.snapshots.items }
-        ensures does {
-            Does (plain_of self.old) 0 (act.EndSnapshot Strong slot) 0 (plain_of self.new)
-        }
+        ensures does { Does (plain_of self.old) 0 (act.EndSnapshot Strong slot) 0 (plain_of self.new) }
         ensures slots { self.new.slots.items ≡ self.old.slots.items }
         ensures kept { Kept self.new }
     {

@@ -11,7 +11,9 @@ ghost use Rattle.cdrc_plain.specs.Calls.{HasSnapshot};
 use crate::heap::PlainHeap;
 use crate::slot::Kind;
 use crate::store_snapshots::is_of;
-use crate::{Hand, PlainPlace, PlainWeakPlace, RecordKind, SlotId, SnapHand, WeakHand, counted, record_of};
+use crate::{
+    Hand, PlainPlace, PlainWeakPlace, RecordKind, SlotId, SnapHand, WeakHand, counted, record_of,
+};
 use std::process::Abort;
 use std::test::Fail;
 
@@ -154,7 +156,8 @@ fn put_weak(rt: &impl Abort, heap: &mut Records, cell: u32, w: WeakHand) {
 
 fn load_weak(rt: &impl Abort, heap: &mut Records, cell: u32) -> Option<WeakHand> {
     assert!(rt; (cell as usize) < weak_cells(heap));
-    heap.load_weak(PlainWeakPlace::Cell(cell)).expect(rt, "a weak load")
+    heap.load_weak(PlainWeakPlace::Cell(cell))
+        .expect(rt, "a weak load")
 }
 
 fn replace(rt: &impl Abort, heap: &mut Records, expected: Option<SlotId>, h: Hand) -> bool {

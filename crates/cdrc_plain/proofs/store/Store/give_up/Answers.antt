@@ -1,4 +1,4 @@
-use Rattle.std.proofs.Common.{refl, sym}
+use Rattle.std.proofs.Common.{refl}
 use Rattle.cdrc_plain.specs.State.{PlainSeat, seat_at}
 use Rattle.cdrc_plain.specs.Stores.{plain_of}
 use Rattle.cdrc_plain.proofs.Placing.{gives_null, gives_strong, gives_weak}

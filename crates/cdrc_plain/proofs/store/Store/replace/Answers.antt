@@ -1,4 +1,4 @@
-use Rattle.std.proofs.Common.{rules, ap, length, ◌∙◌}
+use Rattle.std.proofs.Common.{rules, ap, length}
 use Rattle.cdrc_plain.specs.declared.store.Store.{Store}
 use Rattle.cdrc_plain.specs.State.{Plain}
 use Rattle.cdrc_plain.specs.Stores.{plain_of}
