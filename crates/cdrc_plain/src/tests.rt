@@ -160,6 +160,23 @@ fn load_weak(rt: &impl Abort, heap: &mut Records, cell: u32) -> Option<WeakHand>
         .expect(rt, "a weak load")
 }
 
+fn put_field(rt: &impl Abort, heap: &mut Records, (of, field): (SlotId, u32), h: Hand) {
+    assert!(rt; owns(heap, of) && field < 2);
+    assert!(rt; owns(heap, h.slot()));
+    assert!(rt; heap.put(PlainPlace::Field(of, field), Some(h)).is_ok());
+}
+
+fn load_field(rt: &impl Abort, heap: &mut Records, (of, field): (SlotId, u32)) -> Option<Hand> {
+    assert!(rt; owns(heap, of) && field < 2);
+    heap.load(PlainPlace::Field(of, field)).expect(rt, "a load")
+}
+
+fn link_weakly(rt: &impl Abort, heap: &mut Records, of: SlotId, w: WeakHand) {
+    assert!(rt; owns(heap, of));
+    assert!(rt; owns_weakly(heap, w.slot()));
+    assert!(rt; heap.put_weak(PlainWeakPlace::Field(of), Some(w)).is_ok());
+}
+
 fn replace(rt: &impl Abort, heap: &mut Records, expected: Option<SlotId>, h: Hand) -> bool {
     assert!(rt; 0 < cells(heap));
     assert!(rt; owns(heap, h.slot()));
@@ -262,5 +279,23 @@ fn a_snapshot_outlives_its_cell(rt: HostRuntime) -> Result<(), Fail> {
     assert!(rt; load(&rt, &mut heap, 0).is_none());
     assert!(rt; snap(&rt, &mut heap, 0).is_none());
     assert!(rt; load_weak(&rt, &mut heap, 0).is_none());
+    Ok(())
+}
+
+#[test]
+fn fields_hold_references(rt: HostRuntime) -> Result<(), Fail> {
+    let mut heap: Records = PlainHeap::new(rt.alloc(), 4, 0, 0)?;
+    let a = make(&rt, &mut heap, b"a");
+    let b = make(&rt, &mut heap, b"b");
+    let c = copy(&rt, &mut heap, &b);
+    put_field(&rt, &mut heap, (a.slot(), 1), c);
+    let w = weaken(&rt, &mut heap, &a);
+    link_weakly(&rt, &mut heap, b.slot(), w);
+    assert!(rt; load_field(&rt, &mut heap, (a.slot(), 0)).is_none());
+    assert_eq!(rt; counts(&rt, &heap, a.slot()), (1, 2));
+    assert_eq!(rt; counts(&rt, &heap, b.slot()), (2, 1));
+    let d = load_field(&rt, &mut heap, (a.slot(), 1)).expect(&rt, "a reference");
+    assert_eq!(rt; d.slot().0, b.slot().0);
+    assert_eq!(rt; counts(&rt, &heap, b.slot()), (3, 1));
     Ok(())
 }
