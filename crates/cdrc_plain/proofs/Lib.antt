@@ -24,3 +24,8 @@ pub mod SettlingEntries
 pub mod SettlingObjects
 pub mod SettlingRounds
 pub mod Owning
+pub mod Gains
+pub mod Placing
+pub mod Loading
+pub mod Entries
+pub mod Listed

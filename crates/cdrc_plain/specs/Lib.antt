@@ -12,3 +12,4 @@ pub mod Heaps
 pub mod Stores
 pub mod Records
 pub mod Draining
+pub mod Calls

@@ -1,5 +1,5 @@
 //! The handles of a plain heap: plain values, which give no right of their own.
-ghost use Rattle.std.specs.Prelude.{◌≡◌};
+ghost use Rattle.std.specs.Prelude.{◌≡◌, Bool};
 ghost use Rattle.cdrc_plain.specs.declared.slot.SlotId.{SlotId};
 
 use crate::slot::SlotId;
@@ -57,4 +57,40 @@ impl WeakHand {
     {
         self.slot
     }
+}
+
+/// A snapshot of a strong place. An uncounted one keeps its object by an announcement, a counted
+/// one by a reference.
+#[derive(Debug, Drop)]
+pub struct SnapHand {
+    slot: SlotId,
+    counted: bool,
+}
+
+impl Model for SnapHand {
+    ghost Value = { SlotId × Bool };
+
+    ghost view = { λ h. (h.slot, h.counted) };
+}
+
+impl SnapHand {
+    /// A handle of a snapshot, made anew.
+    pub(crate) fn of(slot: SlotId, counted: bool) -> SnapHand
+        ensures { result ≡ (slot, counted) }
+    {
+        SnapHand { slot, counted }
+    }
+
+    pub fn slot(&self) -> SlotId
+        ensures { result ≡ self.now.0 }
+    {
+        self.slot
+    }
+}
+
+/// Whether the snapshot holds a reference.
+pub fn counted(s: &SnapHand) -> bool
+    ensures { result ≡ s.now.1 }
+{
+    s.counted
 }
