@@ -27,25 +27,25 @@ pub record SeatChange (p q : Plain) (v w : PlainSeat) (s : SlotId) : Type 0 wher
   pub owned : owned_times q s + times s v.owned ≡ owned_times p s + times s w.owned
   pub weaks : weak_times q s + times s v.weaks ≡ weak_times p s + times s w.weaks
   pub strong_snapshots :
-    snapshot_times Strong q s + entry_times Strong s v.snapshots
-    ≡ snapshot_times Strong p s + entry_times Strong s w.snapshots
+      snapshot_times Strong q s + entry_times Strong s v.snapshots
+      ≡ snapshot_times Strong p s + entry_times Strong s w.snapshots
   pub weak_snapshots :
-    snapshot_times Weak q s + entry_times Weak s v.snapshots
-    ≡ snapshot_times Weak p s + entry_times Weak s w.snapshots
+      snapshot_times Weak q s + entry_times Weak s v.snapshots
+      ≡ snapshot_times Weak p s + entry_times Weak s w.snapshots
   pub strong_deferred :
-    deferrals Strong q s + entry_times Strong s v.deferred
+      deferrals Strong q s + entry_times Strong s v.deferred
       ≡ deferrals Strong p s + entry_times Strong s w.deferred
   pub weak_deferred :
-    deferrals Weak q s + entry_times Weak s v.deferred
+      deferrals Weak q s + entry_times Weak s v.deferred
       ≡ deferrals Weak p s + entry_times Weak s w.deferred
   pub dying : dying_times q s + times s v.dying ≡ dying_times p s + times s w.dying
   pub adds : all_adds q + v.adds ≡ all_adds p + w.adds
   pub strong :
-    strong_refs q s + (times s v.owned + entry_times Strong s v.deferred)
-    ≡ strong_refs p s + (times s w.owned + entry_times Strong s w.deferred)
+      strong_refs q s + (times s v.owned + entry_times Strong s v.deferred)
+      ≡ strong_refs p s + (times s w.owned + entry_times Strong s w.deferred)
   pub weak :
-    weak_refs q s + (times s v.weaks + entry_times Weak s v.deferred)
-    ≡ weak_refs p s + (times s w.weaks + entry_times Weak s w.deferred)
+      weak_refs q s + (times s v.weaks + entry_times Weak s v.deferred)
+      ≡ weak_refs p s + (times s w.weaks + entry_times Weak s w.deferred)
 
 pub seat_change : (p : Plain) (n : ℕ) (w : PlainSeat) (s : SlotId) → n < length p.seats
     → SeatChange p (with_seat p n w) (seat_at p n) w s
@@ -58,7 +58,7 @@ seat_change p n w s h =
       owned = o;
       weaks = u;
       strong_snapshots =
-        seats_set (λ (v : PlainSeat). entry_times Strong s v.snapshots) p.seats n w h;
+          seats_set (λ (v : PlainSeat). entry_times Strong s v.snapshots) p.seats n w h;
       weak_snapshots = seats_set (λ (v : PlainSeat). entry_times Weak s v.snapshots) p.seats n w h;
       strong_deferred = d;
       weak_deferred = e;
@@ -126,17 +126,17 @@ seats_same p q s e = record {
 -- slot x is y: places lose what its fields held, and gain what y's hold. What seats have stays
 pub record SlotChange (p : Plain) (x : SlotId) (y : PlainSlot) (s : SlotId) : Type 0 where
   pub strong_places :
-    places Strong (with_slot p x y) s + strong_fields s (slot_at p x)
+      places Strong (with_slot p x y) s + strong_fields s (slot_at p x)
       ≡ places Strong p s + strong_fields s y
   pub weak_places :
-    places Weak (with_slot p x y) s + weak_fields s (slot_at p x)
+      places Weak (with_slot p x y) s + weak_fields s (slot_at p x)
       ≡ places Weak p s + weak_fields s y
   pub strong :
-    strong_refs (with_slot p x y) s + strong_fields s (slot_at p x)
+      strong_refs (with_slot p x y) s + strong_fields s (slot_at p x)
       ≡ strong_refs p s + strong_fields s y
   pub weak :
-    weak_refs (with_slot p x y) s + weak_fields s (slot_at p x) + own_reference (stage_at p s)
-    ≡ weak_refs p s + weak_fields s y + own_reference (stage_at (with_slot p x y) s)
+      weak_refs (with_slot p x y) s + weak_fields s (slot_at p x) + own_reference (stage_at p s)
+      ≡ weak_refs p s + weak_fields s y + own_reference (stage_at (with_slot p x y) s)
 
 pub slot_change : (p : Plain) (x : SlotId) (y : PlainSlot) (s : SlotId) → x.0 < length p.slots
     → SlotChange p x y s
@@ -201,7 +201,7 @@ slot_object p x y s h same =
     (subst (λ (z : PlainSlot). IsSameObject (slot_at p x) z) (sym (slot_same p x y h)) same))
     (λ (ne : s.0 ≢ x.0).
     subst (λ (z : PlainSlot). IsSameObject (slot_at p s) z) (sym (slot_other p x y s ne))
-      (refl, refl, refl, refl))
+    (refl, refl, refl, refl))
     (cases_slot s x)
 
 pub field_object : (new : Option SlotId) (x : PlainSlot) (first : Bool)
@@ -226,17 +226,17 @@ pub record PlaceChange (p : Plain) (place : EventPlace) (new : Option SlotId) (s
     : Type 0 where
   pub seats : (with_content p place new).seats ≡ p.seats
   pub strong_places :
-    places Strong (with_content p place new) s + place_holds Strong s place (content p place)
-    ≡ places Strong p s + place_holds Strong s place new
+      places Strong (with_content p place new) s + place_holds Strong s place (content p place)
+      ≡ places Strong p s + place_holds Strong s place new
   pub weak_places :
-    places Weak (with_content p place new) s + place_holds Weak s place (content p place)
-    ≡ places Weak p s + place_holds Weak s place new
+      places Weak (with_content p place new) s + place_holds Weak s place (content p place)
+      ≡ places Weak p s + place_holds Weak s place new
   pub strong :
-    strong_refs (with_content p place new) s + place_holds Strong s place (content p place)
-    ≡ strong_refs p s + place_holds Strong s place new
+      strong_refs (with_content p place new) s + place_holds Strong s place (content p place)
+      ≡ strong_refs p s + place_holds Strong s place new
   pub weak :
-    weak_refs (with_content p place new) s + place_holds Weak s place (content p place)
-    ≡ weak_refs p s + place_holds Weak s place new
+      weak_refs (with_content p place new) s + place_holds Weak s place (content p place)
+      ≡ weak_refs p s + place_holds Weak s place new
 
 pub place_change : (p : Plain) (place : EventPlace) (new : Option SlotId) (s : SlotId)
     → IsThere p place
@@ -245,8 +245,10 @@ place_change p (Cell i) new s h =
     let c = cells_set s p.cells i new h in
     record {
       seats = refl;
-      strong_places = omega arith; weak_places = refl;
-      strong = omega arith; weak = omega arith;
+      strong_places = omega arith;
+      weak_places = refl;
+      strong = omega arith;
+      weak = omega arith;
     }
 place_change p (Field x i) new s h =
     let y = with_field i new (slot_at p x) in
@@ -256,15 +258,19 @@ place_change p (Field x i) new s h =
     let o = ap own_reference (content_object p (Field x i) new s h).0 in
     record {
       seats = refl;
-      strong_places = omega arith; weak_places = omega arith;
-      strong = omega arith; weak = omega arith;
+      strong_places = omega arith;
+      weak_places = omega arith;
+      strong = omega arith;
+      weak = omega arith;
     }
 place_change p (WeakCell i) new s h =
     let c = cells_set s p.weak_cells i new h in
     record {
       seats = refl;
-      strong_places = refl; weak_places = omega arith;
-      strong = omega arith; weak = omega arith;
+      strong_places = refl;
+      weak_places = omega arith;
+      strong = omega arith;
+      weak = omega arith;
     }
 place_change p (WeakField x) new s h =
     let y : PlainSlot = record (slot_at p x) { weak_field = new } in
@@ -272,8 +278,10 @@ place_change p (WeakField x) new s h =
     let o = ap own_reference (content_object p (WeakField x) new s h).0 in
     record {
       seats = refl;
-      strong_places = omega arith; weak_places = omega arith;
-      strong = omega arith; weak = omega arith;
+      strong_places = omega arith;
+      weak_places = omega arith;
+      strong = omega arith;
+      weak = omega arith;
     }
 
 -- what a place holds is part of the sum

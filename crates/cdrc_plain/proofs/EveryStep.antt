@@ -42,7 +42,7 @@ replaces_sound : (p q : Plain) (n : ℕ) (place : EventPlace) (new : Option Slot
 replaces_sound p q n place new so hn at is =
     subst Sound (sym is.2)
     (replace_sound p n place new is.0 so hn
-      (open_there p n place so hn at) (open_object p n place so hn at) is.1)
+    (open_there p n place so hn at) (open_object p n place so hn at) is.1)
 
 clears_sound : (p q : Plain) (n : ℕ) (place : EventPlace) → Sound p → n < length p.seats
     → IsDyingField p n place

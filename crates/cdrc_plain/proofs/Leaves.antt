@@ -41,8 +41,12 @@ less p j t h0 hj ne =
     let strong_none = entry_none Strong t in
     let weak_none = entry_none Weak t in
     record {
-      strong = omega arith; weak = omega arith; adds = omega arith; dying = omega arith;
-      strong_covered = λ k h. omega arith; weak_covered = λ k h. omega arith;
+      strong = omega arith;
+      weak = omega arith;
+      adds = omega arith;
+      dying = omega arith;
+      strong_covered = λ k h. omega arith;
+      weak_covered = λ k h. omega arith;
     }
 
 after_sound : (p : Plain) (j : ℕ) → Sound p → 0 < length p.seats → j < length p.seats → j ≢ 0

@@ -87,7 +87,7 @@ module _ (p : Plain) (s : SlotId) (here : IsSeat p 0) (at : s.0 < length p.slots
   unfolding started
   starts_made pl =
       ap (λ (v : PlainSeat). with_slot (with_seat (filling p s pl) 0 (record v { owned = v.owned ++ s ∷ []; filling = None; adds = v.adds + 1 })) s
-        (record (slot_at (filling p s pl) s) { stage = Live; marked = false; life = (slot_at (filling p s pl) s).life + 1 })) (seat_then pl)
+      (record (slot_at (filling p s pl) s) { stage = Live; marked = false; life = (slot_at (filling p s pl) s).life + 1 })) (seat_then pl)
       ∙ ap (λ (x : PlainSlot). with_slot (with_seat (filling p s pl) 0 starts) s (record x { stage = Live; marked = false; life = x.life + 1 })) (slot_then pl)
       ∙ ap (λ (vs : List PlainSeat). record p { seats = vs; slots = set (set p.slots s.0 (blank pl)) s.0 (alive pl) }) (set-set p.seats 0 claims starts)
       ∙ ap (λ (xs : List PlainSlot). record p { seats = set p.seats 0 starts; slots = xs }) (set-set p.slots s.0 (blank pl) (alive pl))
@@ -114,7 +114,7 @@ module _ (p : Plain) (s : SlotId) (here : IsSeat p 0) (at : s.0 < length p.slots
   filled_only [] pl i more q r = r
   filled_only (word ∷ words) pl i more q (m, found, (_, (_, _, _, _, e)), r) =
       filled_only words (set pl i word) (i + 1) more q
-        (subst (λ (z : Plain). Runs z 0 (fills s (i + 1) words ++ more) q) (e ∙ filled pl i word) r)
+      (subst (λ (z : Plain). Runs z 0 (fills s (i + 1) words ++ more) q) (e ∙ filled pl i word) r)
 
   made_only : (pl : List ℕ) (q : Plain) → Runs (filling p s pl) 0 (act.Make s ∷ []) q → q ≡ made p s pl
   unfolding started
@@ -132,8 +132,8 @@ make_is p q s payload len old (m, found, (here, (at, free, _, e)), r) = record {
   there = at;
   free = free;
   state =
-    let back : Runs (filling p s (slot_at p s).payload) 0 (fills s 0 payload ++ act.Make s ∷ []) q = subst (λ (z : Plain). Runs z 0 (fills s 0 payload ++ act.Make s ∷ []) q) e r in
-    made_only p s here at payload q
+      let back : Runs (filling p s (slot_at p s).payload) 0 (fills s 0 payload ++ act.Make s ∷ []) q = subst (λ (z : Plain). Runs z 0 (fills s 0 payload ++ act.Make s ∷ []) q) e r in
+      made_only p s here at payload q
       (subst (λ (pl : List ℕ). Runs (filling p s pl) 0 (act.Make s ∷ []) q) (written_is (slot_at p s).payload payload 0 (omega (arith, len, old s at)))
-        (filled_only p s here at payload (slot_at p s).payload 0 (act.Make s ∷ []) q back));
+      (filled_only p s here at payload (slot_at p s).payload 0 (act.Make s ∷ []) q back));
 }

@@ -107,7 +107,7 @@ slot_nulls p x y s same stands null =
     ⊎_elim
     (λ (e : s ≡ x).
     let stage : stage_at (with_slot p x y) s ≡ stage_at p x =
-      same.0 ∙ ap (λ (z : SlotId). stage_at p z) e in
+    same.0 ∙ ap (λ (z : SlotId). stage_at p z) e in
     λ vacant. absurd (⊎_elim (λ l. vacant.0 (stage ∙ l)) (λ d. vacant.1 (stage ∙ d)) stands))
     (λ (ne : s.0 ≢ x.0). subst NullIfVacant (sym (slot_other p x y s ne)) null)
     (cases_slot s x)
@@ -119,11 +119,11 @@ content_nulls : (p : Plain) (place : EventPlace) (new : Option SlotId) (s : Slot
 content_nulls p (Cell i) new s there stands null = null
 content_nulls p (Field x i) new s there stands null =
     slot_nulls p x (with_field i new (slot_at p x)) s
-      (content_object p (Field x i) new s there) stands null
+    (content_object p (Field x i) new s there) stands null
 content_nulls p (WeakCell i) new s there stands null = null
 content_nulls p (WeakField x) new s there stands null =
     slot_nulls p x (record (slot_at p x) { weak_field = new }) s
-      (content_object p (WeakField x) new s there)
+    (content_object p (WeakField x) new s there)
     stands null
 
 abbrev Payloads : List PlainSlot → Type 0
@@ -139,7 +139,7 @@ content_payloads p (Field x i) new there all =
 content_payloads p (WeakCell i) new there all = all
 content_payloads p (WeakField x) new there all =
     All-set (λ (y : PlainSlot). length y.payload ≡ 16) p.slots x.0
-      (record (slot_at p x) { weak_field = new })
+    (record (slot_at p x) { weak_field = new })
     (all x.0 new_slot there) all
 
 -- a write of a seat leaves places
@@ -173,7 +173,7 @@ pub replace_sound : (p : Plain) (n : ℕ) (place : EventPlace) (new : Option Slo
     place new)
 replace_sound p n place new w so hn there stands gives =
     sound_by (with_content r place new) each
-      (content_payloads r place new (there_after p n u place there) so.payloads)
+    (content_payloads r place new (there_after p n u place there) so.payloads)
   where
     u : PlainSeat
     u = record w { deferred = joined (place_kind place) (content p place) w.deferred }
@@ -191,31 +191,35 @@ replace_sound p n place new w so hn there stands gives =
         let sd = joined_times Strong k t (content p place) w.deferred in
         let wd = joined_times Weak k t (content p place) w.deferred in
         let sv : entry_times Strong t w.deferred ≡ entry_times Strong t (seat_at p n).deferred =
-          ap (entry_times Strong t) g.deferred in
+        ap (entry_times Strong t) g.deferred in
         let wv : entry_times Weak t w.deferred ≡ entry_times Weak t (seat_at p n).deferred =
-          ap (entry_times Weak t) g.deferred in
+        ap (entry_times Weak t) g.deferred in
         let ss : entry_times Strong t w.snapshots ≡ entry_times Strong t (seat_at p n).snapshots =
-          ap (entry_times Strong t) g.snapshots in
+        ap (entry_times Strong t) g.snapshots in
         let ws : entry_times Weak t w.snapshots ≡ entry_times Weak t (seat_at p n).snapshots =
-          ap (entry_times Weak t) g.snapshots in
+        ap (entry_times Weak t) g.snapshots in
         let y : times t w.dying ≡ times t (seat_at p n).dying = ap (times t) g.dying in
         let sc : place_holds Strong t place (content r place)
-          ≡ place_holds Strong t place (content p place) =
-          ap (place_holds Strong t place) (content_after p n u place) in
+        ≡ place_holds Strong t place (content p place) =
+        ap (place_holds Strong t place) (content_after p n u place) in
         let wc : place_holds Weak t place (content r place)
-          ≡ place_holds Weak t place (content p place) =
-          ap (place_holds Weak t place) (content_after p n u place) in
+        ≡ place_holds Weak t place (content p place) =
+        ap (place_holds Weak t place) (content_after p n u place) in
         record {
-          strong = omega arith; weak = omega arith; adds = omega arith; dying = omega arith;
-          strong_covered = λ q h. omega arith; weak_covered = λ q h. omega arith;
+          strong = omega arith;
+          weak = omega arith;
+          adds = omega arith;
+          dying = omega arith;
+          strong_covered = λ q h. omega arith;
+          weak_covered = λ q h. omega arith;
         }
 
     each : (t : SlotId) → SlotLaw
-      (numbers (with_content r place new) t) (slot_at (with_content r place new) t)
+        (numbers (with_content r place new) t) (slot_at (with_content r place new) t)
     each t =
         let same = content_object r place new t (there_after p n u place there) in
         no_more (numbers p t) (numbers (with_content r place new) t) (slot_at p t)
         (slot_at (with_content r place new) t) (slot_law p so t) (less t) same.0 same.1
         (content_nulls r place new t
-          (there_after p n u place there) (object_after p n u place stands)
+        (there_after p n u place there) (object_after p n u place stands)
         (slot_law p so t).nulls)

@@ -49,11 +49,11 @@ held_live p n s so hn held =
     let law = slot_law p so s in
     let part = seat_part p n s hn in
     let some : 0 < strong_sum (numbers p s) =
-      ⊎_elim
-      (λ (z : strong_sum (numbers p s) ≡ 0).
-      let c = none_under (numbers p s) (slot_at p s) law z in absurd (omega arith))
-      (λ h. h)
-      (none_or_some (strong_sum (numbers p s))) in
+    ⊎_elim
+    (λ (z : strong_sum (numbers p s) ≡ 0).
+    let c = none_under (numbers p s) (slot_at p s) law z in absurd (omega arith))
+    (λ h. h)
+    (none_or_some (strong_sum (numbers p s))) in
     (law.strong some).0
 
 -- an open place is there, and so is a field of a dying slot
@@ -78,13 +78,15 @@ seat_sound p n w so each = sound_by (with_seat p n w) each so.payloads
 pub add_sound : (p : Plain) (n : ℕ) (s : SlotId) → Sound p → n < length p.seats
     → (slot_at p s).marked ≡ false
     → Sound (with_seat p n (record (seat_at p n) {
-      owned = (seat_at p n).owned ++ s ∷ []; adds = (seat_at p n).adds + 1;
+      owned = (seat_at p n).owned ++ s ∷ [];
+      adds = (seat_at p n).adds + 1;
     }))
 add_sound p n s so hn unmarked = seat_sound p n w so each
   where
     w : PlainSeat
     w = record (seat_at p n) {
-      owned = (seat_at p n).owned ++ s ∷ []; adds = (seat_at p n).adds + 1;
+      owned = (seat_at p n).owned ++ s ∷ [];
+      adds = (seat_at p n).adds + 1;
     }
 
     each : EachAfter p n w
@@ -95,32 +97,42 @@ add_sound p n s so hn unmarked = seat_sound p n w so each
         ⊎_elim
         (λ (e : t ≡ s).
         let mark : (slot_at p t).marked ≡ false =
-          ap (λ (z : SlotId). (slot_at p z).marked) e ∙ unmarked in
+        ap (λ (z : SlotId). (slot_at p z).marked) e ∙ unmarked in
         let o = held_once t (Some s) in
         one_strong (numbers p t) (numbers (with_seat p n w) t) (slot_at p t) law
-          (live_unmarked _ _ law mark) mark
+        (live_unmarked _ _ law mark) mark
         (omega arith) (omega arith) (record {
-          strong = omega arith; weak = omega arith; adds = omega arith; dying = omega arith;
-          strong_covered = λ k h. omega arith; weak_covered = λ k h. omega arith;
+          strong = omega arith;
+          weak = omega arith;
+          adds = omega arith;
+          dying = omega arith;
+          strong_covered = λ k h. omega arith;
+          weak_covered = λ k h. omega arith;
         }))
         (λ (ne : t.0 ≢ s.0).
         let o = held_other t s (λ f. ne (sym f)) in
         no_more_here (numbers p t) (numbers (with_seat p n w) t) (slot_at p t) law (record {
-          strong = omega arith; weak = omega arith; adds = omega arith; dying = omega arith;
-          strong_covered = λ k h. omega arith; weak_covered = λ k h. omega arith;
+          strong = omega arith;
+          weak = omega arith;
+          adds = omega arith;
+          dying = omega arith;
+          strong_covered = λ k h. omega arith;
+          weak_covered = λ k h. omega arith;
         }))
         (cases_slot t s)
 
 pub weak_gain_sound : (p : Plain) (n : ℕ) (s : SlotId) → Sound p → n < length p.seats
     → Holds (seat_at p n) s
     → Sound (with_seat p n (record (seat_at p n) {
-      weaks = (seat_at p n).weaks ++ s ∷ []; adds = (seat_at p n).adds + 1;
+      weaks = (seat_at p n).weaks ++ s ∷ [];
+      adds = (seat_at p n).adds + 1;
     }))
 weak_gain_sound p n s so hn held = seat_sound p n w so each
   where
     w : PlainSeat
     w = record (seat_at p n) {
-      weaks = (seat_at p n).weaks ++ s ∷ []; adds = (seat_at p n).adds + 1;
+      weaks = (seat_at p n).weaks ++ s ∷ [];
+      adds = (seat_at p n).adds + 1;
     }
 
     each : EachAfter p n w
@@ -131,18 +143,26 @@ weak_gain_sound p n s so hn held = seat_sound p n w so each
         ⊎_elim
         (λ (e : t ≡ s).
         let taken : stage_at p t ≢ Free =
-          λ f. held_there p n s so hn held (ap (λ (z : SlotId). stage_at p z) (sym e) ∙ f) in
+        λ f. held_there p n s so hn held (ap (λ (z : SlotId). stage_at p z) (sym e) ∙ f) in
         let o = held_once t (Some s) in
         one_weak (numbers p t) (numbers (with_seat p n w) t) (slot_at p t) law taken
         (omega arith) (omega arith) (record {
-          strong = omega arith; weak = omega arith; adds = omega arith; dying = omega arith;
-          strong_covered = λ k h. omega arith; weak_covered = λ k h. omega arith;
+          strong = omega arith;
+          weak = omega arith;
+          adds = omega arith;
+          dying = omega arith;
+          strong_covered = λ k h. omega arith;
+          weak_covered = λ k h. omega arith;
         }))
         (λ (ne : t.0 ≢ s.0).
         let o = held_other t s (λ f. ne (sym f)) in
         no_more_here (numbers p t) (numbers (with_seat p n w) t) (slot_at p t) law (record {
-          strong = omega arith; weak = omega arith; adds = omega arith; dying = omega arith;
-          strong_covered = λ k h. omega arith; weak_covered = λ k h. omega arith;
+          strong = omega arith;
+          weak = omega arith;
+          adds = omega arith;
+          dying = omega arith;
+          strong_covered = λ k h. omega arith;
+          weak_covered = λ k h. omega arith;
         }))
         (cases_slot t s)
 
@@ -158,8 +178,12 @@ add_refused_sound p n so hn =
     less_sound p n (record (seat_at p n) { adds = (seat_at p n).adds + 1 }) so (λ t.
     let c = seat_change p n (record (seat_at p n) { adds = (seat_at p n).adds + 1 }) t hn in
     record {
-      strong = omega arith; weak = omega arith; adds = omega arith; dying = omega arith;
-      strong_covered = λ k h. omega arith; weak_covered = λ k h. omega arith;
+      strong = omega arith;
+      weak = omega arith;
+      adds = omega arith;
+      dying = omega arith;
+      strong_covered = λ k h. omega arith;
+      weak_covered = λ k h. omega arith;
     })
 
 pub drop_sound : (p : Plain) (n : ℕ) (s : SlotId) (xs : List SlotId) → Sound p → n < length p.seats
@@ -168,8 +192,12 @@ drop_sound p n s xs so hn loses =
     less_sound p n (record (seat_at p n) { owned = xs }) so (λ t.
     let c = seat_change p n (record (seat_at p n) { owned = xs }) t hn in
     let l = times_loses t s (seat_at p n).owned xs loses in record {
-      strong = omega arith; weak = omega arith; adds = omega arith; dying = omega arith;
-      strong_covered = λ k h. omega arith; weak_covered = λ k h. omega arith;
+      strong = omega arith;
+      weak = omega arith;
+      adds = omega arith;
+      dying = omega arith;
+      strong_covered = λ k h. omega arith;
+      weak_covered = λ k h. omega arith;
     })
 
 pub weak_drop_sound : (p : Plain) (n : ℕ) (s : SlotId) (xs : List SlotId) → Sound p
@@ -179,8 +207,12 @@ weak_drop_sound p n s xs so hn loses =
     less_sound p n (record (seat_at p n) { weaks = xs }) so (λ t.
     let c = seat_change p n (record (seat_at p n) { weaks = xs }) t hn in
     let l = times_loses t s (seat_at p n).weaks xs loses in record {
-      strong = omega arith; weak = omega arith; adds = omega arith; dying = omega arith;
-      strong_covered = λ k h. omega arith; weak_covered = λ k h. omega arith;
+      strong = omega arith;
+      weak = omega arith;
+      adds = omega arith;
+      dying = omega arith;
+      strong_covered = λ k h. omega arith;
+      weak_covered = λ k h. omega arith;
     })
 
 -- a snapshot of a slot that a place of its kind holds
@@ -194,12 +226,15 @@ snapshot_sound p n Strong s so hn held =
     let c = seat_change p n (with_snapshot (Strong, s) (seat_at p n)) t hn in
     let a = entry_push Strong t (Strong, s) (seat_at p n).snapshots in
     let b = entry_push Weak t (Strong, s) (seat_at p n).snapshots in record {
-      strong = omega arith; weak = omega arith; adds = omega arith; dying = omega arith;
+      strong = omega arith;
+      weak = omega arith;
+      adds = omega arith;
+      dying = omega arith;
       strong_covered = λ q h.
-        ⊎_elim
-        (λ (e : t ≡ s). let same = ap (places Strong p) e in omega arith)
-        (λ (ne : t.0 ≢ s.0). let o = held_other t s (λ f. ne (sym f)) in omega arith)
-        (cases_slot t s);
+          ⊎_elim
+          (λ (e : t ≡ s). let same = ap (places Strong p) e in omega arith)
+          (λ (ne : t.0 ≢ s.0). let o = held_other t s (λ f. ne (sym f)) in omega arith)
+          (cases_slot t s);
       weak_covered = λ q h. omega arith;
     })
 snapshot_sound p n Weak s so hn held =
@@ -207,13 +242,16 @@ snapshot_sound p n Weak s so hn held =
     let c = seat_change p n (with_snapshot (Weak, s) (seat_at p n)) t hn in
     let a = entry_push Strong t (Weak, s) (seat_at p n).snapshots in
     let b = entry_push Weak t (Weak, s) (seat_at p n).snapshots in record {
-      strong = omega arith; weak = omega arith; adds = omega arith; dying = omega arith;
+      strong = omega arith;
+      weak = omega arith;
+      adds = omega arith;
+      dying = omega arith;
       strong_covered = λ q h. omega arith;
       weak_covered = λ q h.
-        ⊎_elim
-        (λ (e : t ≡ s). let same = ap (places Weak p) e in omega arith)
-        (λ (ne : t.0 ≢ s.0). let o = held_other t s (λ f. ne (sym f)) in omega arith)
-        (cases_slot t s);
+          ⊎_elim
+          (λ (e : t ≡ s). let same = ap (places Weak p) e in omega arith)
+          (λ (ne : t.0 ≢ s.0). let o = held_other t s (λ f. ne (sym f)) in omega arith)
+          (cases_slot t s);
     })
 
 pub check_sound : (p : Plain) (n : ℕ) (place : EventPlace) (s : SlotId) → Sound p
@@ -237,8 +275,12 @@ end_snapshot_sound p n k s es so hn loses =
     let c = seat_change p n (record (seat_at p n) { snapshots = es }) t hn in
     let a = entry_loses Strong t (k, s) (seat_at p n).snapshots es loses in
     let b = entry_loses Weak t (k, s) (seat_at p n).snapshots es loses in record {
-      strong = omega arith; weak = omega arith; adds = omega arith; dying = omega arith;
-      strong_covered = λ q h. omega arith; weak_covered = λ q h. omega arith;
+      strong = omega arith;
+      weak = omega arith;
+      adds = omega arith;
+      dying = omega arith;
+      strong_covered = λ q h. omega arith;
+      weak_covered = λ q h. omega arith;
     })
 
 pub eject_sound : (p : Plain) (n : ℕ) (k : Kind) (s : SlotId) (es : List Entry) → Sound p
@@ -251,8 +293,12 @@ eject_sound p n k s es so hn loses covered =
     let c = seat_change p n (record (seat_at p n) { deferred = es }) t hn in
     let a = entry_loses Strong t (k, s) (seat_at p n).deferred es loses in
     let b = entry_loses Weak t (k, s) (seat_at p n).deferred es loses in record {
-      strong = omega arith; weak = omega arith; adds = omega arith; dying = omega arith;
-      strong_covered = λ q h. covered Strong t h; weak_covered = λ q h. covered Weak t h;
+      strong = omega arith;
+      weak = omega arith;
+      adds = omega arith;
+      dying = omega arith;
+      strong_covered = λ q h. covered Strong t h;
+      weak_covered = λ q h. covered Weak t h;
     })
 
 pub split_sound : (p : Plain) (n : ℕ) (es : List Entry) → Sound p → n < length p.seats
@@ -263,6 +309,10 @@ split_sound p n es so hn same =
     let c = seat_change p n (record (seat_at p n) { deferred = es }) t hn in
     let a = same Strong t in
     let b = same Weak t in record {
-      strong = omega arith; weak = omega arith; adds = omega arith; dying = omega arith;
-      strong_covered = λ q h. omega arith; weak_covered = λ q h. omega arith;
+      strong = omega arith;
+      weak = omega arith;
+      adds = omega arith;
+      dying = omega arith;
+      strong_covered = λ q h. omega arith;
+      weak_covered = λ q h. omega arith;
     })

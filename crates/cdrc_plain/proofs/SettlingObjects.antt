@@ -133,7 +133,9 @@ defers_more h x y es =
     let b = joined_more Strong y.second (joined Strong y.first es) in
     let c = joined_more Weak y.weak_field (joined Strong y.second (joined Strong y.first es)) in
     let d = length-append (a.0 ++ b.0) c.0 in
-    let e = length-append a.0 b.0 in
-    ((a.0 ++ b.0) ++ c.0,
-    c.1 ∙ ap (λ (l : List Entry). l ++ c.0) (b.1 ∙ ap (λ (l : List Entry). l ++ b.0) a.1 ∙ append_assoc es a.0 b.0)
-    ∙ append_assoc es (a.0 ++ b.0) c.0, omega (arith, a.2, b.2, c.2))
+    let e = length-append a.0 b.0 in (
+      (a.0 ++ b.0) ++ c.0,
+      c.1 ∙ ap (λ (l : List Entry). l ++ c.0) (b.1 ∙ ap (λ (l : List Entry). l ++ b.0) a.1 ∙ append_assoc es a.0 b.0)
+          ∙ append_assoc es (a.0 ++ b.0) c.0,
+      omega (arith, a.2, b.2, c.2),
+    )

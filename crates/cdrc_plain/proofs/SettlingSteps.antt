@@ -101,10 +101,18 @@ module _ (v : PlainSeat) (cs ws : List (Option SlotId)) (xs : List PlainSlot) (h
   -- the entry goes, and the others change their order
   pub takes_settles : (k : Kind) (s : SlotId) (fs es : List Entry) → IsCovered (one v cs ws xs) → Loses v.deferred (k, s) fs
       → IsSurplus v k s → IsReordering fs es → SettlesFreely (one v cs ws xs) (takes es)
-  takes_settles k s fs es covered l more same weight =
-      (act.Eject k s ∷ act.Split ∷ [],
-      (takes fs, 0, 0, more, ((lit< tt, here), (fs, l, refl, refl, covered_after k s fs covered l more)),
-      (takes es, 0, 0, tt, ((lit< tt, here), (refl, (es, same, refl))), (refl, refl), refl), refl))
+  takes_settles k s fs es covered l more same weight = (
+    act.Eject k s ∷ act.Split ∷ [],
+    (
+      takes fs,
+      0,
+      0,
+      more,
+      ((lit< tt, here), (fs, l, refl, refl, covered_after k s fs covered l more)),
+      (takes es, 0, 0, tt, ((lit< tt, here), (refl, (es, same, refl))), (refl, refl), refl),
+      refl,
+    ),
+  )
 
 -- an object is destroyed: its three places are cleared in turn
 module _ (cs ws : List (Option SlotId)) (s : SlotId) where
@@ -115,28 +123,43 @@ module _ (cs ws : List (Option SlotId)) (s : SlotId) where
       → set ys s.0 (record x { first = None }) ≡ zs
       → Does (one v cs ws ys) 0 (act.Clear (Field s 0)) (word_of x.first)
       (one (record v { deferred = joined Strong x.first v.deferred }) cs ws zs)
-  clear_first v ys zs x dies e f =
-      ((lit< tt, dies.0), ((lit< tt, dies.1), ap (λ (y : PlainSlot). word_of y.first) (sym e),
+  clear_first v ys zs x dies e f = (
+    (lit< tt, dies.0),
+    (
+      (lit< tt, dies.1),
+      ap (λ (y : PlainSlot). word_of y.first) (sym e),
       sym (ap (λ (y : PlainSlot). one (record v { deferred = joined Strong y.first v.deferred }) cs ws (set ys s.0 (record y { first = None }))) e
-      ∙ ap (λ (l : List PlainSlot). one (record v { deferred = joined Strong x.first v.deferred }) cs ws l) f)))
+          ∙ ap (λ (l : List PlainSlot). one (record v { deferred = joined Strong x.first v.deferred }) cs ws l) f),
+    ),
+  )
 
   clear_second : (v : PlainSeat) (ys zs : List PlainSlot) (x : PlainSlot) → Dies v → get_or ys s.0 new_slot ≡ x
       → set ys s.0 (record x { second = None }) ≡ zs
       → Does (one v cs ws ys) 0 (act.Clear (Field s 1)) (word_of x.second)
       (one (record v { deferred = joined Strong x.second v.deferred }) cs ws zs)
-  clear_second v ys zs x dies e f =
-      ((lit< tt, dies.0), ((lit< tt, dies.1), ap (λ (y : PlainSlot). word_of y.second) (sym e),
+  clear_second v ys zs x dies e f = (
+    (lit< tt, dies.0),
+    (
+      (lit< tt, dies.1),
+      ap (λ (y : PlainSlot). word_of y.second) (sym e),
       sym (ap (λ (y : PlainSlot). one (record v { deferred = joined Strong y.second v.deferred }) cs ws (set ys s.0 (record y { second = None }))) e
-      ∙ ap (λ (l : List PlainSlot). one (record v { deferred = joined Strong x.second v.deferred }) cs ws l) f)))
+          ∙ ap (λ (l : List PlainSlot). one (record v { deferred = joined Strong x.second v.deferred }) cs ws l) f),
+    ),
+  )
 
   clear_weak : (v : PlainSeat) (ys zs : List PlainSlot) (x : PlainSlot) → Dies v → get_or ys s.0 new_slot ≡ x
       → set ys s.0 (record x { weak_field = None }) ≡ zs
       → Does (one v cs ws ys) 0 (act.Clear (WeakField s)) (word_of x.weak_field)
       (one (record v { deferred = joined Weak x.weak_field v.deferred }) cs ws zs)
-  clear_weak v ys zs x dies e f =
-      ((lit< tt, dies.0), (dies.1, ap (λ (y : PlainSlot). word_of y.weak_field) (sym e),
+  clear_weak v ys zs x dies e f = (
+    (lit< tt, dies.0),
+    (
+      dies.1,
+      ap (λ (y : PlainSlot). word_of y.weak_field) (sym e),
       sym (ap (λ (y : PlainSlot). one (record v { deferred = joined Weak y.weak_field v.deferred }) cs ws (set ys s.0 (record y { weak_field = None }))) e
-      ∙ ap (λ (l : List PlainSlot). one (record v { deferred = joined Weak x.weak_field v.deferred }) cs ws l) f)))
+          ∙ ap (λ (l : List PlainSlot). one (record v { deferred = joined Weak x.weak_field v.deferred }) cs ws l) f),
+    ),
+  )
 
   abbrev nulled : PlainSlot → PlainSlot
   nulled x = record x { first = None; second = None; weak_field = None }
@@ -144,10 +167,19 @@ module _ (cs ws : List (Option SlotId)) (s : SlotId) where
   destroy_last : (v : PlainSeat) (ys zs : List PlainSlot) (x : PlainSlot) (rest : List SlotId) → v.left ≡ false → Loses v.dying s rest
       → get_or ys s.0 new_slot ≡ nulled x → set ys s.0 (husk_of x) ≡ zs
       → Does (one v cs ws ys) 0 (act.Destroy s) 0 (one (record v { dying = rest }) cs ws zs)
-  destroy_last v ys zs x rest here l e f =
-      ((lit< tt, here), ((ap (λ (y : PlainSlot). y.first) e, ap (λ (y : PlainSlot). y.second) e, ap (λ (y : PlainSlot). y.weak_field) e), refl,
-      (rest, l, sym (ap (λ (y : PlainSlot). one (record v { dying = rest }) cs ws (set ys s.0 (record y { stage = Husk }))) e
-      ∙ ap (λ (zl : List PlainSlot). one (record v { dying = rest }) cs ws zl) f))))
+  destroy_last v ys zs x rest here l e f = (
+    (lit< tt, here),
+    (
+      (ap (λ (y : PlainSlot). y.first) e, ap (λ (y : PlainSlot). y.second) e, ap (λ (y : PlainSlot). y.weak_field) e),
+      refl,
+      (
+        rest,
+        l,
+        sym (ap (λ (y : PlainSlot). one (record v { dying = rest }) cs ws (set ys s.0 (record y { stage = Husk }))) e
+            ∙ ap (λ (zl : List PlainSlot). one (record v { dying = rest }) cs ws zl) f),
+      ),
+    ),
+  )
 
   abbrev pub defers : PlainSlot → List Entry → List Entry
   defers x es = joined Weak x.weak_field (joined Strong x.second (joined Strong x.first es))
@@ -169,10 +201,39 @@ module _ (cs ws : List (Option SlotId)) (s : SlotId) where
       let v3 : PlainSeat = record v { deferred = defers x v.deferred } in
       let e1 = get_or-set_same xs s.0 x1 new_slot at in
       let e2 = get_or-set_same xs s.0 x2 new_slot at in
-      let e3 = get_or-set_same xs s.0 x3 new_slot at in
-      (act.Clear (Field s 0) ∷ act.Clear (Field s 1) ∷ act.Clear (WeakField s) ∷ act.Destroy s ∷ [],
-      (one v1 cs ws (set xs s.0 x1), word_of x.first, weight x.payload, tt, clear_first v xs (set xs s.0 x1) x dies refl refl,
-      (one v2 cs ws (set xs s.0 x2), word_of x.second, weight x.payload, tt, clear_second v1 (set xs s.0 x1) (set xs s.0 x2) x1 dies e1 (set-set xs s.0 x1 x2),
-      (one v3 cs ws (set xs s.0 x3), word_of x.weak_field, weight x.payload, tt, clear_weak v2 (set xs s.0 x2) (set xs s.0 x3) x2 dies e2 (set-set xs s.0 x2 x3),
-      (destroyed v rest xs, 0, 0, tt, destroy_last v3 (set xs s.0 x3) (set xs s.0 (husk_of x)) x rest dies.0 l e3 (set-set xs s.0 x3 (husk_of x)),
-      (refl, refl), (let e : weight (get_or (set xs s.0 x3) s.0 new_slot).payload ≡ weight x.payload = ap (λ (y : PlainSlot). weight y.payload) e3 in omega arith)), omega arith), omega arith), omega arith))
+      let e3 = get_or-set_same xs s.0 x3 new_slot at in (
+        act.Clear (Field s 0) ∷ act.Clear (Field s 1) ∷ act.Clear (WeakField s) ∷ act.Destroy s ∷ [],
+        (
+          one v1 cs ws (set xs s.0 x1),
+          word_of x.first,
+          weight x.payload,
+          tt,
+          clear_first v xs (set xs s.0 x1) x dies refl refl,
+          (
+            one v2 cs ws (set xs s.0 x2),
+            word_of x.second,
+            weight x.payload,
+            tt,
+            clear_second v1 (set xs s.0 x1) (set xs s.0 x2) x1 dies e1 (set-set xs s.0 x1 x2),
+            (
+              one v3 cs ws (set xs s.0 x3),
+              word_of x.weak_field,
+              weight x.payload,
+              tt,
+              clear_weak v2 (set xs s.0 x2) (set xs s.0 x3) x2 dies e2 (set-set xs s.0 x2 x3),
+              (
+                destroyed v rest xs,
+                0,
+                0,
+                tt,
+                destroy_last v3 (set xs s.0 x3) (set xs s.0 (husk_of x)) x rest dies.0 l e3 (set-set xs s.0 x3 (husk_of x)),
+                (refl, refl),
+                (let e : weight (get_or (set xs s.0 x3) s.0 new_slot).payload ≡ weight x.payload = ap (λ (y : PlainSlot). weight y.payload) e3 in omega arith),
+              ),
+              omega arith,
+            ),
+            omega arith,
+          ),
+          omega arith,
+        ),
+      )

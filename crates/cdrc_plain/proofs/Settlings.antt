@@ -114,25 +114,28 @@ module _ (fits : List ℕ → Type 0) (weight : List ℕ → ℕ) (most : ℕ) (
       let live = d.1.0 in
       let y = ended_of (slot_at p s) in
       let at : s.0 < length p.slots = is_there p s (λ f. cc) in
-      let e : q.slots ≡ slice_set p.slots s.0 y = ap (λ (r : Plain). r.slots) d.1.3 in
-      (fit_set fits p q s y fit e (λ o. fit s (inl live)),
-      (let a = worth_set most p q s y at e in let b = ap (if_object most) live in omega arith))
+      let e : q.slots ≡ slice_set p.slots s.0 y = ap (λ (r : Plain). r.slots) d.1.3 in (
+        fit_set fits p q s y fit e (λ o. fit s (inl live)),
+        (let a = worth_set most p q s y at e in let b = ap (if_object most) live in omega arith),
+      )
   step_keeps p q (act.Destroy s) found so fit may d =
       let gone = d.1.2 in
       let stage = dying_ended p 0 s so d.0.0 (times_lost s (seat_at p 0).dying gone.0 gone.1) in
       let y : PlainSlot = record (slot_at p s) { stage = Husk } in
       let at : s.0 < length p.slots = is_there p s (λ f. cc) in
-      let e : q.slots ≡ slice_set p.slots s.0 y = ap (λ (r : Plain). r.slots) gone.2 in
-      (fit_set fits p q s y fit e (λ o. absurd (⊎_elim (λ (l : Husk ≡ Live). cc) (λ (l : Husk ≡ Ended). cc) o)),
-      (let a = worth_set most p q s y at e in let b = ap (if_object most) stage in
-      let c = bounded (slot_at p s).payload (fit s (inr stage)) in omega arith))
+      let e : q.slots ≡ slice_set p.slots s.0 y = ap (λ (r : Plain). r.slots) gone.2 in (
+        fit_set fits p q s y fit e (λ o. absurd (⊎_elim (λ (l : Husk ≡ Live). cc) (λ (l : Husk ≡ Ended). cc) o)),
+        (let a = worth_set most p q s y at e in let b = ap (if_object most) stage in
+            let c = bounded (slot_at p s).payload (fit s (inr stage)) in omega arith),
+      )
   step_keeps p q (act.Give s) found so fit may d =
       let husk = d.1.0 in
       let y = freed_of (slot_at p s) in
       let at : s.0 < length p.slots = is_there p s (λ f. cc) in
-      let e : q.slots ≡ slice_set p.slots s.0 y = ap (λ (r : Plain). r.slots) d.1.3 in
-      (fit_set fits p q s y fit e (λ o. absurd (⊎_elim (λ (l : Free ≡ Live). cc) (λ (l : Free ≡ Ended). cc) o)),
-      (let a = worth_set most p q s y at e in let b = ap (if_object most) husk in omega arith))
+      let e : q.slots ≡ slice_set p.slots s.0 y = ap (λ (r : Plain). r.slots) d.1.3 in (
+        fit_set fits p q s y fit e (λ o. absurd (⊎_elim (λ (l : Free ≡ Live). cc) (λ (l : Free ≡ Ended). cc) o)),
+        (let a = worth_set most p q s y at e in let b = ap (if_object most) husk in omega arith),
+      )
 
   pub settles_keeps : (acts : List PlainAct) (p q : Plain) (t : ℕ) → Sound p → AllFit fits p → SettlesBy weight acts p t q
       → AllFit fits q × (t + per_object most q ≤ per_object most p)

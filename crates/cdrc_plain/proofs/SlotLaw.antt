@@ -104,11 +104,11 @@ pub record NoMore (m n : Numbers) : Type 0 where
   pub adds : m.adds ≤ n.adds
   pub dying : n.dying ≡ m.dying
   pub strong_covered :
-    (0 < m.strong_snapshots → 0 < m.strong_places + m.strong_deferred)
-    → 0 < n.strong_snapshots → 0 < n.strong_places + n.strong_deferred
+      (0 < m.strong_snapshots → 0 < m.strong_places + m.strong_deferred)
+      → 0 < n.strong_snapshots → 0 < n.strong_places + n.strong_deferred
   pub weak_covered :
-    (0 < m.weak_snapshots → 0 < m.weak_places + m.weak_deferred)
-    → 0 < n.weak_snapshots → 0 < n.weak_places + n.weak_deferred
+      (0 < m.weak_snapshots → 0 < m.weak_places + m.weak_deferred)
+      → 0 < n.weak_snapshots → 0 < n.weak_places + n.weak_deferred
 
 -- then the law stays, at a slot whose stage and mark stay
 pub no_more : (m n : Numbers) (x y : PlainSlot) → SlotLaw m x → NoMore m n → y.stage ≡ x.stage

@@ -47,7 +47,7 @@ pub claim_sound : (p : Plain) (n : ℕ) (s : SlotId) → Sound p → n < length 
 claim_sound p n s so hn hs free =
     slot_sound (with_seat p n w) s y hs so.payloads (so.payloads s.0 new_slot hs)
     (claimed (numbers p s) (numbers (with_slot (with_seat p n w) s y) s) (slot_at p s)
-      (slot_law p so s) (less s) free)
+    (slot_law p so s) (less s) free)
     (λ t ne. no_more_here (numbers p t) _ (slot_at p t) (slot_law p so t) (less t))
   where
     w : PlainSeat
@@ -60,8 +60,12 @@ claim_sound p n s so hn hs free =
     less t =
         let c = seat_change p n w t hn in
         let d = slot_change (with_seat p n w) s y t hs in record {
-          strong = omega arith; weak = omega arith; adds = omega arith; dying = omega arith;
-          strong_covered = λ k h. omega arith; weak_covered = λ k h. omega arith;
+          strong = omega arith;
+          weak = omega arith;
+          adds = omega arith;
+          dying = omega arith;
+          strong_covered = λ k h. omega arith;
+          weak_covered = λ k h. omega arith;
         }
 
 -- a write of slot s alone, which leaves its fields
@@ -73,8 +77,12 @@ alone p s y hs strong weak t =
     let d = slot_change p s y t hs in
     let a = strong t in
     let b = weak t in record {
-      strong = omega arith; weak = omega arith; adds = omega arith; dying = omega arith;
-      strong_covered = λ k h. omega arith; weak_covered = λ k h. omega arith;
+      strong = omega arith;
+      weak = omega arith;
+      adds = omega arith;
+      dying = omega arith;
+      strong_covered = λ k h. omega arith;
+      weak_covered = λ k h. omega arith;
     }
 
 pub fill_sound : (p : Plain) (s : SlotId) (i word : ℕ) → Sound p → stage_at p s ≡ Blank
@@ -84,9 +92,9 @@ fill_sound p s i word so blank =
     let y : PlainSlot = record (slot_at p s) { payload = set (slot_at p s).payload i word } in
     let same = alone p s y hs (λ t. refl) (λ t. refl) in
     slot_sound p s y hs so.payloads
-      (length-set (slot_at p s).payload i word ∙ so.payloads s.0 new_slot hs)
+    (length-set (slot_at p s).payload i word ∙ so.payloads s.0 new_slot hs)
     (no_more (numbers p s) _ (slot_at p s) y (slot_law p so s) (same s) refl refl
-      (slot_law p so s).nulls)
+    (slot_law p so s).nulls)
     (λ t ne. no_more_here (numbers p t) _ (slot_at p t) (slot_law p so t) (same t))
 
 pub mark_sound : (p : Plain) (s : SlotId) → Sound p → stage_at p s ≡ Live → strong_refs p s ≡ 0
@@ -113,7 +121,9 @@ pub make_sound : (p : Plain) (n : ℕ) (s : SlotId) → Sound p → n < length p
     → stage_at p s ≡ Blank
     → Sound (with_slot
     (with_seat p n (record (seat_at p n) {
-      owned = (seat_at p n).owned ++ s ∷ []; filling = None; adds = (seat_at p n).adds + 1;
+      owned = (seat_at p n).owned ++ s ∷ [];
+      filling = None;
+      adds = (seat_at p n).adds + 1;
     }))
     s (record (slot_at p s) { stage = Live; marked = false; life = (slot_at p s).life + 1 }))
 make_sound p n s so hn blank =
@@ -124,7 +134,9 @@ make_sound p n s so hn blank =
 
     w : PlainSeat
     w = record (seat_at p n) {
-      owned = (seat_at p n).owned ++ s ∷ []; filling = None; adds = (seat_at p n).adds + 1;
+      owned = (seat_at p n).owned ++ s ∷ [];
+      filling = None;
+      adds = (seat_at p n).adds + 1;
     }
 
     y : PlainSlot
@@ -137,22 +149,30 @@ make_sound p n s so hn blank =
         let u = times_push s s (seat_at p n).owned in
         let o = held_self s in
         made (numbers p s) _ (slot_at p s) ((slot_at p s).life + 1) (slot_law p so s) (omega arith)
-          (omega arith)
+        (omega arith)
         (record {
-          strong = omega arith; weak = omega arith; adds = omega arith; dying = omega arith;
-          strong_covered = λ k h. omega arith; weak_covered = λ k h. omega arith;
+          strong = omega arith;
+          weak = omega arith;
+          adds = omega arith;
+          dying = omega arith;
+          strong_covered = λ k h. omega arith;
+          weak_covered = λ k h. omega arith;
         }) blank
 
     there : (t : SlotId) → t.0 ≢ s.0
-      → SlotLaw (numbers (with_slot (with_seat p n w) s y) t) (slot_at p t)
+        → SlotLaw (numbers (with_slot (with_seat p n w) s y) t) (slot_at p t)
     there t ne =
         let c = seat_change p n w t hn in
         let d = slot_change (with_seat p n w) s y t hs in
         let u = times_push t s (seat_at p n).owned in
         let o = held_other t s (λ f. ne (sym f)) in
         no_more_here (numbers p t) _ (slot_at p t) (slot_law p so t) (record {
-          strong = omega arith; weak = omega arith; adds = omega arith; dying = omega arith;
-          strong_covered = λ k h. omega arith; weak_covered = λ k h. omega arith;
+          strong = omega arith;
+          weak = omega arith;
+          adds = omega arith;
+          dying = omega arith;
+          strong_covered = λ k h. omega arith;
+          weak_covered = λ k h. omega arith;
         })
 
 pub end_sound : (p : Plain) (n : ℕ) (s : SlotId) → Sound p → n < length p.seats
@@ -175,7 +195,7 @@ end_sound p n s so hn live zero =
 
     none : strong_refs p s ≡ 0
     none = ⊎_elim (λ mark. none_marked (numbers p s) (slot_at p s) (slot_law p so s) mark)
-      (λ z. z) zero
+        (λ z. z) zero
 
     here : SlotLaw (numbers (with_slot (with_seat p n w) s y) s) y
     here =
@@ -185,20 +205,28 @@ end_sound p n s so hn live zero =
         let o = held_self s in
         ended (numbers p s) _ (slot_at p s) (slot_law p so s) (omega arith)
         (record {
-          strong = omega arith; weak = omega arith; adds = omega arith; dying = omega arith;
-          strong_covered = λ k h. omega arith; weak_covered = λ k h. omega arith;
+          strong = omega arith;
+          weak = omega arith;
+          adds = omega arith;
+          dying = omega arith;
+          strong_covered = λ k h. omega arith;
+          weak_covered = λ k h. omega arith;
         }) live none
 
     there : (t : SlotId) → t.0 ≢ s.0
-      → SlotLaw (numbers (with_slot (with_seat p n w) s y) t) (slot_at p t)
+        → SlotLaw (numbers (with_slot (with_seat p n w) s y) t) (slot_at p t)
     there t ne =
         let c = seat_change p n w t hn in
         let d = slot_change (with_seat p n w) s y t hs in
         let u = times_push t s (seat_at p n).dying in
         let o = held_other t s (λ f. ne (sym f)) in
         no_more_here (numbers p t) _ (slot_at p t) (slot_law p so t) (record {
-          strong = omega arith; weak = omega arith; adds = omega arith; dying = omega arith;
-          strong_covered = λ k h. omega arith; weak_covered = λ k h. omega arith;
+          strong = omega arith;
+          weak = omega arith;
+          adds = omega arith;
+          dying = omega arith;
+          strong_covered = λ k h. omega arith;
+          weak_covered = λ k h. omega arith;
         })
 
 -- a slot in a dying list has ended
@@ -233,18 +261,26 @@ destroy_sound p n s xs so hn loses null =
         let o = held_self s in
         destroyed (numbers p s) _ (slot_at p s) (slot_law p so s) (omega arith)
         (record {
-          strong = omega arith; weak = omega arith; adds = omega arith; dying = omega arith;
-          strong_covered = λ k h. omega arith; weak_covered = λ k h. omega arith;
+          strong = omega arith;
+          weak = omega arith;
+          adds = omega arith;
+          dying = omega arith;
+          strong_covered = λ k h. omega arith;
+          weak_covered = λ k h. omega arith;
         }) null
 
     there : (t : SlotId) → t.0 ≢ s.0
-      → SlotLaw (numbers (with_slot (with_seat p n w) s y) t) (slot_at p t)
+        → SlotLaw (numbers (with_slot (with_seat p n w) s y) t) (slot_at p t)
     there t ne =
         let c = seat_change p n w t hn in
         let d = slot_change (with_seat p n w) s y t hs in
         let u = times_loses t s (seat_at p n).dying xs loses in
         let o = held_other t s (λ f. ne (sym f)) in
         no_more_here (numbers p t) _ (slot_at p t) (slot_law p so t) (record {
-          strong = omega arith; weak = omega arith; adds = omega arith; dying = omega arith;
-          strong_covered = λ k h. omega arith; weak_covered = λ k h. omega arith;
+          strong = omega arith;
+          weak = omega arith;
+          adds = omega arith;
+          dying = omega arith;
+          strong_covered = λ k h. omega arith;
+          weak_covered = λ k h. omega arith;
         })

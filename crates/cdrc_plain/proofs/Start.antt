@@ -31,13 +31,13 @@ law_of_new seats slots cells weak_cells s =
     let weaks = seats_new (λ (v : PlainSeat). times s v.weaks) seats none in
     let dying = seats_new (λ (v : PlainSeat). times s v.dying) seats none in
     let sd = seats_new (λ (v : PlainSeat). entry_times Strong s v.deferred) seats
-      (entry_none Strong s) in
+    (entry_none Strong s) in
     let wd = seats_new (λ (v : PlainSeat). entry_times Weak s v.deferred) seats
-      (entry_none Weak s) in
+    (entry_none Weak s) in
     let ss = seats_new (λ (v : PlainSeat). entry_times Strong s v.snapshots) seats
-      (entry_none Strong s) in
+    (entry_none Strong s) in
     let ws = seats_new (λ (v : PlainSeat). entry_times Weak s v.snapshots) seats
-      (entry_none Weak s) in
+    (entry_none Weak s) in
     let null = held_none s in
     let sf = slots_new (strong_fields s) slots (omega arith) in
     let wf = slots_new (weak_fields s) slots null in
@@ -60,5 +60,5 @@ pub empty_sound : (seats slots cells weak_cells : ℕ) → Sound (empty seats sl
 empty_sound seats slots cells weak_cells = sound_by (empty seats slots cells weak_cells)
     (λ s. subst (λ (x : PlainSlot). SlotLaw (numbers (empty seats slots cells weak_cells) s) x)
     (sym (every_slot_new seats slots cells weak_cells s))
-      (law_of_new seats slots cells weak_cells s))
+    (law_of_new seats slots cells weak_cells s))
     (All-replicate (λ (x : PlainSlot). length x.payload ≡ 16) slots new_slot refl)

@@ -39,7 +39,11 @@ fn slot_words(slot: &PlainSlot, strong: u64, weak: u64) -> SlotImage
 {
     SlotImage {
         strong: if slot.marked { ZERO } else { strong },
-        weak: if slot.stage == Stage::Free { ZERO } else { weak },
+        weak: if slot.stage == Stage::Free {
+            ZERO
+        } else {
+            weak
+        },
         fields: [word(slot.first), word(slot.second)],
         weak_field: word(slot.weak_field),
         payload: slot.payload,
@@ -54,14 +58,19 @@ impl Store {
         ensures { result ≡ image_at (plain_of self.now) slot }
     {
         let words = self.slots[slot.0 as usize];
-        slot_words(&words, count_of(&self.strong, slot), count_of(&self.weak, slot))
+        slot_words(
+            &words,
+            count_of(&self.strong, slot),
+            count_of(&self.weak, slot),
+        )
     }
 
     /// The words of all slots.
     fn slot_images(&self, alloc: Global) -> Result<Vec<SlotImage>, OutOfMemory>
         requires { Kept self.now }
         ensures size { IfOk result (λ v. length v.items ≡ length self.now.slots.items) }
-        ensures each { IfOk result (λ v. (s : SlotId) → s.0 < length self.now.slots.items → slot_image v.items s ≡ image_at (plain_of self.now) s) }
+        ensures each { IfOk result (λ v. (s : SlotId) → s.0 < length self.now.slots.items
+            → slot_image v.items s ≡ image_at (plain_of self.now) s) }
     {
         let mut images = Vec::with_capacity(alloc, self.slots.len())?;
         for i in 0..self.slots.len() {
@@ -72,8 +81,9 @@ impl Store {
 }
 
 impl<W: PayloadKind> PlainHeap<W> {
-    /// The heap as words: the strong word of a slot is its count, or the zero flag alone where the zero mark stands;
-    /// the weak word is its count, or the zero flag where the slot is free. Linear in slots, cells and deferred entries.
+    /// The heap as words: the strong word of a slot is its count, or the zero flag alone where the zero mark
+    /// stands; the weak word is its count, or the zero flag where the slot is free. Linear in slots, cells and
+    /// deferred entries.
     pub fn image(&self, alloc: Global) -> Result<Heap, OutOfMemory>
         ensures image { IfOk result (IsImage self.now) }
         ensures lawful { Lawful self.now }

@@ -1,9 +1,11 @@
-//! The plain meaning of a heap of counted objects that seats share: lists of references, the places that hold them, how
-//! far each slot is in its life, and the steps that seats make. It has no counts, no words, no announcements.
+//! The plain meaning of a heap of counted objects that seats share: lists of references, the places that hold
+//! them, how far each slot is in its life, and the steps that seats make. It has no counts, no words, no
+//! announcements.
 //!
-//! `PlainHeap` is that meaning as a heap for one thread: each call is the plain steps of its row, and what a call leaves
-//! after a refusal is the state before it. The rule is `Lawful`: what is referred to is alive, what is under a snapshot
-//! is covered by a place or a deferred entry, each ended object waits in one dying list, and nothing else has fields.
+//! `PlainHeap` is that meaning as a heap for one thread: each call is the plain steps of its row, and what a call
+//! leaves after a refusal is the state before it. The rule is `Lawful`: what is referred to is alive, what is under
+//! a snapshot is covered by a place or a deferred entry, each ended object waits in one dying list, and nothing else
+//! has fields.
 //! `steps_keep_sound` says that every step of every seat keeps it, over any number of seats.
 //!
 //! It doesn't promise that want of memory comes only where a growth was refused, nor which slot a make takes. Strong

@@ -20,7 +20,8 @@ use out_of_memory::OutOfMemory;
 fn free_from(slots: &[PlainSlot], from: usize) -> Option<usize>
     requires { from ≤ length slots.now }
     ensures found { IfSome result (λ i. (i < length slots.now) × ((slice_index_or slots.now i new_slot).stage ≡ Free)) }
-    ensures none { IfNone result ((i : ℕ) → from ≤ i → i < length slots.now → (slice_index_or slots.now i new_slot).stage ≢ Free) }
+    ensures none { IfNone result ((i : ℕ) → from ≤ i → i < length slots.now
+        → (slice_index_or slots.now i new_slot).stage ≢ Free) }
 {
     for i in from..slots.len() {
         if slots[i].stage == Stage::Free {
@@ -76,7 +77,8 @@ impl Store {
     /// A free slot: the next one from where the last was found, going round. None where there is none.
     fn free_slot(&self) -> Option<usize>
         requires { Kept self.now }
-        ensures found { IfSome result (λ i. (i < length self.now.slots.items) × ((slice_index_or self.now.slots.items i new_slot).stage ≡ Free)) }
+        ensures found { IfSome result (λ i. (i < length self.now.slots.items)
+            × ((slice_index_or self.now.slots.items i new_slot).stage ≡ Free)) }
         ensures none { IfNone result (NoneFree (plain_of self.now)) }
     {
         free_from(&self.slots, self.next).or_else(|| free_from(&self.slots, 0))
@@ -96,7 +98,8 @@ impl Store {
     pub(crate) fn make(&mut self, payload: &[u64; 16]) -> Result<Hand, MakeRefused>
         requires { Kept self.old }
         ensures made { IfOk result (λ s. Makes (plain_of self.old) s payload.now (plain_of self.new)) }
-        ensures slots { IfOk result (λ s. self.new.slots.items ≡ slice_set self.old.slots.items s.0 (made_slot (slot_at (plain_of self.old) s) payload.now)) }
+        ensures slots { IfOk result (λ s. self.new.slots.items ≡ slice_set self.old.slots.items s.0
+            (made_slot (slot_at (plain_of self.old) s) payload.now)) }
         ensures full { (result ≡ Err MakeRefused.Full) ↔ NoneFree (plain_of self.old) }
         ensures err { OnErr result (plain_of self.new ≡ plain_of self.old) }
         ensures kept { Kept self.new }

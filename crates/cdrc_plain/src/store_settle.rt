@@ -50,8 +50,10 @@ fn entry_at(list: &Vec<(Kind, SlotId)>, at: usize) -> (Kind, SlotId)
 
 /// One reference of this kind to the slot fewer.
 fn count_one_less(strong: &mut Vec<u64>, weak: &mut Vec<u64>, kind: Kind, slot: SlotId)
-    requires strong { kind ≡ kinds.Strong → (slot.0 < length strong.old.items) × (0 < slice_index_or strong.old.items slot.0 0) }
-    requires weak { kind ≡ kinds.Weak → (slot.0 < length weak.old.items) × (0 < slice_index_or weak.old.items slot.0 0) }
+    requires strong { kind ≡ kinds.Strong → (slot.0 < length strong.old.items)
+        × (0 < slice_index_or strong.old.items slot.0 0) }
+    requires weak { kind ≡ kinds.Weak → (slot.0 < length weak.old.items)
+        × (0 < slice_index_or weak.old.items slot.0 0) }
     ensures strong { strong.new.items ≡ fewer kinds.Strong kind slot.0 strong.old.items }
     ensures weak { weak.new.items ≡ fewer kinds.Weak kind slot.0 weak.old.items }
 {
@@ -138,7 +140,8 @@ impl Store {
         ensures settles { SettlesFreely (plain_of self.old) (plain_of self.new) }
         ensures kept { Kept self.new }
         ensures room { HasRoom self.new }
-        ensures calm { (s : SlotId) → (s ≡ slot) ⊎ IsCalm (plain_of self.old) s → IsCalm (plain_of self.new) s }
+        ensures calm { (s : SlotId) → (s ≡ slot) ⊎ IsCalm (plain_of self.old) s
+            → IsCalm (plain_of self.new) s }
         ensures deferred { self.new.deferred ≡ self.old.deferred }
         ensures snapshots { self.new.snapshots ≡ self.old.snapshots }
         ensures slots { length self.new.slots.items ≡ length self.old.slots.items }
@@ -157,7 +160,8 @@ impl Store {
         ensures settles { SettlesFreely (plain_of self.old) (plain_of self.new) }
         ensures kept { Kept self.new }
         ensures room { HasRoom self.new }
-        ensures calm { (s : SlotId) → (s ≡ slot) ⊎ IsCalm (plain_of self.old) s → IsCalm (plain_of self.new) s }
+        ensures calm { (s : SlotId) → (s ≡ slot) ⊎ IsCalm (plain_of self.old) s
+            → IsCalm (plain_of self.new) s }
         ensures deferred { self.new.deferred ≡ self.old.deferred }
         ensures snapshots { self.new.snapshots ≡ self.old.snapshots }
         ensures slots { length self.new.slots.items ≡ length self.old.slots.items }
@@ -174,7 +178,8 @@ impl Store {
         ensures settles { SettlesFreely (plain_of self.old) (plain_of self.new) }
         ensures kept { Kept self.new }
         ensures room { HasRoom self.new }
-        ensures calm { (s : SlotId) → (s ≡ slot) ⊎ IsCalm (plain_of self.old) s → IsCalm (plain_of self.new) s }
+        ensures calm { (s : SlotId) → (s ≡ slot) ⊎ IsCalm (plain_of self.old) s
+            → IsCalm (plain_of self.new) s }
         ensures deferred { self.new.deferred ≡ self.old.deferred }
         ensures snapshots { self.new.snapshots ≡ self.old.snapshots }
         ensures slots { length self.new.slots.items ≡ length self.old.slots.items }
@@ -212,7 +217,8 @@ impl Store {
         ensures settles { SettlesFreely (plain_of self.old) (plain_of self.new) }
         ensures kept { Kept self.new }
         ensures room { HasRoom self.new }
-        ensures calm { (s : SlotId) → s ≢ entry.1 → IsCalm (plain_of self.old) s → IsCalm (plain_of self.new) s }
+        ensures calm { (s : SlotId) → s ≢ entry.1 → IsCalm (plain_of self.old) s
+            → IsCalm (plain_of self.new) s }
         ensures deferred { self.new.deferred.items ≡ swap_remove self.old.deferred.items at entry }
         ensures snapshots { self.new.snapshots ≡ self.old.snapshots }
         ensures slots { self.new.slots.items ≡ self.old.slots.items }
@@ -251,13 +257,16 @@ impl Store {
         requires kept { Kept self.old }
         requires room { HasRoom self.old }
         requires calm { (s : SlotId) → IsCalm (plain_of self.old) s }
-        ensures none { IfNone result ((plain_of self.new ≡ plain_of self.old) × (self.new.dying.items ≡ [])) }
+        ensures none { IfNone result ((plain_of self.new ≡ plain_of self.old)
+            × (self.new.dying.items ≡ [])) }
         ensures some { IfSome result (λ words. Destroys (plain_of self.old) words (plain_of self.new)) }
-        ensures object { IfSome result (λ words. (s : SlotId) × (stage_at (plain_of self.old) s ≡ Ended) × (words ≡ (slot_at (plain_of self.old) s).payload)) }
+        ensures object { IfSome result (λ words. (s : SlotId) × (stage_at (plain_of self.old) s ≡ Ended)
+            × (words ≡ (slot_at (plain_of self.old) s).payload)) }
         ensures kept { Kept self.new }
         ensures room { HasRoom self.new }
         ensures calm { (s : SlotId) → IsCalm (plain_of self.new) s }
-        ensures deferred { (more : List Entry) × (self.new.deferred.items ≡ self.old.deferred.items ++ more) × (length more ≤ 3) }
+        ensures deferred { (more : List Entry) × (self.new.deferred.items ≡ self.old.deferred.items ++ more)
+            × (length more ≤ 3) }
         ensures snapshots { self.new.snapshots ≡ self.old.snapshots }
     {
         let slot = self.dying.pop()?;
@@ -273,15 +282,18 @@ impl Store {
         requires room { length self.old.deferred.items + 3 ≤ vec_capacity self.old.deferred }
         requires counted { (slot.0 < length self.old.weak.items) × (0 < slice_index_or self.old.weak.items slot.0 0) }
         ensures slots { self.new.slots.items ≡ slice_set self.old.slots.items slot.0 (husk_of object) }
-        ensures deferred { self.new.deferred.items ≡ joined kinds.Weak object.weak_field (joined kinds.Strong object.second (joined kinds.Strong object.first self.old.deferred.items)) }
+        ensures deferred { self.new.deferred.items ≡ joined kinds.Weak object.weak_field
+            (joined kinds.Strong object.second (joined kinds.Strong object.first self.old.deferred.items)) }
         ensures len { length self.new.deferred.items ≤ length self.old.deferred.items + 3 }
         ensures capacity { vec_capacity self.new.deferred ≡ vec_capacity self.old.deferred }
         ensures weak { self.new.weak.items ≡ fewer kinds.Weak kinds.Weak slot.0 self.old.weak.items }
         ensures dying { self.new.dying ≡ self.old.dying }
         ensures snapshots { self.new.snapshots ≡ self.old.snapshots }
         ensures owned { (self.new.owned.items ≡ self.old.owned.items) × (self.new.weaks.items ≡ self.old.weaks.items) }
-        ensures cells { (self.new.cells.items ≡ self.old.cells.items) × (self.new.weak_cells.items ≡ self.old.weak_cells.items) }
-        ensures rest { (self.new.strong.items ≡ self.old.strong.items) × (self.new.adds ≡ self.old.adds) × (self.new.next ≡ self.old.next) }
+        ensures cells { (self.new.cells.items ≡ self.old.cells.items)
+            × (self.new.weak_cells.items ≡ self.old.weak_cells.items) }
+        ensures rest { (self.new.strong.items ≡ self.old.strong.items) × (self.new.adds ≡ self.old.adds)
+            × (self.new.next ≡ self.old.next) }
     {
         self.slots[slot.0 as usize] = husk(object);
         defer(&mut self.deferred, Kind::Strong, object.first);

@@ -59,10 +59,10 @@ pub drop_one : (p q : Plain) (s : SlotId) (hands : List SlotId) (found : ℕ) �
 drop_one p q s hands found o (here, (xs, l, z, e)) =
     let v = seat_at p 0 in
     seat_written p q (hands ++ s ∷ []) hands (record v { owned = xs }) o (step_sound p q 0 (act.Drop s) found o.sound (here, (xs, l, z, e)))
-      (ap (λ (r : Plain). r.seats) e)
-      (λ t. omega (arith, times_loses t s v.owned xs l, o.owned t, times_push t s hands))
-      o.snapshots o.deferred (ap (λ (r : Plain). r.cells) e)
-      (subst (λ (r : Plain). All HasNullFields r.slots) (sym e) o.fields)
+    (ap (λ (r : Plain). r.seats) e)
+    (λ t. omega (arith, times_loses t s v.owned xs l, o.owned t, times_push t s hands))
+    o.snapshots o.deferred (ap (λ (r : Plain). r.cells) e)
+    (subst (λ (r : Plain). All HasNullFields r.slots) (sym e) o.fields)
 
 null_at : (p : Plain) (s : SlotId) → All HasNullFields p.slots → HasNullFields (slot_at p s)
 null_at p s all = ⊎_elim (λ lt. All-get_or HasNullFields p.slots s.0 new_slot lt all)
@@ -77,7 +77,7 @@ slot_written : (p q : Plain) (w : PlainSeat) (s : SlotId) (y : PlainSlot) → Ow
     → q ≡ with_slot (with_seat p 0 w) s y → w.owned ≡ (seat_at p 0).owned → w.snapshots ≡ [] → w.deferred ≡ [] → HasNullFields y → OwnsOnly q []
 slot_written p q w s y o so e owned snapshots deferred nulls =
     seat_written p q [] [] w o so (ap (λ (r : Plain). r.seats) e) (λ t. ap (times t) owned ∙ o.owned t) snapshots deferred (ap (λ (r : Plain). r.cells) e)
-      (subst (λ (r : Plain). All HasNullFields r.slots) (sym e) (All-set HasNullFields p.slots s.0 y nulls o.fields))
+    (subst (λ (r : Plain). All HasNullFields r.slots) (sym e) (All-set HasNullFields p.slots s.0 y nulls o.fields))
 
 -- the same with the seat as it is
 slot_alone : (p q : Plain) (s : SlotId) (y : PlainSlot) → OwnsOnly p [] → Sound q → q ≡ with_slot p s y → HasNullFields y → OwnsOnly q []
@@ -107,12 +107,12 @@ clear_step p q (Field s i) found o so (here, (dying, z, e)) =
     let n = null_at p s o.fields in
     let none : content p (Field s i) ≡ None = no_content (i == 0) x n in
     slot_written p q (record (seat_at p 0) { deferred = joined Strong (content p (Field s i)) (seat_at p 0).deferred }) s (with_field i None x) o so e refl o.snapshots
-      (ap (λ (c : Option SlotId). joined Strong c (seat_at p 0).deferred) none ∙ o.deferred) (null_with (i == 0) x n)
+    (ap (λ (c : Option SlotId). joined Strong c (seat_at p 0).deferred) none ∙ o.deferred) (null_with (i == 0) x n)
 clear_step p q (WeakField s) found o so (here, (dying, z, e)) =
     let x = slot_at p s in
     let n = null_at p s o.fields in
     slot_written p q (record (seat_at p 0) { deferred = joined Weak x.weak_field (seat_at p 0).deferred }) s (record x { weak_field = None }) o so e refl o.snapshots
-      (ap (λ (c : Option SlotId). joined Weak c (seat_at p 0).deferred) n.2 ∙ o.deferred) (n.0, n.1, refl)
+    (ap (λ (c : Option SlotId). joined Weak c (seat_at p 0).deferred) n.2 ∙ o.deferred) (n.0, n.1, refl)
 
 -- no step that settles brings a reference back
 settle_step : (p q : Plain) (a : PlainAct) (found : ℕ) → OwnsOnly p [] → Settles p a → Does p 0 a found q → OwnsOnly q []
@@ -120,18 +120,18 @@ settle_step p q (act.Eject k s) found o may (here, (es, l, z, e, covered)) =
     absurd (omega (arith, entry_lost k s (seat_at p 0).deferred es l, ap (entry_times k s) o.deferred, entry_none k s))
 settle_step p q (act.End s) found o may (here, (live, dead, z, e)) =
     slot_written p q (record (seat_at p 0) { dying = (seat_at p 0).dying ++ s ∷ [] }) s (record (slot_at p s) { stage = Ended; marked = true }) o
-      (step_sound p q 0 (act.End s) found o.sound (here, (live, dead, z, e))) e refl o.snapshots o.deferred (null_at p s o.fields)
+    (step_sound p q 0 (act.End s) found o.sound (here, (live, dead, z, e))) e refl o.snapshots o.deferred (null_at p s o.fields)
 settle_step p q (act.Clear place) found o may d = clear_step p q place found o (step_sound p q 0 (act.Clear place) found o.sound d) d
 settle_step p q (act.Destroy s) found o may (here, (nulls, z, (xs, l, e))) =
     slot_written p q (record (seat_at p 0) { dying = xs }) s (record (slot_at p s) { stage = Husk }) o
-      (step_sound p q 0 (act.Destroy s) found o.sound (here, (nulls, z, (xs, l, e)))) e refl o.snapshots o.deferred nulls
+    (step_sound p q 0 (act.Destroy s) found o.sound (here, (nulls, z, (xs, l, e)))) e refl o.snapshots o.deferred nulls
 settle_step p q (act.Give s) found o may (here, (husk, none, z, e)) =
     slot_alone p q s (record (slot_at p s) { stage = Free }) o (step_sound p q 0 (act.Give s) found o.sound (here, (husk, none, z, e))) e (null_at p s o.fields)
 settle_step p q act.Split found o may (here, (z, (es, same, e))) =
     seat_written p q [] [] (record (seat_at p 0) { deferred = es }) o (step_sound p q 0 act.Split found o.sound (here, (z, (es, same, e))))
-      (ap (λ (r : Plain). r.seats) e) o.owned o.snapshots
-      (none_left es (λ k s. same k s ∙ ap (entry_times k s) o.deferred ∙ entry_none k s))
-      (ap (λ (r : Plain). r.cells) e) (subst (λ (r : Plain). All HasNullFields r.slots) (sym e) o.fields)
+    (ap (λ (r : Plain). r.seats) e) o.owned o.snapshots
+    (none_left es (λ k s. same k s ∙ ap (entry_times k s) o.deferred ∙ entry_none k s))
+    (ap (λ (r : Plain). r.cells) e) (subst (λ (r : Plain). All HasNullFields r.slots) (sym e) o.fields)
 settle_step p q _ found o may d = absurd may
 
 pub settles_free : (weight : List ℕ → ℕ) (acts : List PlainAct) (p q : Plain) (total : ℕ) → OwnsOnly p [] → SettlesBy weight acts p total q → OwnsOnly q []

@@ -55,9 +55,9 @@ module _ (p : Plain) (hands : List SlotId) (w : ℕ) (h : HoldsRecords p hands w
   pub strong_is : (s : SlotId) → strong_refs p s ≡ times s hands
   strong_is s =
       let owned : over_seats (λ v. times s v.owned) p.seats ≡ times s hands =
-        ap (over_seats (λ v. times s v.owned)) h.seat ∙ one_seat (λ v. times s v.owned) seat in
+      ap (over_seats (λ v. times s v.owned)) h.seat ∙ one_seat (λ v. times s v.owned) seat in
       let deferred : over_seats (λ v. entry_times Strong s v.deferred) p.seats ≡ 0 =
-        ap (over_seats (λ v. entry_times Strong s v.deferred)) h.seat ∙ one_seat (λ v. entry_times Strong s v.deferred) seat ∙ entry_none Strong s in
+      ap (over_seats (λ v. entry_times Strong s v.deferred)) h.seat ∙ one_seat (λ v. entry_times Strong s v.deferred) seat ∙ entry_none Strong s in
       let cells : cell_times s p.cells ≡ 0 = ap (cell_times s) h.cells ∙ cells_none s in
       let fields : over_slots (strong_fields s) p.slots ≡ 0 = no_fields p s (λ k d lt. (h.slots k d lt).0) in
       omega arith

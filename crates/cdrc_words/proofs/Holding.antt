@@ -85,9 +85,9 @@ module _ (p : Plain) (hands : List SlotId) (w : ℕ) (h : HoldsRecords p hands w
           cells = ap (λ (z : Plain). z.cells) i.state ∙ h.cells;
           weak_cells = ap (λ (z : Plain). z.weak_cells) i.state ∙ h.weak_cells;
           once = λ t. ⊎_elim
-            (λ (same : t ≡ s). let z : times t hands ≡ 0 = subst (λ (r : SlotId). times r hands ≡ 0) (sym same) (unowned s i.free) in omega (arith, times_push t s hands, held_once t (Some s)))
-            (λ (ne : t.0 ≢ s.0). omega (arith, times_push t s hands, held_other t s (λ e. ne (sym e)), h.once t))
-            (cases_slot t s);
+              (λ (same : t ≡ s). let z : times t hands ≡ 0 = subst (λ (r : SlotId). times r hands ≡ 0) (sym same) (unowned s i.free) in omega (arith, times_push t s hands, held_once t (Some s)))
+              (λ (ne : t.0 ≢ s.0). omega (arith, times_push t s hands, held_other t s (λ e. ne (sym e)), h.once t))
+              (cases_slot t s);
           slots = subst (All IsFreeOrLive) (sym slots) (All-set IsFreeOrLive p.slots s.0 y (old.0, inr (refl, refl)) h.slots);
           objects = ap (over_slots object) slots ∙ omega (arith, length-append hands (s ∷ []), h.objects);
           weights = ap (over_slots object_weight) slots ∙ omega (arith, is.size, h.weights);

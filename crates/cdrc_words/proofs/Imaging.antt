@@ -38,7 +38,7 @@ image_sum : (f : SlotImage → ℕ) (g : PlainSlot → ℕ) (p : Plain) (heap : 
     → ((s : SlotId) → s.0 < length p.slots → f (image_at p s) ≡ g (slot_at p s)) → sum_by f heap.slots.items ≡ over_slots g p.slots
 image_sum f g p heap is each =
     same_sums f g heap.slots.items p.slots is.size
-      (λ k lt. ap f (is.slots (record { 0 = k }) lt) ∙ each (record { 0 = k }) lt)
+    (λ k lt. ap f (is.slots (record { 0 = k }) lt) ∙ each (record { 0 = k }) lt)
 
 live_of : (m : Bool) (n : ℕ) → n < 2 ^ 63 → ◌≡◌ {A = ℕ} (if nat_lt (if m then 2 ^ 63 else n) (2 ^ 63) then 1 else 0) (if m then 0 else 1)
 live_of true n lt = refl
@@ -75,9 +75,9 @@ module _ (p : Plain) (o : OwnsOnly p []) (settled : IsSettled p) (heap : Heap) (
       let v = seat_at p 0 in
       let e = only_one p.seats o.one in
       let owned : over_seats (λ u. times s u.owned) p.seats ≡ 0 =
-        ap (over_seats (λ u. times s u.owned)) e ∙ one_seat (λ u. times s u.owned) v ∙ o.owned s ∙ times_none s in
+      ap (over_seats (λ u. times s u.owned)) e ∙ one_seat (λ u. times s u.owned) v ∙ o.owned s ∙ times_none s in
       let deferred : over_seats (λ u. entry_times Strong s u.deferred) p.seats ≡ 0 =
-        ap (over_seats (λ u. entry_times Strong s u.deferred)) e ∙ one_seat (λ u. entry_times Strong s u.deferred) v ∙ ap (entry_times Strong s) o.deferred ∙ entry_none Strong s in
+      ap (over_seats (λ u. entry_times Strong s u.deferred)) e ∙ one_seat (λ u. entry_times Strong s u.deferred) v ∙ ap (entry_times Strong s) o.deferred ∙ entry_none Strong s in
       let cells : cell_times s p.cells ≡ 0 = ap (cell_times s) o.cells ∙ cells_none s in
       let fields : over_slots (strong_fields s) p.slots ≡ 0 = no_fields p s o.fields in
       omega arith

@@ -24,7 +24,16 @@ pub fn report_of(alloc: Global, list: Vec<Counted>, pieces: u64) -> Result<Vec<u
     let rows = rows_of(alloc, &heap, &hands, list)?;
     let held = audit_line(&heap.image(alloc)?);
     let freed = free_all(alloc, &mut heap, hands)?;
-    report(alloc, &rows, &Totals { files: 1, pieces, held, freed })
+    report(
+        alloc,
+        &rows,
+        &Totals {
+            files: 1,
+            pieces,
+            held,
+            freed,
+        },
+    )
 }
 
 /// A record of each word, and a handle of each, in the words' order.

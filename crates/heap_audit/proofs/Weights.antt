@@ -1,4 +1,7 @@
 -- What Live slots weigh, one slot at a time.
+use Rattle.std.proofs.Common.{Bool, false, ⊎_elim}
+use Rattle.std.specs.Prelude.{◌↔◌, IsTrue}
+use Rattle.std.proofs.lemmas.Bool.{cases_lt}
 use Rattle.std.proofs.Common.{◌≡◌, ℕ, ◌+◌, ◌<◌, ◌≤◌, ◌^◌, List, length, get_or, take, sum_by, ap, ◌∙◌, add-zero}
 use Rattle.std.proofs.lemmas.Bool.{cond-true, cond-false, lt-ltb, le-ltb}
 use Rattle.std.proofs.lemmas.List.Sums.{sum_by_more}
@@ -21,3 +24,7 @@ module _ (weight : List ℕ → ℕ) (xs : List SlotImage) (i : ℕ) (d : SlotIm
       sum_by_more (weight_of weight) xs i d h
       ∙ (ap (λ n. so_far i + n) (cond-false _ (weight (get_or xs i d).payload) 0 (le-ltb (get_or xs i d).strong (2 ^ 63) other))
       ∙ add-zero (so_far i))
+
+-- a word that isn't live has the zero flag
+pub not_live : (b : Bool) (word : ℕ) → IsTrue b ↔ (word < 2 ^ 63) → b ≡ false → 2 ^ 63 ≤ word
+not_live b word is e = ⊎_elim (λ lt. absurd (cc (is.1 lt))) (λ ge. ge) (cases_lt word (2 ^ 63))

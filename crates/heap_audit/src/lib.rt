@@ -35,6 +35,7 @@ mod search;
 mod tests;
 mod trails;
 mod walks;
+mod word;
 
 pub use audits::audit;
 pub use finding::Audit;

@@ -3,14 +3,18 @@ ghost use Rattle.std.specs.Prelude.{◌≡◌, ◌<◌, ◌≤◌, ◌^◌, leng
 ghost use Rattle.deleter.specs.Weighing.{Weighs};
 ghost use Rattle.heap_audit.specs.Heaps.{live_slots, weight_of};
 
-use cdrc_plain::{Heap, PayloadKind, SlotImage, ZERO};
+use crate::word::is_live;
+use cdrc_plain::{Heap, PayloadKind, SlotImage};
 use deleter::Deleter;
 
 /// How many slots are Live. One look at each slot.
 pub fn count_live(heap: &Heap) -> u64
     ensures { result ≡ live_slots heap.now }
 {
-    heap.slots.iter().filter(|slot| slot.strong < ZERO).count() as u64
+    heap.slots
+        .iter()
+        .filter(|slot| is_live(slot.strong))
+        .count() as u64
 }
 
 /// What the Live slots weigh together. One look at each slot, and one call for each Live one.
@@ -25,7 +29,7 @@ pub fn weigh_live<W: PayloadKind, F: Fn(&[u64; 16]) -> u64>(
 {
     let mut bytes = 0;
     for slot in slots {
-        if slot.strong < ZERO {
+        if is_live(slot.strong) {
             bytes += weigh.call(&slot.payload);
         }
     }

@@ -8,7 +8,8 @@ ghost use Rattle.heap_audit.specs.Tables.{AreReached, AreHolders, IsLeastIfAny, 
 
 use crate::ranks::lower;
 use crate::trails::{search, turn_round};
-use cdrc_plain::{Heap, SlotId, ZERO};
+use crate::word::is_live;
+use cdrc_plain::{Heap, SlotId};
 use out_of_memory::OutOfMemory;
 use std::alloc::Global;
 
@@ -46,7 +47,7 @@ fn is_unreached(heap: &Heap, reached: &[bool], slot: SlotId) -> bool
     ensures { IsTrue result ↔ IsUnreached heap.now slot }
 {
     let place = slot.0 as usize;
-    heap.slots[place].strong < ZERO && !reached[place]
+    is_live(heap.slots[place].strong) && !reached[place]
 }
 
 /// The walk that is found from the unreached slot of least rank. One look at each slot, and one step for each slot that

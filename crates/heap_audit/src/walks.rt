@@ -4,7 +4,8 @@ ghost use Rattle.heap_audit.specs.Heaps.{fields_holding};
 ghost use Rattle.heap_audit.specs.Reached.{HasField};
 ghost use Rattle.heap_audit.specs.Walks.{IsWalk};
 
-use cdrc_plain::{Heap, SlotId, SlotImage, ZERO};
+use crate::word::is_live;
+use cdrc_plain::{Heap, SlotId, SlotImage};
 
 /// True exactly where the walk isn't empty, all its slots are Live, and each has a strong field that holds the next,
 /// the last one the first. One look at a slot for each slot of the walk.
@@ -29,7 +30,7 @@ fn has_field(heap: &Heap, holder: SlotId, held: SlotId) -> bool
     ensures { IsTrue result ↔ HasField heap.now holder held }
 {
     match heap.slots.get(holder.0 as usize) {
-        Some(slot) => slot.strong < ZERO && holds(slot, held),
+        Some(slot) => is_live(slot.strong) && holds(slot, held),
         None => false,
     }
 }

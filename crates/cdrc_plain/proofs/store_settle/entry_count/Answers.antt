@@ -13,9 +13,11 @@ overflow_add-count c =
 
 pub loop-entry-preserved : goal.loop-entry-preserved
 loop-entry-preserved c =
-    elim c.if-is_same.branch [ then-is_same w ↦
-    w.count-is ∙ ap (λ (n : ℕ). n + 1) c.loop-entry.invariant
-    ∙ sym (counts_yes c.args.kind c.args.slot c.args.list.now c.loop-entry.entry-index _ (omega arith) (sym c.is_same.ensures ∙ w.if-is_same.true))
-    | else-is_same w ↦
-    w.count-is ∙ c.loop-entry.invariant
-    ∙ sym (counts_no c.args.kind c.args.slot c.args.list.now c.loop-entry.entry-index _ (omega arith) (sym c.is_same.ensures ∙ w.if-is_same.false)) ]
+    elim c.if-is_same.branch [
+      | then-is_same w ↦
+          w.count-is ∙ ap (λ (n : ℕ). n + 1) c.loop-entry.invariant
+          ∙ sym (counts_yes c.args.kind c.args.slot c.args.list.now c.loop-entry.entry-index _ (omega arith) (sym c.is_same.ensures ∙ w.if-is_same.true))
+      | else-is_same w ↦
+          w.count-is ∙ c.loop-entry.invariant
+          ∙ sym (counts_no c.args.kind c.args.slot c.args.list.now c.loop-entry.entry-index _ (omega arith) (sym c.is_same.ensures ∙ w.if-is_same.false))
+    ]

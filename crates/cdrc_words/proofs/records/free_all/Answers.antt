@@ -17,20 +17,20 @@ drop_hand-requires c =
 pub loop-hand-preserved : goal.loop-hand-preserved
 loop-hand-preserved c =
     drop_one c.loop-hand.heap c.drop_hand.new.self c.in-Some.hand c.pop.new.self.items 0
-      (subst (OwnsOnly c.loop-hand.heap) c.in-Some.ensures.items c.loop-hand.invariant) c.drop_hand.ensures
+    (subst (OwnsOnly c.loop-hand.heap) c.in-Some.ensures.items c.loop-hand.invariant) c.drop_hand.ensures
 
 pub audit_line-requires : goal.audit_line-requires
 audit_line-requires c =
     let rest : c.loop-hand.hands.items ≡ [] = nil_by c.loop-hand.hands.items ((let e : length c.loop-hand.hands.items ≡ vec_len c.loop-hand.hands = search rules in e) ∙ c.in_default.ensures.cases.0) in
     let o = settles_free record_weight c.in_ok-settle.ensures.settles.0 c.loop-hand.heap c.settle.new.self c.in_ok-settle.field-0
-      (subst (OwnsOnly c.loop-hand.heap) rest c.loop-hand.invariant) c.in_ok-settle.ensures.settles.1 in
+    (subst (OwnsOnly c.loop-hand.heap) rest c.loop-hand.invariant) c.in_ok-settle.ensures.settles.1 in
     omega (arith, freed_weight c.settle.new.self o c.in_ok-settle.ensures.settled c.in_ok-image.field-0 c.in_ok-image.ensures.image)
 
 pub returns : goal.returns
 returns c =
     let rest : c.loop-hand.hands.items ≡ [] = nil_by c.loop-hand.hands.items ((let e : length c.loop-hand.hands.items ≡ vec_len c.loop-hand.hands = search rules in e) ∙ c.in_default.ensures.cases.0) in
     let o = settles_free record_weight c.in_ok-settle.ensures.settles.0 c.loop-hand.heap c.settle.new.self c.in_ok-settle.field-0
-      (subst (OwnsOnly c.loop-hand.heap) rest c.loop-hand.invariant) c.in_ok-settle.ensures.settles.1 in
+    (subst (OwnsOnly c.loop-hand.heap) rest c.loop-hand.invariant) c.in_ok-settle.ensures.settles.1 in
     let q = c.settle.new.self in
     let settled = c.in_ok-settle.ensures.settled in
     let heap = c.in_ok-image.field-0 in

@@ -12,14 +12,14 @@ pub unreachable-requires : goal.unreachable-requires
 unreachable-requires c =
     let i = c.loop-counted.invariant in
     not_full c.loop-counted.heap c.loop-counted.hands.items _ i.held
-      (omega (arith, i.count, i.slots, c.requires.room, c.loop-counted-test.true))
-      (c.in-Err-Full.ensures.full.0 (ap Err c.in-Err-Full.field-0-is))
+    (omega (arith, i.count, i.slots, c.requires.room, c.loop-counted-test.true))
+    (c.in-Err-Full.ensures.full.0 (ap Err c.in-Err-Full.field-0-is))
 
 pub loop-counted-preserved : goal.loop-counted-preserved
 loop-counted-preserved c =
     let i = c.loop-counted.invariant in
     let e : c.push_reserved.new.self.items ≡ c.loop-counted.hands.items ++ c.in-Ok.hand ∷ [] =
-      c.push_reserved.ensures.items ∙ ap (λ (l : List SlotId). l ++ c.in-Ok.hand ∷ []) c.reserve.ensures.items in
+    c.push_reserved.ensures.items ∙ ap (λ (l : List SlotId). l ++ c.in-Ok.hand ∷ []) c.reserve.ensures.items in
     let more = one_more c.loop-counted.heap c.loop-counted.hands.items _ i.held c.in-Ok.hand c.deref.result.now c.record_of.result c.make.new.self c.record_of.ensures c.in-Ok.ensures.made in
     let text : length c.deref.result.now ≡ size_of c.counted-item.result = ap length c.deref.ensures.value in
     let here = ap size_of c.counted-item.is in
@@ -27,6 +27,6 @@ loop-counted-preserved c =
     record {
       count = omega (arith, ap length e, length-append c.loop-counted.hands.items (c.in-Ok.hand ∷ []), i.count);
       held = subst (λ (l : List SlotId). HoldsRecords c.make.new.self l (sum_by size_of (take (c.loop-counted.counted-index + 1) c.args.list.now))) (sym e)
-        (subst (λ (w : ℕ). HoldsRecords c.make.new.self (c.loop-counted.hands.items ++ c.in-Ok.hand ∷ []) w) (omega (arith, sum, text, here)) more);
+          (subst (λ (w : ℕ). HoldsRecords c.make.new.self (c.loop-counted.hands.items ++ c.in-Ok.hand ∷ []) w) (omega (arith, sum, text, here)) more);
       slots = same_size c.loop-counted.heap c.loop-counted.hands.items _ i.held c.in-Ok.hand c.deref.result.now c.record_of.result c.make.new.self c.record_of.ensures c.in-Ok.ensures.made ∙ i.slots;
     }

@@ -17,8 +17,12 @@ make_records-requires-clause-fresh c =
 
 pub audit_line-held-requires : goal.audit_line-held-requires
 audit_line-held-requires c =
-    omega (arith, held_weight _ _ _ c.in_ok-hands.ensures.held c.in_ok-image.field-0 c.in_ok-image.ensures.image,
-      few_bytes c.args.list.items c.requires.sizes (omega (arith, c.requires.few)), ap (sum_by size_of) c.deref.ensures.value)
+    omega (
+      arith,
+      held_weight _ _ _ c.in_ok-hands.ensures.held c.in_ok-image.field-0 c.in_ok-image.ensures.image,
+      few_bytes c.args.list.items c.requires.sizes (omega (arith, c.requires.few)),
+      ap (sum_by size_of) c.deref.ensures.value,
+    )
 
 pub returns : goal.returns
 returns c =
@@ -36,5 +40,5 @@ returns c =
     let totals : AuditLine → AuditLine → Totals = λ h f. record { files = 1; pieces = c.args.pieces; held = h; freed = f } in
     let same : totals r c.in_ok-freed.freed ≡ one_file_totals list c.args.pieces = ap (λ (h : AuditLine). totals h c.in_ok-freed.freed) line ∙ ap (totals _) c.in_ok-freed.ensures in
     subst (λ (l : List ℕ). IfOk c.report.result (λ text. text.items ≡ l))
-      (report_held list c.args.pieces c.deref-3.result.now (totals r c.in_ok-freed.freed) (c.deref-3.ensures.value ∙ c.in_ok-rows.ensures) same)
-      c.report.ensures
+    (report_held list c.args.pieces c.deref-3.result.now (totals r c.in_ok-freed.freed) (c.deref-3.ensures.value ∙ c.in_ok-rows.ensures) same)
+    c.report.ensures

@@ -16,7 +16,7 @@ counts-holders-requires c =
     let size : vec_len c.loop-counted.rows ≡ length c.loop-counted.rows.items = search rules in
     let lt : c.len.result < length c.args.hands.now = omega (arith, c.len.ensures, size, ap length i.rows, length-map c.loop-counted.yielded held_row, i.left, ap length c.in-Some.ensures.steps.0) in
     subst (λ (s : SlotId). Holds (seat_at c.args.heap.now 0) s) (sym (c.slot.ensures ∙ c.index-hands-len.is))
-      (hand_holds c.args.heap.now c.args.hands.now _ c.requires.held c.len.result c.index-hands-len.result lt)
+    (hand_holds c.args.heap.now c.args.hands.now _ c.requires.held c.len.result c.index-hands-len.result lt)
 
 pub loop-counted-preserved : goal.loop-counted-preserved
 loop-counted-preserved c =
@@ -24,13 +24,13 @@ loop-counted-preserved c =
     let size : vec_len c.loop-counted.rows ≡ length c.loop-counted.rows.items = search rules in
     let lt : c.len.result < length c.args.hands.now = omega (arith, c.len.ensures, size, ap length i.rows, length-map c.loop-counted.yielded held_row, i.left, ap length c.in-Some.ensures.steps.0) in
     let one : c.counts-holders.result.0 ≡ 1 =
-      c.counts-holders.ensures.strong ∙ ap (strong_refs c.args.heap.now) (c.slot.ensures ∙ c.index-hands-len.is)
-      ∙ hand_counts c.args.heap.now c.args.hands.now _ c.requires.held c.len.result c.index-hands-len.result lt in
+    c.counts-holders.ensures.strong ∙ ap (strong_refs c.args.heap.now) (c.slot.ensures ∙ c.index-hands-len.is)
+    ∙ hand_counts c.args.heap.now c.args.hands.now _ c.requires.held c.len.result c.index-hands-len.result lt in
     record {
       rows = c.push_reserved.ensures.items
-        ∙ ap (λ (l : List Row). l ++ (record { occurrences = c.in-Some.counted.occurrences; holders = c.counts-holders.result.0; word = c.in-Some.counted.word }) ∷ []) c.loop-counted.invariant.rows
-        ∙ ap (λ (n : ℕ). map held_row c.loop-counted.yielded ++ (record { occurrences = c.in-Some.counted.occurrences; holders = n; word = c.in-Some.counted.word }) ∷ []) one
-        ∙ sym (map_push held_row c.loop-counted.yielded c.in-Some.counted);
+          ∙ ap (λ (l : List Row). l ++ (record { occurrences = c.in-Some.counted.occurrences; holders = c.counts-holders.result.0; word = c.in-Some.counted.word }) ∷ []) c.loop-counted.invariant.rows
+          ∙ ap (λ (n : ℕ). map held_row c.loop-counted.yielded ++ (record { occurrences = c.in-Some.counted.occurrences; holders = n; word = c.in-Some.counted.word }) ∷ []) one
+          ∙ sym (map_push held_row c.loop-counted.yielded c.in-Some.counted);
       left = omega (arith, i.left, ap length c.in-Some.ensures.steps.0, length-append c.loop-counted.yielded (c.in-Some.counted ∷ []));
       room = search rules;
     }

@@ -16,13 +16,14 @@ drain-requires-clause-fit g c =
 
 pub invariant_of-self-2 : goal.invariant_of-self-2
 invariant_of-self-2 g c =
-    let W = g.W.PayloadKind in
-    (c.drain.ensures.kept,
-    fit_after W.fits W.weight g.met.W.PayloadKind.bounded c.sweep.new.self c.drain.new.store c.drain.result c.sweep.ensures.kept
-    (fit_after W.fits W.weight g.met.W.PayloadKind.bounded c.make_room.new.self c.sweep.new.self 0 c.make_room.ensures.kept
-    (subst (AllFit W.fits) (sym c.make_room.ensures.plain) c.self.invariant.1)
-    (c.sweep.ensures.settles W.weight))
-    c.drain.ensures.settles)
+    let W = g.W.PayloadKind in (
+      c.drain.ensures.kept,
+      fit_after W.fits W.weight g.met.W.PayloadKind.bounded c.sweep.new.self c.drain.new.store c.drain.result c.sweep.ensures.kept
+          (fit_after W.fits W.weight g.met.W.PayloadKind.bounded c.make_room.new.self c.sweep.new.self 0 c.make_room.ensures.kept
+          (subst (AllFit W.fits) (sym c.make_room.ensures.plain) c.self.invariant.1)
+          (c.sweep.ensures.settles W.weight))
+          c.drain.ensures.settles,
+    )
 
 pub returns-clause-settles : goal.returns-clause-settles
 returns-clause-settles g c =

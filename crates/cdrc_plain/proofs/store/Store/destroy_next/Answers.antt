@@ -95,10 +95,11 @@ returns-clause-some c =
     c.end_or_give.ensures.settles
 
 pub returns-clause-object : goal.returns-clause-object
-returns-clause-object c =
-    (c.in_ok-slot.slot,
-    dying_stage c.args.self.now c.in_ok-slot.slot c.pop.new.self.items c.requires.kept c.in_ok-slot.ensures.items,
-    ap (λ (y : PlainSlot). y.payload) c.slot_in-object.ensures)
+returns-clause-object c = (
+  c.in_ok-slot.slot,
+  dying_stage c.args.self.now c.in_ok-slot.slot c.pop.new.self.items c.requires.kept c.in_ok-slot.ensures.items,
+  ap (λ (y : PlainSlot). y.payload) c.slot_in-object.ensures,
+)
 
 pub returns-clause-calm : goal.returns-clause-calm
 returns-clause-calm c s =
