@@ -43,7 +43,7 @@ SettlesTo weight p total q = (acts : List PlainAct) × SettlesBy weight acts p t
 -- nothing more may go
 pub record IsSettled (p : Plain) : Type 0 where
   pub ejected : (k : Kind) (s : SlotId) →
-    entry_times k s (seat_at p 0).deferred ≤ entry_times k s (seat_at p 0).snapshots
+      entry_times k s (seat_at p 0).deferred ≤ entry_times k s (seat_at p 0).snapshots
   pub destroyed : (seat_at p 0).dying ≡ []
   pub ended : (s : SlotId) → stage_at p s ≡ Live → 0 < strong_refs p s
   pub given : (s : SlotId) → stage_at p s ≡ Husk → 0 < weak_refs p s
