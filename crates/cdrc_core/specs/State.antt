@@ -1,10 +1,7 @@
--- The core with its sizes, and one event of it.
-use Rattle.std.specs.Prelude.{◌≡◌}
-use Rattle.core_events.specs.declared.act.Event.{Event}
+-- A core, and how large it is.
 use Rattle.core_events.specs.declared.shape.Shape.{Shape}
-use Rattle.core_events.specs.Runs.{Core, Enabled, after, outcome_of}
+use Rattle.core_events.specs.Runs.{Core}
 
--- A state of the table, and how large it is
-pub record Sized : Type 0 where
+pub record State : Type 0 where
   pub shape : Shape
   pub core : Core

@@ -1,5 +1,12 @@
 //! Why a call of the core was refused.
+ghost use Rattle.std.specs.Prelude.{◌≡◌};
+ghost use Rattle.cdrc_core.specs.declared.errors.StartError.TheVariants as start;
+ghost use Rattle.cdrc_core.specs.declared.errors.StepError.TheVariants as step;
+ghost use Rattle.cdrc_core.specs.declared.errors.ReplayError.TheVariants as replay;
+
 use core_events::ShapeField;
+use out_of_memory::OutOfMemory as NoMemory;
+use std::alloc::AllocError;
 use thiserror::Error;
 
 /// Why there is no core of this shape.
@@ -32,4 +39,36 @@ pub enum ReplayError {
     /// There was no memory for the answers.
     #[error("out of memory")]
     OutOfMemory,
+}
+
+impl From<NoMemory> for StartError {
+    ghost from_gives = { λ _ e. e ≡ start.OutOfMemory };
+
+    fn from(_error: NoMemory) -> StartError {
+        StartError::OutOfMemory
+    }
+}
+
+impl From<NoMemory> for StepError {
+    ghost from_gives = { λ _ e. e ≡ step.OutOfMemory };
+
+    fn from(_error: NoMemory) -> StepError {
+        StepError::OutOfMemory
+    }
+}
+
+impl From<StartError> for ReplayError {
+    ghost from_gives = { λ error e. e ≡ replay.Start error };
+
+    fn from(error: StartError) -> ReplayError {
+        ReplayError::Start(error)
+    }
+}
+
+impl From<AllocError> for ReplayError {
+    ghost from_gives = { λ _ e. e ≡ replay.OutOfMemory };
+
+    fn from(_error: AllocError) -> ReplayError {
+        ReplayError::OutOfMemory
+    }
 }

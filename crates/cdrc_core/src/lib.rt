@@ -2,5 +2,9 @@
 #![tactic(auto)]
 
 mod errors;
+mod events;
 mod fields;
+mod seats;
+mod stub;
+mod table;
 mod words;

@@ -1,7 +1,7 @@
 //! The words of a core: those at the start, and what becomes of one.
 ghost use Rattle.std.specs.Prelude.{◌≡◌, IfOk, List};
 ghost use Rattle.cdrc_plain.specs.Steps.{word_of};
-ghost use Rattle.core_events.specs.Words.{code, first_words};
+ghost use Rattle.core_events.specs.Words.{code, first_words, slot_at};
 ghost use Rattle.core_events.specs.Steps.{next};
 ghost use Rattle.core_events.specs.Runs.{IsShape};
 ghost use prog.Atomic.{either};
@@ -35,6 +35,16 @@ pub fn first_words(alloc: Global, shape: &Shape) -> Result<Vec<u64>, OutOfMemory
         words.extend_from_slice(&FREE_SLOT)?;
     }
     Ok(words)
+}
+
+/// Where the words of a slot begin: the strong one, the weak one, three fields, the payload.
+pub fn slot_index(shape: &Shape, slot: SlotId) -> usize
+    ensures { result ≡ slot_at shape.now slot.0 }
+{
+    1 + 4 * shape.seats as usize
+        + shape.cells as usize
+        + shape.weak_cells as usize
+        + 21 * slot.0 as usize
 }
 
 /// The word of a place with this content.
