@@ -4,13 +4,13 @@ ghost use Rattle.core_events.specs.declared.act.Act.TheVariants as act;
 ghost use Rattle.core_events.specs.Steps.{May};
 ghost use Rattle.core_events.specs.Runs.{Enabled, RestMay, after, outcome_of, view_at};
 ghost use Rattle.core_law.specs.Sound.{Sound};
-ghost use Rattle.cdrc_core.specs.declared.errors.StepError.TheVariants.{NotEnabled};
+ghost use Rattle.cdrc_core.specs.declared.errors.StepError.TheVariants.{NotEnabled, OutOfMemory};
 
 use crate::errors::StepError;
 use crate::table::Table;
 use crate::words::next_word;
 use core_events::{Act, Event, Outcome};
-use out_of_memory::OutOfMemory;
+use out_of_memory::OutOfMemory as NoMemory;
 
 impl Table {
     /// Whether the part of an event's condition holds that its seat's own view doesn't tell.
@@ -42,7 +42,7 @@ impl Table {
     /// Makes an event that is no leave: it changes one word and one seat. After an error nothing has
     /// changed.
     #[tactic(auto, using(crate::proofs::InRange::place_there, crate::proofs::InRange::word_for, crate::proofs::InRange::seat_fit, crate::proofs::Stays::stays_views))]
-    fn make(&mut self, event: &Event) -> Result<Outcome, OutOfMemory>
+    fn make(&mut self, event: &Event) -> Result<Outcome, NoMemory>
         requires sound { Sound self.old.shape self.old.core }
         requires enabled { Enabled self.old.shape self.old.core event.now.seat event.now.act }
         requires stays { (j : ℕ) → event.now.act ≡ act.Leave j → ⊥ }
@@ -61,7 +61,7 @@ impl Table {
     }
 
     /// The first seat takes over what another one has. After an error nothing has changed.
-    fn leave(&mut self, leaver: u32) -> Result<(), OutOfMemory>
+    fn leave(&mut self, leaver: u32) -> Result<(), NoMemory>
         requires sound { Sound self.old.shape self.old.core }
         requires enabled { Enabled self.old.shape self.old.core 0 (act.Leave leaver) }
         ensures ok { OnOk result (self.new ≡ record self.old {
@@ -84,6 +84,8 @@ impl Table {
         }) }
         ensures refused { (result ≡ Err NotEnabled)
             ↔ (Enabled self.old.shape self.old.core event.now.seat event.now.act → ⊥) }
+        ensures memory { result ≡ Err OutOfMemory
+            → Enabled self.old.shape self.old.core event.now.seat event.now.act }
         ensures err { OnErr result (self.new ≡ self.old) }
     {
         if !self.is_enabled(event) {

@@ -24,7 +24,7 @@ fn are_quotas(shape: &Shape, quotas: &[Quota]) -> bool
 /// The first field, in the order of `ShapeField`, that is out of its range.
 pub fn first_bad(shape: &Shape, quotas: &[Quota]) -> Option<ShapeField>
     ensures bad { IfSome result (IsFirstBad shape.now quotas.now) }
-    ensures good { IsNone result ↔ IsShape shape.now × AreQuotas shape.now quotas.now }
+    ensures good { IsNone result → IsShape shape.now × AreQuotas shape.now quotas.now }
 {
     if shape.seats < 1 || shape.seats > MOST_SEATS {
         Some(ShapeField::Seats)

@@ -1,2 +1,0 @@
--- stub
-use Rattle.std.proofs.Common.{ℕ}
