@@ -24,22 +24,9 @@ pub(crate) fn take_first(list: &mut Vec<SlotId>, slot: SlotId)
     }
 }
 
-/// Whether a note is a valid one of this kind and slot.
-fn is_snapshot(note: &Note, kind: Kind, slot: SlotId) -> bool {
-    match note {
-        Note::Valid(k, s) => *k == kind && s.0 == slot.0,
-        Note::Idle | Note::Announced(_, _) => false,
-    }
-}
-
-/// Whether a seat with these notes is under a snapshot of the slot.
+/// Whether a seat with these notes is under a snapshot of the slot, of this kind.
 pub(crate) fn has_snapshot(notes: &[Note], kind: Kind, slot: SlotId) -> bool
     ensures { IsTrue result ↔ (0 < entry_times kind slot (valid_of notes.now)) }
 {
-    for note in notes {
-        if is_snapshot(note, kind, slot) {
-            return true;
-        }
-    }
-    false
+    notes.contains(&Note::Valid(kind, slot))
 }
