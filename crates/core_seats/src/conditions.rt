@@ -1,7 +1,7 @@
 //! What a seat may do, by what it has.
 ghost use Rattle.std.specs.Prelude.{◌≡◌, ◌≢◌, ◌↔◌, ◌⊎◌, ◌<◌, ℕ, IsTrue, []};
-ghost use Rattle.cdrc_plain.specs.declared.slot.SlotId.{SlotId};
-ghost use Rattle.cdrc_plain.specs.Lists.{times};
+ghost use Rattle.plain_state.specs.declared.slot.SlotId.{SlotId};
+ghost use Rattle.plain_state.specs.Lists.{times};
 ghost use Rattle.core_events.specs.declared.act.Act.TheVariants as act;
 ghost use Rattle.core_events.specs.declared.view.Note.TheVariants as note;
 ghost use Rattle.core_events.specs.declared.view.Phase.TheVariants as phase;

@@ -1,7 +1,7 @@
 //! Contents of places that a seat changes.
 ghost use Rattle.std.specs.Prelude.{◌≡◌, ◌<◌, ◌^◌, ◌==◌, IfOk, OnOk, OnErr, if◌then◌else◌};
 ghost use Rattle.core_events.specs.declared.outcome.Outcome.TheVariants as outcome;
-ghost use Rattle.cdrc_plain.specs.Steps.{joined, word_of};
+ghost use Rattle.plain_state.specs.Steps.{joined, word_of};
 ghost use Rattle.core_events.specs.Words.{slot_in};
 ghost use Rattle.core_events.specs.Steps.{exchanged, without_given};
 

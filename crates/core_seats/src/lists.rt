@@ -1,6 +1,6 @@
 //! Lists of slots and of notes.
 ghost use Rattle.std.specs.Prelude.{◌≡◌, ◌↔◌, ◌<◌, IsTrue};
-ghost use Rattle.cdrc_plain.specs.Lists.{times, entry_times, same_kind};
+ghost use Rattle.plain_state.specs.Lists.{times, entry_times, same_kind};
 ghost use Rattle.core_events.specs.Views.{valid_of, without};
 
 use core_events::{Kind, Note, SlotId};

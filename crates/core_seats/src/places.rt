@@ -1,6 +1,6 @@
 //! Where the words are that acts work on, by the order of a domain's words.
 ghost use Rattle.std.specs.Prelude.{◌≡◌};
-ghost use Rattle.cdrc_plain.specs.Places.{place_kind};
+ghost use Rattle.plain_state.specs.Places.{place_kind};
 ghost use Rattle.core_events.specs.Words.{note_at, slot_at, place_at};
 ghost use Rattle.core_events.specs.Views.{slot_of};
 ghost use Rattle.core_events.specs.Steps.{counter_at, owed_at};
