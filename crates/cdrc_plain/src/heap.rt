@@ -1,21 +1,18 @@
 //! The slow heap of one seat: every call is the plain steps of its row, and nothing else.
 ghost use Rattle.std.specs.Prelude.{◌≡◌, ◌+◌, ◌<◌, ◌≤◌, ◌↔◌, IfOk, OnErr, length};
-ghost use Rattle.cdrc_plain.specs.declared.act.PlainAct.TheVariants as act;
-ghost use Rattle.cdrc_plain.specs.declared.slot.SlotId.{SlotId};
-ghost use Rattle.cdrc_plain.specs.State.{Plain, empty, seat_at};
-ghost use Rattle.cdrc_plain.specs.Places.{Holds};
-ghost use Rattle.cdrc_plain.specs.References.{strong_refs, weak_refs};
-ghost use Rattle.cdrc_plain.specs.Lawful.{Lawful};
-ghost use Rattle.cdrc_plain.specs.Steps.{Does};
-ghost use Rattle.cdrc_plain.specs.Heaps.{Owns, Makes, NoneFree, AllFit};
-ghost use Rattle.cdrc_plain.specs.Stores.{plain_of, Kept};
+ghost use Rattle.plain_state.specs.declared.act.PlainAct.TheVariants as act;
+ghost use Rattle.plain_state.specs.declared.slot.SlotId.{SlotId};
+ghost use Rattle.plain_state.specs.State.{Plain, empty, seat_at};
+ghost use Rattle.plain_state.specs.Places.{Holds};
+ghost use Rattle.plain_state.specs.References.{strong_refs, weak_refs};
+ghost use Rattle.plain_state.specs.Lawful.{Lawful};
+ghost use Rattle.plain_state.specs.Steps.{Does};
+ghost use Rattle.plain_store.specs.Heaps.{Owns, Makes, NoneFree, AllFit};
+ghost use Rattle.plain_store.specs.Stores.{plain_of, Kept};
 
-use crate::hand::Hand;
-use crate::payload::PayloadKind;
-use crate::refusal::MakeRefused;
-use crate::slot::SlotId;
-use crate::store::Store;
 use out_of_memory::OutOfMemory;
+use plain_state::{PayloadKind, SlotId};
+use plain_store::{Hand, MakeRefused, Store};
 use std::alloc::Global;
 use std::marker::{Model, PhantomData};
 

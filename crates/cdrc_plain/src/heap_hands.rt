@@ -1,17 +1,16 @@
 //! References of a plain heap: one more, one fewer, and what a slot holds.
 ghost use Rattle.std.specs.Prelude.{◌≡◌, ◌<◌, IfOk, OnErr, slice_index};
-ghost use Rattle.cdrc_plain.specs.declared.act.PlainAct.TheVariants as act;
-ghost use Rattle.cdrc_plain.specs.State.{seat_at, slot_at};
-ghost use Rattle.cdrc_plain.specs.Places.{Holds};
-ghost use Rattle.cdrc_plain.specs.Steps.{Does};
-ghost use Rattle.cdrc_plain.specs.Heaps.{Owns, OwnsWeakly};
-ghost use Rattle.cdrc_plain.specs.Calls.{Gains, WeaklyGains, Upgrades};
+ghost use Rattle.plain_state.specs.declared.act.PlainAct.TheVariants as act;
+ghost use Rattle.plain_state.specs.State.{seat_at, slot_at};
+ghost use Rattle.plain_state.specs.Places.{Holds};
+ghost use Rattle.plain_state.specs.Steps.{Does};
+ghost use Rattle.plain_store.specs.Heaps.{Owns, OwnsWeakly};
+ghost use Rattle.plain_store.specs.Calls.{Gains, WeaklyGains, Upgrades};
 
-use crate::hand::{Hand, WeakHand};
 use crate::heap::PlainHeap;
-use crate::payload::PayloadKind;
-use crate::slot::SlotId;
 use out_of_memory::OutOfMemory;
+use plain_state::{PayloadKind, SlotId};
+use plain_store::{Hand, WeakHand};
 
 /// Each call that gains a reference uses an add. It answers OutOfMemory where its list can't grow,
 /// and where the heap's adds would pass 2^64 - 2; the heap is then as it was.

@@ -1,84 +1,14 @@
 //! A plain heap as words.
-ghost use Rattle.std.specs.Prelude.{◌≡◌, ◌<◌, ℕ, IfOk, length, map, slice_index_or, take};
-ghost use Rattle.cdrc_plain.specs.declared.slot.SlotId.{SlotId};
-ghost use Rattle.cdrc_plain.specs.State.{Plain, slot_at};
-ghost use Rattle.cdrc_plain.specs.Lawful.{Lawful};
-ghost use Rattle.cdrc_plain.specs.Steps.{word_of};
-ghost use Rattle.cdrc_plain.specs.Images.{IsImage, image_at, image_of, slot_image};
-ghost use Rattle.cdrc_plain.specs.Stores.{plain_of, Kept};
+ghost use Rattle.std.specs.Prelude.{◌≡◌, IfOk};
+ghost use Rattle.plain_state.specs.Lawful.{Lawful};
+ghost use Rattle.plain_state.specs.Images.{IsImage};
+ghost use Rattle.plain_store.specs.Stores.{plain_of, Kept};
 
 use crate::heap::PlainHeap;
-use crate::image::{Heap, SlotImage, ZERO};
-use crate::payload::PayloadKind;
-use crate::slot::{PlainSlot, SlotId, Stage};
-use crate::store::Store;
-use crate::tally::count_of;
 use out_of_memory::OutOfMemory;
+use plain_state::{Heap, PayloadKind};
+use plain_store::words;
 use std::alloc::Global;
-
-/// The word of a place.
-fn word(content: Option<SlotId>) -> u64
-    ensures { result ≡ word_of content }
-{
-    match content {
-        Some(slot) => u64::from(slot.0) + 1,
-        None => 0,
-    }
-}
-
-/// The words of some cells.
-fn words(alloc: Global, cells: &[Option<SlotId>]) -> Result<Vec<u64>, OutOfMemory>
-    ensures { IfOk result (λ v. v.items ≡ map word_of cells.now) }
-{
-    Ok(cells.iter().map(|cell| word(*cell)).collect(alloc)?)
-}
-
-/// The words of one slot, with the sums of the references to it.
-fn slot_words(slot: &PlainSlot, strong: u64, weak: u64) -> SlotImage
-    ensures { result ≡ image_of slot.now strong weak }
-{
-    SlotImage {
-        strong: if slot.marked { ZERO } else { strong },
-        weak: if slot.stage == Stage::Free {
-            ZERO
-        } else {
-            weak
-        },
-        fields: [word(slot.first), word(slot.second)],
-        weak_field: word(slot.weak_field),
-        payload: slot.payload,
-    }
-}
-
-impl Store {
-    /// The words of a slot.
-    fn image_of(&self, slot: SlotId) -> SlotImage
-        requires kept { Kept self.now }
-        requires there { slot.0 < length self.now.slots.items }
-        ensures { result ≡ image_at (plain_of self.now) slot }
-    {
-        let words = self.slots[slot.0 as usize];
-        slot_words(
-            &words,
-            count_of(&self.strong, slot),
-            count_of(&self.weak, slot),
-        )
-    }
-
-    /// The words of all slots.
-    fn slot_images(&self, alloc: Global) -> Result<Vec<SlotImage>, OutOfMemory>
-        requires { Kept self.now }
-        ensures size { IfOk result (λ v. length v.items ≡ length self.now.slots.items) }
-        ensures each { IfOk result (λ v. (s : SlotId) → s.0 < length self.now.slots.items
-            → slot_image v.items s ≡ image_at (plain_of self.now) s) }
-    {
-        let mut images = Vec::with_capacity(alloc, self.slots.len())?;
-        for i in 0..self.slots.len() {
-            images.push_reserved(self.image_of(SlotId(i as u32)));
-        }
-        Ok(images)
-    }
-}
 
 impl<W: PayloadKind> PlainHeap<W> {
     /// The heap as words: the strong word of a slot is its count, or the zero flag alone where the zero mark

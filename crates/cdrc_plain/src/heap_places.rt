@@ -1,16 +1,14 @@
 //! The places of a plain heap: put, replaced, loaded.
 ghost use Rattle.std.specs.Prelude.{◌≡◌, IfOk, IfErr, OnErr};
-ghost use Rattle.cdrc_plain.specs.declared.slot.Kind.TheVariants.{Strong, Weak};
-ghost use Rattle.cdrc_plain.specs.State.{seat_at};
-ghost use Rattle.cdrc_plain.specs.Places.{IsOpen};
-ghost use Rattle.cdrc_plain.specs.Calls.{strong_place, weak_place, MayGive, Puts, Tries, Loads, WeaklyLoads};
+ghost use Rattle.plain_state.specs.declared.slot.Kind.TheVariants.{Strong, Weak};
+ghost use Rattle.plain_state.specs.State.{seat_at};
+ghost use Rattle.plain_state.specs.Places.{IsOpen};
+ghost use Rattle.plain_store.specs.Calls.{strong_place, weak_place, MayGive, Puts, Tries, Loads, WeaklyLoads};
 
-use crate::hand::{Hand, WeakHand};
 use crate::heap::PlainHeap;
-use crate::payload::PayloadKind;
-use crate::place::{PlainPlace, PlainWeakPlace};
-use crate::slot::SlotId;
 use out_of_memory::{Back, OutOfMemory};
+use plain_state::{PayloadKind, SlotId};
+use plain_store::{Hand, PlainPlace, PlainWeakPlace, WeakHand};
 
 /// The slot of a handle.
 fn slot_of(h: &Option<Hand>) -> Option<SlotId>

@@ -1,15 +1,15 @@
 //! A plain heap settles.
 ghost use Rattle.std.specs.Prelude.{◌≡◌, ◌+◌, IfOk, OnOk, OnErr};
-ghost use Rattle.cdrc_plain.specs.declared.slot.SlotId.{SlotId};
-ghost use Rattle.cdrc_plain.specs.Heaps.{AllFit};
-ghost use Rattle.cdrc_plain.specs.Settling.{SettlesTo, IsSettled};
-ghost use Rattle.cdrc_plain.specs.Stores.{plain_of, Kept};
-ghost use Rattle.cdrc_plain.specs.Draining.{HasRoom, IsCalm};
+ghost use Rattle.plain_state.specs.declared.slot.SlotId.{SlotId};
+ghost use Rattle.plain_store.specs.Heaps.{AllFit};
+ghost use Rattle.plain_store.specs.Settling.{SettlesTo, IsSettled};
+ghost use Rattle.plain_store.specs.Stores.{plain_of, Kept};
+ghost use Rattle.plain_store.specs.Draining.{HasRoom, IsCalm};
 
 use crate::heap::PlainHeap;
-use crate::payload::PayloadKind;
-use crate::store::Store;
 use out_of_memory::OutOfMemory;
+use plain_state::PayloadKind;
+use plain_store::Store;
 
 /// Destroys what is dying and ejects what is surplus, until nothing more may go. Answers the weights.
 fn drain<W: PayloadKind>(store: &mut Store) -> u64

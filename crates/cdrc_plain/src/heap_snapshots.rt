@@ -1,14 +1,13 @@
 //! Snapshots of a plain heap.
 ghost use Rattle.std.specs.Prelude.{◌≡◌, IfOk, OnErr};
-ghost use Rattle.cdrc_plain.specs.Places.{IsOpen};
-ghost use Rattle.cdrc_plain.specs.Steps.{Does};
-ghost use Rattle.cdrc_plain.specs.Calls.{strong_place, Snaps, HasSnapshot, ending, Gains};
+ghost use Rattle.plain_state.specs.Places.{IsOpen};
+ghost use Rattle.plain_state.specs.Steps.{Does};
+ghost use Rattle.plain_store.specs.Calls.{strong_place, Snaps, HasSnapshot, ending, Gains};
 
-use crate::hand::{Hand, SnapHand, counted};
 use crate::heap::PlainHeap;
-use crate::payload::PayloadKind;
-use crate::place::PlainPlace;
 use out_of_memory::OutOfMemory;
+use plain_state::PayloadKind;
+use plain_store::{Hand, PlainPlace, SnapHand, counted};
 
 impl<W: PayloadKind> PlainHeap<W> {
     /// A snapshot of what the place holds, or None exactly where it holds null. It is counted, and

@@ -1,19 +1,19 @@
 //! What no clause says: that the calls succeed with ample memory, and scripts with the counts that
 //! follow from them.
 ghost use Rattle.std.specs.Prelude.{◌≡◌, ◌<◌, IsTrue, length};
-ghost use Rattle.cdrc_plain.specs.declared.slot.Kind.TheVariants.{Strong};
-ghost use Rattle.cdrc_plain.specs.Lists.{times, entry_times};
-ghost use Rattle.cdrc_plain.specs.State.{seat_at};
-ghost use Rattle.cdrc_plain.specs.Places.{Holds};
-ghost use Rattle.cdrc_plain.specs.Heaps.{Owns, OwnsWeakly};
-ghost use Rattle.cdrc_plain.specs.Calls.{HasSnapshot};
+ghost use Rattle.plain_state.specs.declared.slot.Kind.TheVariants.{Strong};
+ghost use Rattle.plain_state.specs.Lists.{times, entry_times};
+ghost use Rattle.plain_state.specs.State.{seat_at};
+ghost use Rattle.plain_state.specs.Places.{Holds};
+ghost use Rattle.plain_store.specs.Heaps.{Owns, OwnsWeakly};
+ghost use Rattle.plain_store.specs.Calls.{HasSnapshot};
 
 use crate::heap::PlainHeap;
-use crate::slot::Kind;
-use crate::store_snapshots::is_of;
 use crate::{
     Hand, PlainPlace, PlainWeakPlace, RecordKind, SlotId, SnapHand, WeakHand, counted, record_of,
 };
+use plain_state::Kind;
+use plain_store::is_of;
 use std::process::Abort;
 use std::test::Fail;
 

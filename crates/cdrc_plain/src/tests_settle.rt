@@ -2,8 +2,8 @@
 ghost use Rattle.std.specs.Prelude.{◌≡◌, ◌≤◌, ◌^◌, slice_index};
 
 use crate::heap::PlainHeap;
-use crate::payload::PayloadKind;
-use crate::refusal::MakeRefused;
+use plain_state::PayloadKind;
+use plain_store::MakeRefused;
 use std::test::Fail;
 
 /// Word 0 is what an object weighs.

@@ -4,24 +4,24 @@ use Rattle.std.specs.Prelude.{slice_index_or, slice_set, if◌then◌else◌, �
 use Rattle.std.proofs.lemmas.List.{length-set, get_or-set_same, get_or_past}
 use Rattle.std.proofs.lemmas.List.Elements.{All-set, All-get_or}
 use Rattle.std.proofs.lemmas.Bool.{cases_lt}
-use Rattle.cdrc_plain.specs.declared.act.PlainAct.{PlainAct}
-use Rattle.cdrc_plain.specs.declared.act.PlainAct.TheVariants as act
-use Rattle.cdrc_plain.specs.declared.act.EventPlace.{EventPlace}
-use Rattle.cdrc_plain.specs.declared.act.EventPlace.TheVariants.{Cell, Field, WeakCell, WeakField}
-use Rattle.cdrc_plain.specs.declared.slot.Kind.{Kind}
-use Rattle.cdrc_plain.specs.declared.slot.Kind.TheVariants.{Strong, Weak}
-use Rattle.cdrc_plain.specs.declared.slot.SlotId.{SlotId}
-use Rattle.cdrc_plain.specs.declared.slot.PlainSlot.{PlainSlot}
-use Rattle.cdrc_plain.specs.declared.slot.Stage.TheVariants.{Free, Live, Ended, Husk}
-use Rattle.cdrc_plain.specs.Lists.{Entry, times, entry_times}
-use Rattle.cdrc_plain.specs.State.{Plain, PlainSeat, new_seat, new_slot, seat_at, slot_at, stage_at, with_seat, with_slot}
-use Rattle.cdrc_plain.specs.Places.{place_kind, content, with_content, with_field, IsDyingField}
-use Rattle.cdrc_plain.specs.Lawful.{HasNullFields}
-use Rattle.cdrc_plain.specs.Sound.{Sound}
-use Rattle.cdrc_plain.specs.Steps.{Does, joined}
-use Rattle.cdrc_plain.specs.Settling.{Settles, SettlesBy, SettlesTo}
-use Rattle.cdrc_plain.proofs.Kit.{held_self, times_none, times_push, times_loses, entry_none, entry_cons, entry_self, entry_lost}
-use Rattle.cdrc_plain.proofs.EveryStep.{step_sound}
+use Rattle.plain_state.specs.declared.act.PlainAct.{PlainAct}
+use Rattle.plain_state.specs.declared.act.PlainAct.TheVariants as act
+use Rattle.plain_state.specs.declared.act.EventPlace.{EventPlace}
+use Rattle.plain_state.specs.declared.act.EventPlace.TheVariants.{Cell, Field, WeakCell, WeakField}
+use Rattle.plain_state.specs.declared.slot.Kind.{Kind}
+use Rattle.plain_state.specs.declared.slot.Kind.TheVariants.{Strong, Weak}
+use Rattle.plain_state.specs.declared.slot.SlotId.{SlotId}
+use Rattle.plain_state.specs.declared.slot.PlainSlot.{PlainSlot}
+use Rattle.plain_state.specs.declared.slot.Stage.TheVariants.{Free, Live, Ended, Husk}
+use Rattle.plain_state.specs.Lists.{Entry, times, entry_times}
+use Rattle.plain_state.specs.State.{Plain, PlainSeat, new_seat, new_slot, seat_at, slot_at, stage_at, with_seat, with_slot}
+use Rattle.plain_state.specs.Places.{place_kind, content, with_content, with_field, IsDyingField}
+use Rattle.plain_state.specs.Lawful.{HasNullFields}
+use Rattle.plain_state.specs.Sound.{Sound}
+use Rattle.plain_state.specs.Steps.{Does, joined}
+use Rattle.plain_store.specs.Settling.{Settles, SettlesBy, SettlesTo}
+use Rattle.plain_state.proofs.Kit.{held_self, times_none, times_push, times_loses, entry_none, entry_cons, entry_self, entry_lost}
+use Rattle.plain_state.proofs.EveryStep.{step_sound}
 use Rattle.cdrc_words.specs.Records.{HoldsRecords, OwnsOnly}
 
 -- the heap of records is such a heap

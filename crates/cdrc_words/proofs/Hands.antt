@@ -3,15 +3,15 @@ use Rattle.std.proofs.Common.{◌≡◌, ◌≢◌, ◌⊎◌, ⊎_elim, ℕ, ze
 use Rattle.std.specs.Prelude.{slice_index_or}
 use Rattle.std.specs.List.{sum_by}
 use Rattle.std.proofs.lemmas.List.Sums.{sum_by-cons}
-use Rattle.cdrc_plain.specs.declared.slot.Kind.TheVariants.{Strong, Weak}
-use Rattle.cdrc_plain.specs.declared.slot.SlotId.{SlotId}
-use Rattle.cdrc_plain.specs.declared.slot.PlainSlot.{PlainSlot}
-use Rattle.cdrc_plain.specs.Lists.{times, entry_times, cell_times}
-use Rattle.cdrc_plain.specs.State.{Plain, PlainSeat, new_seat, new_slot, seat_at}
-use Rattle.cdrc_plain.specs.Places.{Holds}
-use Rattle.cdrc_plain.specs.Lawful.{HasNullFields}
-use Rattle.cdrc_plain.specs.References.{held_in, over_seats, over_slots, strong_fields, strong_refs}
-use Rattle.cdrc_plain.proofs.Kit.{held_self, held_none, times_cons, entry_none, cells_none}
+use Rattle.plain_state.specs.declared.slot.Kind.TheVariants.{Strong, Weak}
+use Rattle.plain_state.specs.declared.slot.SlotId.{SlotId}
+use Rattle.plain_state.specs.declared.slot.PlainSlot.{PlainSlot}
+use Rattle.plain_state.specs.Lists.{times, entry_times, cell_times}
+use Rattle.plain_state.specs.State.{Plain, PlainSeat, new_seat, new_slot, seat_at}
+use Rattle.plain_state.specs.Places.{Holds}
+use Rattle.plain_state.specs.Lawful.{HasNullFields}
+use Rattle.plain_state.specs.References.{held_in, over_seats, over_slots, strong_fields, strong_refs}
+use Rattle.plain_state.proofs.Kit.{held_self, held_none, times_cons, entry_none, cells_none}
 use Rattle.cdrc_words.specs.Records.{IsFreeOrLive, HoldsRecords}
 
 -- what stands in a list stands in it at least once

@@ -6,22 +6,22 @@ use Rattle.std.proofs.lemmas.List.{length-set, length-append}
 use Rattle.std.proofs.lemmas.List.Sums.{sum_by-cons}
 use Rattle.std.proofs.lemmas.List.Elements.{All-set, All-get_or, All-replicate}
 use Rattle.std.proofs.lemmas.Bool.{cases_lt}
-use Rattle.cdrc_plain.specs.declared.slot.SlotId.{SlotId}
-use Rattle.cdrc_plain.specs.declared.slot.PlainSlot.{PlainSlot}
-use Rattle.cdrc_plain.specs.declared.slot.Stage.TheVariants.{Free, Live}
-use Rattle.cdrc_plain.specs.Lists.{times}
-use Rattle.cdrc_plain.specs.State.{Plain, PlainSeat, new_seat, new_slot, seat_at, slot_at, stage_at, empty}
-use Rattle.cdrc_plain.specs.Lawful.{HasNullFields}
-use Rattle.cdrc_plain.specs.Records.{IsRecordOf, record_weight}
-use Rattle.cdrc_plain.specs.Sound.{Sound}
-use Rattle.cdrc_plain.specs.References.{held_in, over_slots, strong_refs}
-use Rattle.cdrc_plain.specs.Heaps.{made_slot, Makes, NoneFree}
-use Rattle.cdrc_plain.proofs.Kit.{cases_slot, held_self, held_other, held_once, held_none, times_none, times_push, slots_set, slots_new}
-use Rattle.cdrc_plain.proofs.Changes.{seat_part}
-use Rattle.cdrc_plain.proofs.Start.{empty_sound}
-use Rattle.cdrc_plain.proofs.Stores.{free_strong, payload_words}
-use Rattle.cdrc_plain.proofs.Kepts.{makes_sound}
-use Rattle.cdrc_plain.proofs.Making.{made, make_is}
+use Rattle.plain_state.specs.declared.slot.SlotId.{SlotId}
+use Rattle.plain_state.specs.declared.slot.PlainSlot.{PlainSlot}
+use Rattle.plain_state.specs.declared.slot.Stage.TheVariants.{Free, Live}
+use Rattle.plain_state.specs.Lists.{times}
+use Rattle.plain_state.specs.State.{Plain, PlainSeat, new_seat, new_slot, seat_at, slot_at, stage_at, empty}
+use Rattle.plain_state.specs.Lawful.{HasNullFields}
+use Rattle.plain_state.specs.Records.{IsRecordOf, record_weight}
+use Rattle.plain_state.specs.Sound.{Sound}
+use Rattle.plain_state.specs.References.{held_in, over_slots, strong_refs}
+use Rattle.plain_store.specs.Heaps.{made_slot, Makes, NoneFree}
+use Rattle.plain_state.proofs.Kit.{cases_slot, held_self, held_other, held_once, held_none, times_none, times_push, slots_set, slots_new}
+use Rattle.plain_state.proofs.Changes.{seat_part}
+use Rattle.plain_state.proofs.Start.{empty_sound}
+use Rattle.plain_store.proofs.Stores.{free_strong, payload_words}
+use Rattle.plain_store.proofs.Kepts.{makes_sound}
+use Rattle.plain_store.proofs.Making.{made, make_is}
 use Rattle.cdrc_words.specs.Records.{IsFreeOrLive, object, object_weight, HoldsRecords}
 
 pub none_held : (slots : ℕ) → HoldsRecords (empty 1 slots 0 0) [] 0

@@ -4,19 +4,19 @@ use Rattle.std.specs.Prelude.{if◌then◌else◌, slice_index}
 use Rattle.std.specs.List.{sum_by}
 use Rattle.std.proofs.lemmas.Bool.Decides.{nat_tests}
 use Rattle.std.proofs.lemmas.List.Sums.{sum_by-cons}
-use Rattle.cdrc_plain.specs.declared.slot.Kind.{Kind}
-use Rattle.cdrc_plain.specs.declared.slot.Kind.TheVariants.{Strong, Weak}
-use Rattle.cdrc_plain.specs.declared.slot.SlotId.{SlotId}
-use Rattle.cdrc_plain.specs.declared.slot.PlainSlot.{PlainSlot}
-use Rattle.cdrc_plain.specs.declared.slot.Stage.TheVariants.{Live}
-use Rattle.cdrc_plain.specs.declared.image.Heap.{Heap}
-use Rattle.cdrc_plain.specs.declared.image.SlotImage.{SlotImage}
-use Rattle.cdrc_plain.specs.Lists.{times, entry_times, cell_times}
-use Rattle.cdrc_plain.specs.State.{Plain, PlainSeat, new_seat, new_slot, seat_at, slot_at, stage_at}
-use Rattle.cdrc_plain.specs.References.{over_seats, over_slots, strong_fields, strong_refs}
-use Rattle.cdrc_plain.specs.Images.{IsImage, free_image, slot_image, image_at}
-use Rattle.cdrc_plain.specs.Settling.{IsSettled}
-use Rattle.cdrc_plain.proofs.Kit.{times_none, entry_none, cells_none}
+use Rattle.plain_state.specs.declared.slot.Kind.{Kind}
+use Rattle.plain_state.specs.declared.slot.Kind.TheVariants.{Strong, Weak}
+use Rattle.plain_state.specs.declared.slot.SlotId.{SlotId}
+use Rattle.plain_state.specs.declared.slot.PlainSlot.{PlainSlot}
+use Rattle.plain_state.specs.declared.slot.Stage.TheVariants.{Live}
+use Rattle.plain_state.specs.declared.image.Heap.{Heap}
+use Rattle.plain_state.specs.declared.image.SlotImage.{SlotImage}
+use Rattle.plain_state.specs.Lists.{times, entry_times, cell_times}
+use Rattle.plain_state.specs.State.{Plain, PlainSeat, new_seat, new_slot, seat_at, slot_at, stage_at}
+use Rattle.plain_state.specs.References.{over_seats, over_slots, strong_fields, strong_refs}
+use Rattle.plain_state.specs.Images.{IsImage, free_image, slot_image, image_at}
+use Rattle.plain_store.specs.Settling.{IsSettled}
+use Rattle.plain_state.proofs.Kit.{times_none, entry_none, cells_none}
 use Rattle.cdrc_text.specs.declared.row.AuditLine.{AuditLine}
 use Rattle.cdrc_words.specs.Audits.{live_image, weight_image}
 use Rattle.cdrc_words.specs.Records.{object, object_weight, HoldsRecords, OwnsOnly}

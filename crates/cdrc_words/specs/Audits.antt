@@ -1,6 +1,6 @@
 -- What a slot of an image adds to an audit.
 use Rattle.std.specs.Prelude.{ℕ, ◌^◌, nat_lt, slice_index, if◌then◌else◌}
-use Rattle.cdrc_plain.specs.declared.image.SlotImage.{SlotImage}
+use Rattle.plain_state.specs.declared.image.SlotImage.{SlotImage}
 
 -- 1 where the zero flag doesn't stand in its strong word
 abbrev pub live_image : SlotImage → ℕ

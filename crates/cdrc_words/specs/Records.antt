@@ -1,15 +1,15 @@
 -- A heap that holds one record for each of some words, and nothing else.
 use Rattle.std.specs.Prelude.{ℕ, ◌≡◌, ◌≤◌, ◌+◌, ◌⊎◌, true, false, List, [], ◌∷◌, length, if◌then◌else◌}
 use Rattle.std.specs.List.{All, sum_by}
-use Rattle.cdrc_plain.specs.declared.slot.SlotId.{SlotId}
-use Rattle.cdrc_plain.specs.declared.slot.PlainSlot.{PlainSlot}
-use Rattle.cdrc_plain.specs.declared.slot.Stage.TheVariants.{Free, Live}
-use Rattle.cdrc_plain.specs.Lists.{times}
-use Rattle.cdrc_plain.specs.State.{Plain, new_seat, seat_at}
-use Rattle.cdrc_plain.specs.Lawful.{HasNullFields}
-use Rattle.cdrc_plain.specs.Records.{record_weight}
-use Rattle.cdrc_plain.specs.Sound.{Sound}
-use Rattle.cdrc_plain.specs.References.{over_slots}
+use Rattle.plain_state.specs.declared.slot.SlotId.{SlotId}
+use Rattle.plain_state.specs.declared.slot.PlainSlot.{PlainSlot}
+use Rattle.plain_state.specs.declared.slot.Stage.TheVariants.{Free, Live}
+use Rattle.plain_state.specs.Lists.{times}
+use Rattle.plain_state.specs.State.{Plain, new_seat, seat_at}
+use Rattle.plain_state.specs.Lawful.{HasNullFields}
+use Rattle.plain_state.specs.Records.{record_weight}
+use Rattle.plain_state.specs.Sound.{Sound}
+use Rattle.plain_state.specs.References.{over_slots}
 
 -- the slot is free, or it has an object; no field of it is set
 abbrev pub IsFreeOrLive : PlainSlot → Type 0

@@ -1,7 +1,7 @@
 -- Which retired entries a scan keeps, and which it ejects: of the copies of one entry as many are
 -- kept as the words seen have its announcement, the earlier ones.
 use Rattle.std.specs.Prelude.{ℕ, ◌==◌, Bool, nat_lt, List, [], ◌∷◌, count_by, if◌then◌else◌}
-use Rattle.cdrc_plain.specs.Lists.{Entry}
+use Rattle.plain_state.specs.Lists.{Entry}
 use Rattle.core_events.specs.Words.{code}
 
 abbrev pub code_of : Entry → ℕ

@@ -1,6 +1,6 @@
 -- The state of the core, one event, lists of events, and the history of a state.
 use Rattle.std.specs.Prelude.{ℕ, ◌≡◌, ◌+◌, ◌^◌, ◌<◌, ◌≤◌, true, List, [], ◌∷◌, ◌++◌, length, slice_index, slice_index_or, slice_set, All, ◌==◌, if◌then◌else◌}
-use Rattle.cdrc_plain.specs.declared.slot.SlotId.{SlotId}
+use Rattle.plain_state.specs.declared.slot.SlotId.{SlotId}
 use Rattle.core_events.specs.declared.act.Act.{Act}
 use Rattle.core_events.specs.declared.act.Act.TheVariants as act
 use Rattle.core_events.specs.declared.act.Event.{Event}

@@ -1,12 +1,12 @@
 -- Which step of the plain state each event shows.
 use Rattle.std.specs.Prelude.{ℕ, ◌≡◌, ◌<◌, ◌==◌, nat_lt, Bool, false, List, [], ◌∷◌, length, if◌then◌else◌}
-use Rattle.cdrc_plain.specs.declared.act.EventPlace.{EventPlace}
-use Rattle.cdrc_plain.specs.declared.act.EventPlace.TheVariants.{Cell, Field, WeakCell, WeakField}
-use Rattle.cdrc_plain.specs.declared.act.PlainAct.{PlainAct}
-use Rattle.cdrc_plain.specs.declared.act.PlainAct.TheVariants as plain
-use Rattle.cdrc_plain.specs.Lists.{Entry, times}
-use Rattle.cdrc_plain.specs.State.{Plain, PlainSeat, seat_at}
-use Rattle.cdrc_plain.specs.Steps.{IsReordering}
+use Rattle.plain_state.specs.declared.act.EventPlace.{EventPlace}
+use Rattle.plain_state.specs.declared.act.EventPlace.TheVariants.{Cell, Field, WeakCell, WeakField}
+use Rattle.plain_state.specs.declared.act.PlainAct.{PlainAct}
+use Rattle.plain_state.specs.declared.act.PlainAct.TheVariants as plain
+use Rattle.plain_state.specs.Lists.{Entry, times}
+use Rattle.plain_state.specs.State.{Plain, PlainSeat, seat_at}
+use Rattle.plain_state.specs.Steps.{IsReordering}
 use Rattle.core_events.specs.declared.act.Act.{Act}
 use Rattle.core_events.specs.declared.act.Act.TheVariants as act
 use Rattle.core_events.specs.declared.shape.Shape.{Shape}

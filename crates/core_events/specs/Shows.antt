@@ -1,9 +1,9 @@
 -- The plain state that a core shows.
 use Rattle.std.specs.Prelude.{ℕ, zero, suc, ◌+◌, ◌++◌, List, [], ◌∷◌, map, slice_index, Option, Some, None}
-use Rattle.cdrc_plain.specs.declared.slot.SlotId.{SlotId}
-use Rattle.cdrc_plain.specs.declared.slot.PlainSlot.{PlainSlot}
-use Rattle.cdrc_plain.specs.Lists.{times}
-use Rattle.cdrc_plain.specs.State.{Plain, PlainSeat}
+use Rattle.plain_state.specs.declared.slot.SlotId.{SlotId}
+use Rattle.plain_state.specs.declared.slot.PlainSlot.{PlainSlot}
+use Rattle.plain_state.specs.Lists.{times}
+use Rattle.plain_state.specs.State.{Plain, PlainSeat}
 use Rattle.core_events.specs.declared.shape.Shape.{Shape}
 use Rattle.core_events.specs.declared.view.CoreView.{CoreView}
 use Rattle.core_events.specs.declared.view.Phase.{Phase}

@@ -1,11 +1,11 @@
 -- What a seat has by its view: what it holds, which places are open to it, what a scan of it still
 -- guards.
 use Rattle.std.specs.Prelude.{ℕ, ◌<◌, ◌+◌, ◌*◌, false, List, [], ◌∷◌, slice_index_or, if◌then◌else◌}
-use Rattle.cdrc_plain.specs.declared.act.EventPlace.{EventPlace}
-use Rattle.cdrc_plain.specs.declared.act.EventPlace.TheVariants.{Cell, Field, WeakCell, WeakField}
-use Rattle.cdrc_plain.specs.declared.slot.Kind.TheVariants.{Strong, Weak}
-use Rattle.cdrc_plain.specs.declared.slot.SlotId.{SlotId}
-use Rattle.cdrc_plain.specs.Lists.{Entry, times, entry_times, is_slot}
+use Rattle.plain_state.specs.declared.act.EventPlace.{EventPlace}
+use Rattle.plain_state.specs.declared.act.EventPlace.TheVariants.{Cell, Field, WeakCell, WeakField}
+use Rattle.plain_state.specs.declared.slot.Kind.TheVariants.{Strong, Weak}
+use Rattle.plain_state.specs.declared.slot.SlotId.{SlotId}
+use Rattle.plain_state.specs.Lists.{Entry, times, entry_times, is_slot}
 use Rattle.core_events.specs.declared.shape.Shape.{Shape}
 use Rattle.core_events.specs.declared.shape.Quota.{Quota}
 use Rattle.core_events.specs.declared.view.CoreView.{CoreView}

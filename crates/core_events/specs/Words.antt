@@ -1,11 +1,11 @@
 -- The words of a domain, in the order of its table: the base word, four announcement words of
 -- each seat, the strong cells, the weak cells, and 21 words of each slot.
 use Rattle.std.specs.Prelude.{ℕ, zero, suc, ◌+◌, ◌-◌, ◌*◌, ◌%◌, ◌^◌, ◌==◌, Bool, nat_lt, nat_le, List, [], ◌∷◌, ◌++◌, replicate, Option, Some, None, if◌then◌else◌}
-use Rattle.cdrc_plain.specs.declared.act.EventPlace.{EventPlace}
-use Rattle.cdrc_plain.specs.declared.act.EventPlace.TheVariants.{Cell, Field, WeakCell, WeakField}
-use Rattle.cdrc_plain.specs.declared.slot.Kind.{Kind}
-use Rattle.cdrc_plain.specs.declared.slot.Kind.TheVariants.{Strong, Weak}
-use Rattle.cdrc_plain.specs.declared.slot.SlotId.{SlotId}
+use Rattle.plain_state.specs.declared.act.EventPlace.{EventPlace}
+use Rattle.plain_state.specs.declared.act.EventPlace.TheVariants.{Cell, Field, WeakCell, WeakField}
+use Rattle.plain_state.specs.declared.slot.Kind.{Kind}
+use Rattle.plain_state.specs.declared.slot.Kind.TheVariants.{Strong, Weak}
+use Rattle.plain_state.specs.declared.slot.SlotId.{SlotId}
 use Rattle.core_events.specs.declared.shape.Shape.{Shape}
 
 -- the zero flag of a strong word, and the weak word of a free slot

@@ -17,7 +17,7 @@ mod shape;
 mod view;
 
 pub use act::{Act, Event};
-pub use cdrc_plain::{EventPlace, Kind, SlotId};
+pub use plain_state::{EventPlace, Kind, SlotId};
 pub use outcome::Outcome;
 pub use shape::{Quota, Shape, ShapeField};
 pub use view::{CoreView, LeftTrail, Move, Note, Phase};

@@ -1,5 +1,5 @@
 //! What an event answers.
-use cdrc_plain::SlotId;
+use plain_state::SlotId;
 
 /// What an event answers.
 #[derive(Clone, Copy, PartialEq, Eq, Debug, Drop)]

@@ -3,14 +3,14 @@ use Rattle.std.proofs.Common.{◌≡◌, ◌≢◌, ◌⊎◌, inl, inr, ⊎_eli
 use Rattle.std.specs.Prelude.{slice_index, ◌==◌, if◌then◌else◌, Option, Some, None}
 use Rattle.std.proofs.lemmas.List.{get_or-set_other}
 use Rattle.std.proofs.lemmas.Bool.Decides.{nat_tests}
-use Rattle.cdrc_plain.specs.declared.act.EventPlace.{EventPlace}
-use Rattle.cdrc_plain.specs.declared.act.EventPlace.TheVariants.{Cell, Field, WeakCell, WeakField}
-use Rattle.cdrc_plain.specs.declared.slot.Kind.{Kind}
-use Rattle.cdrc_plain.specs.declared.slot.Kind.TheVariants.{Strong, Weak}
-use Rattle.cdrc_plain.specs.declared.slot.SlotId.{SlotId}
-use Rattle.cdrc_plain.specs.Lists.{Entry, times, entry_times}
-use Rattle.cdrc_plain.specs.Places.{place_kind}
-use Rattle.cdrc_plain.specs.Steps.{word_of, joined}
+use Rattle.plain_state.specs.declared.act.EventPlace.{EventPlace}
+use Rattle.plain_state.specs.declared.act.EventPlace.TheVariants.{Cell, Field, WeakCell, WeakField}
+use Rattle.plain_state.specs.declared.slot.Kind.{Kind}
+use Rattle.plain_state.specs.declared.slot.Kind.TheVariants.{Strong, Weak}
+use Rattle.plain_state.specs.declared.slot.SlotId.{SlotId}
+use Rattle.plain_state.specs.Lists.{Entry, times, entry_times}
+use Rattle.plain_state.specs.Places.{place_kind}
+use Rattle.plain_state.specs.Steps.{word_of, joined}
 use Rattle.core_events.specs.declared.shape.Shape.{Shape}
 use Rattle.core_events.specs.declared.view.CoreView.{CoreView}
 use Rattle.core_events.specs.declared.view.Move.{Move}

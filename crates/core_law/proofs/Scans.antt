@@ -2,10 +2,10 @@
 use Rattle.std.proofs.Common.{◌≡◌, ◌≢◌, ◌⊎◌, inl, inr, ⊎_elim, ℕ, ◌+◌, ◌*◌, ◌<◌, true, List, [], ◌∷◌, ◌++◌, length, set, refl, ap, sym, ◌∙◌, subst, arith, length-append}
 use Rattle.std.specs.Prelude.{slice_index}
 use Rattle.std.proofs.lemmas.List.{set-get_or}
-use Rattle.cdrc_plain.specs.declared.slot.Kind.{Kind}
-use Rattle.cdrc_plain.specs.declared.slot.Kind.TheVariants.{Strong, Weak}
-use Rattle.cdrc_plain.specs.declared.slot.SlotId.{SlotId}
-use Rattle.cdrc_plain.specs.Lists.{entry_times}
+use Rattle.plain_state.specs.declared.slot.Kind.{Kind}
+use Rattle.plain_state.specs.declared.slot.Kind.TheVariants.{Strong, Weak}
+use Rattle.plain_state.specs.declared.slot.SlotId.{SlotId}
+use Rattle.plain_state.specs.Lists.{entry_times}
 use Rattle.core_events.specs.declared.shape.Shape.{Shape}
 use Rattle.core_events.specs.declared.view.CoreView.{CoreView}
 use Rattle.core_events.specs.declared.view.Move.{Move}

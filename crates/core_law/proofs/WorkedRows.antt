@@ -1,6 +1,6 @@
 -- The worked rows, by computation.
 use Rattle.std.proofs.Common.{inl, inr, refl, arith}
-use Rattle.cdrc_plain.specs.Lists.{times, entry_times}
+use Rattle.plain_state.specs.Lists.{times, entry_times}
 use Rattle.core_events.specs.Ejection.{seen_times}
 use Rattle.core_law.specs.Rows.{slot0, LateFinish, ReadersHelp, TwoCopies, LateAnnouncement}
 

@@ -1,7 +1,7 @@
 -- The invariant, in the form in which each step keeps it: the laws of one slot are one law by its
 -- stage.
 use Rattle.std.specs.Prelude.{ℕ, ◌≡◌, ◌<◌, length}
-use Rattle.cdrc_plain.specs.declared.slot.SlotId.{SlotId}
+use Rattle.plain_state.specs.declared.slot.SlotId.{SlotId}
 use Rattle.core_events.specs.declared.shape.Shape.{Shape}
 use Rattle.core_events.specs.Words.{word_count}
 use Rattle.core_events.specs.Runs.{Core, view_at, IsShape}

@@ -4,12 +4,12 @@ use Rattle.std.specs.Prelude.{slice_index}
 use Rattle.std.proofs.lemmas.List.{get_or_past, get_or-map}
 use Rattle.std.proofs.lemmas.List.Sums.{sum_by-cons}
 use Rattle.std.proofs.lemmas.Bool.{cases_lt}
-use Rattle.cdrc_plain.specs.declared.slot.Kind.{Kind}
-use Rattle.cdrc_plain.specs.declared.slot.Kind.TheVariants.{Strong, Weak}
-use Rattle.cdrc_plain.specs.declared.slot.SlotId.{SlotId}
-use Rattle.cdrc_plain.specs.Lists.{times, entry_times}
-use Rattle.cdrc_plain.specs.References.{strong_refs, weak_refs, places as plain_places, deferrals, snapshot_times, dying_times as plain_dying, own_reference, strong_fields, weak_fields}
-use Rattle.cdrc_plain.specs.State.{PlainSeat, seat_at, slot_at, stage_at, new_seat, new_slot}
+use Rattle.plain_state.specs.declared.slot.Kind.{Kind}
+use Rattle.plain_state.specs.declared.slot.Kind.TheVariants.{Strong, Weak}
+use Rattle.plain_state.specs.declared.slot.SlotId.{SlotId}
+use Rattle.plain_state.specs.Lists.{times, entry_times}
+use Rattle.plain_state.specs.References.{strong_refs, weak_refs, places as plain_places, deferrals, snapshot_times, dying_times as plain_dying, own_reference, strong_fields, weak_fields}
+use Rattle.plain_state.specs.State.{PlainSeat, seat_at, slot_at, stage_at, new_seat, new_slot}
 use Rattle.core_events.specs.declared.shape.Shape.{Shape}
 use Rattle.core_events.specs.declared.view.CoreView.{CoreView}
 use Rattle.core_events.specs.Words.{cell_at, weak_cell_at, field_at, weak_field_at}

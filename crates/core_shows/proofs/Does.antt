@@ -1,17 +1,17 @@
 -- The rows of the plain steps, where the seat and the slot are known.
 use Rattle.std.proofs.Common.{◌≡◌, ◌⊎◌, inl, inr, ℕ, ◌+◌, ◌<◌, true, false, List, [], ◌∷◌, ◌++◌, length, refl, ap, ◌∙◌}
 use Rattle.std.specs.Prelude.{slice_set, Some, None}
-use Rattle.cdrc_plain.specs.declared.act.PlainAct.TheVariants as plain
-use Rattle.cdrc_plain.specs.declared.slot.Kind.{Kind}
-use Rattle.cdrc_plain.specs.declared.slot.SlotId.{SlotId}
-use Rattle.cdrc_plain.specs.declared.slot.PlainSlot.{PlainSlot}
-use Rattle.cdrc_plain.specs.declared.slot.Stage.TheVariants.{Free, Blank, Live, Ended, Husk}
-use Rattle.cdrc_plain.specs.Lists.{Entry, times, Loses}
-use Rattle.cdrc_plain.specs.State.{Plain, PlainSeat, seat_at, slot_at, with_seat, with_slot}
-use Rattle.cdrc_plain.specs.Places.{Holds, held_times}
-use Rattle.cdrc_plain.specs.References.{strong_refs, weak_refs}
-use Rattle.cdrc_plain.specs.Lawful.{IsCovered, HasNullFields}
-use Rattle.cdrc_plain.specs.Steps.{Row, IsReordering}
+use Rattle.plain_state.specs.declared.act.PlainAct.TheVariants as plain
+use Rattle.plain_state.specs.declared.slot.Kind.{Kind}
+use Rattle.plain_state.specs.declared.slot.SlotId.{SlotId}
+use Rattle.plain_state.specs.declared.slot.PlainSlot.{PlainSlot}
+use Rattle.plain_state.specs.declared.slot.Stage.TheVariants.{Free, Blank, Live, Ended, Husk}
+use Rattle.plain_state.specs.Lists.{Entry, times, Loses}
+use Rattle.plain_state.specs.State.{Plain, PlainSeat, seat_at, slot_at, with_seat, with_slot}
+use Rattle.plain_state.specs.Places.{Holds, held_times}
+use Rattle.plain_state.specs.References.{strong_refs, weak_refs}
+use Rattle.plain_state.specs.Lawful.{IsCovered, HasNullFields}
+use Rattle.plain_state.specs.Steps.{Row, IsReordering}
 use Rattle.core_events.specs.declared.act.Act.{Act}
 use Rattle.core_events.specs.declared.shape.Shape.{Shape}
 use Rattle.core_events.specs.Runs.{Core, view_at, found, after}

@@ -1,6 +1,6 @@
 -- Every event shows one plain step.
 use Rattle.std.proofs.Common.{◌≡◌, ◌⊎◌, inl, inr, ⊎_elim, ℕ, ◌<◌, List, [], ◌∷◌, refl, sym, subst, arith}
-use Rattle.cdrc_plain.specs.declared.act.EventPlace.{EventPlace}
+use Rattle.plain_state.specs.declared.act.EventPlace.{EventPlace}
 use Rattle.core_events.specs.declared.act.Act.{Act}
 use Rattle.core_events.specs.declared.act.Act.TheVariants as act
 use Rattle.core_events.specs.declared.act.Event.{Event}

@@ -3,10 +3,10 @@
 use Rattle.std.proofs.Common.{◌≡◌, ◌≢◌, ℕ, ◌<◌, Bool, List, set, map, ap, ◌∙◌}
 use Rattle.std.specs.Prelude.{slice_index, Option}
 use Rattle.std.proofs.lemmas.List.{map-set}
-use Rattle.cdrc_plain.specs.declared.slot.Stage.{Stage}
-use Rattle.cdrc_plain.specs.declared.slot.SlotId.{SlotId}
-use Rattle.cdrc_plain.specs.declared.slot.PlainSlot.{PlainSlot}
-use Rattle.cdrc_plain.specs.State.{Plain, PlainSeat, with_seat, with_slot}
+use Rattle.plain_state.specs.declared.slot.Stage.{Stage}
+use Rattle.plain_state.specs.declared.slot.SlotId.{SlotId}
+use Rattle.plain_state.specs.declared.slot.PlainSlot.{PlainSlot}
+use Rattle.plain_state.specs.State.{Plain, PlainSeat, with_seat, with_slot}
 use Rattle.core_events.specs.declared.shape.Shape.{Shape}
 use Rattle.core_events.specs.declared.view.CoreView.{CoreView}
 use Rattle.core_events.specs.Words.{has_zero, slot_in, cell_at, weak_cell_at, field_at, weak_field_at, payload_at}

@@ -3,15 +3,15 @@ use Rattle.std.proofs.Common.{◌≡◌, ◌≢◌, ⊎_elim, ℕ, ◌+◌, ◌*
 use Rattle.std.specs.Prelude.{◌↔◌, slice_index, if◌then◌else◌, None}
 use Rattle.std.proofs.lemmas.Bool.{cases_lt}
 use Rattle.std.proofs.lemmas.Bool.Decides.{nat_tests}
-use Rattle.cdrc_plain.specs.declared.slot.Kind.{Kind}
-use Rattle.cdrc_plain.specs.declared.slot.Kind.TheVariants.{Strong, Weak}
-use Rattle.cdrc_plain.specs.declared.slot.SlotId.{SlotId}
-use Rattle.cdrc_plain.specs.declared.slot.Stage.TheVariants.{Free, Live, Ended}
-use Rattle.cdrc_plain.specs.declared.slot.PlainSlot.{PlainSlot}
-use Rattle.cdrc_plain.specs.Lawful.{Lawful, IsCovered, IsVacant, HasNullFields}
-use Rattle.cdrc_plain.specs.References.{strong_refs, weak_refs, own_reference, dying_times as plain_dying}
-use Rattle.cdrc_plain.specs.Lists.{entry_times}
-use Rattle.cdrc_plain.specs.State.{slot_at, stage_at}
+use Rattle.plain_state.specs.declared.slot.Kind.{Kind}
+use Rattle.plain_state.specs.declared.slot.Kind.TheVariants.{Strong, Weak}
+use Rattle.plain_state.specs.declared.slot.SlotId.{SlotId}
+use Rattle.plain_state.specs.declared.slot.Stage.TheVariants.{Free, Live, Ended}
+use Rattle.plain_state.specs.declared.slot.PlainSlot.{PlainSlot}
+use Rattle.plain_state.specs.Lawful.{Lawful, IsCovered, IsVacant, HasNullFields}
+use Rattle.plain_state.specs.References.{strong_refs, weak_refs, own_reference, dying_times as plain_dying}
+use Rattle.plain_state.specs.Lists.{entry_times}
+use Rattle.plain_state.specs.State.{slot_at, stage_at}
 use Rattle.core_events.specs.declared.shape.Shape.{Shape}
 use Rattle.core_events.specs.declared.view.CoreView.{CoreView}
 use Rattle.core_events.specs.Words.{has_zero, slot_in, code, field_at, weak_field_at}

@@ -5,11 +5,11 @@ use Rattle.std.proofs.lemmas.List.{length-set, get_or-set_same, get_or-set_other
 use Rattle.std.proofs.lemmas.List.Sums.{sum_by-cons, sum_by_push}
 use Rattle.std.proofs.lemmas.Bool.{cases_eq}
 use Rattle.std.proofs.lemmas.Bool.Decides.{nat_tests}
-use Rattle.cdrc_plain.specs.declared.slot.SlotId.{SlotId}
-use Rattle.cdrc_plain.specs.declared.slot.PlainSlot.{PlainSlot}
-use Rattle.cdrc_plain.specs.Lists.{holds, cell_times}
-use Rattle.cdrc_plain.specs.References.{held_in, over_seats, over_slots}
-use Rattle.cdrc_plain.specs.State.{PlainSeat}
+use Rattle.plain_state.specs.declared.slot.SlotId.{SlotId}
+use Rattle.plain_state.specs.declared.slot.PlainSlot.{PlainSlot}
+use Rattle.plain_state.specs.Lists.{holds, cell_times}
+use Rattle.plain_state.specs.References.{held_in, over_seats, over_slots}
+use Rattle.plain_state.specs.State.{PlainSeat}
 use Rattle.core_events.specs.declared.view.CoreView.{CoreView}
 use Rattle.core_events.specs.Words.{slot_in}
 use Rattle.core_events.specs.Counts.{in_word, total, sum_below}

@@ -3,15 +3,15 @@ use Rattle.std.proofs.Common.{◌≡◌, ℕ, ◌+◌, ◌^◌, ◌<◌, Bool, t
 use Rattle.std.specs.Prelude.{slice_index, ◌==◌, nat_lt, if◌then◌else◌}
 use Rattle.std.proofs.lemmas.List.{set-get_or}
 use Rattle.std.proofs.lemmas.Bool.Decides.{nat_tests}
-use Rattle.cdrc_plain.specs.declared.act.PlainAct.TheVariants as plain
-use Rattle.cdrc_plain.specs.declared.slot.Kind.{Kind}
-use Rattle.cdrc_plain.specs.declared.slot.Kind.TheVariants.{Strong, Weak}
-use Rattle.cdrc_plain.specs.declared.slot.SlotId.{SlotId}
-use Rattle.cdrc_plain.specs.declared.slot.PlainSlot.{PlainSlot}
-use Rattle.cdrc_plain.specs.Lists.{Entry, entry_times, Loses}
-use Rattle.cdrc_plain.specs.References.{strong_refs}
-use Rattle.cdrc_plain.specs.State.{Plain, PlainSeat, seat_at, with_seat, new_seat}
-use Rattle.cdrc_plain.specs.Steps.{Row}
+use Rattle.plain_state.specs.declared.act.PlainAct.TheVariants as plain
+use Rattle.plain_state.specs.declared.slot.Kind.{Kind}
+use Rattle.plain_state.specs.declared.slot.Kind.TheVariants.{Strong, Weak}
+use Rattle.plain_state.specs.declared.slot.SlotId.{SlotId}
+use Rattle.plain_state.specs.declared.slot.PlainSlot.{PlainSlot}
+use Rattle.plain_state.specs.Lists.{Entry, entry_times, Loses}
+use Rattle.plain_state.specs.References.{strong_refs}
+use Rattle.plain_state.specs.State.{Plain, PlainSeat, seat_at, with_seat, new_seat}
+use Rattle.plain_state.specs.Steps.{Row}
 use Rattle.core_events.specs.declared.act.Act.TheVariants as act
 use Rattle.core_events.specs.declared.outcome.Outcome.TheVariants as outcome
 use Rattle.core_events.specs.declared.shape.Shape.{Shape}

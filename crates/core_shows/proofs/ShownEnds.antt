@@ -4,14 +4,14 @@ use Rattle.std.specs.Prelude.{slice_index, ◌==◌, nat_lt, bit_and, if◌then�
 use prog.Atomic.{either}
 use Rattle.std.proofs.lemmas.List.{get_or-set_same}
 use Rattle.std.proofs.lemmas.Bool.Decides.{nat_tests}
-use Rattle.cdrc_plain.specs.declared.act.PlainAct.TheVariants as plain
-use Rattle.cdrc_plain.specs.declared.slot.PlainSlot.{PlainSlot}
-use Rattle.cdrc_plain.specs.declared.slot.SlotId.{SlotId}
-use Rattle.cdrc_plain.specs.declared.slot.Stage.TheVariants.{Live, Ended}
-use Rattle.cdrc_plain.specs.Lists.{times}
-use Rattle.cdrc_plain.specs.References.{strong_refs}
-use Rattle.cdrc_plain.specs.State.{Plain, seat_at, with_seat, with_slot}
-use Rattle.cdrc_plain.specs.Steps.{Row}
+use Rattle.plain_state.specs.declared.act.PlainAct.TheVariants as plain
+use Rattle.plain_state.specs.declared.slot.PlainSlot.{PlainSlot}
+use Rattle.plain_state.specs.declared.slot.SlotId.{SlotId}
+use Rattle.plain_state.specs.declared.slot.Stage.TheVariants.{Live, Ended}
+use Rattle.plain_state.specs.Lists.{times}
+use Rattle.plain_state.specs.References.{strong_refs}
+use Rattle.plain_state.specs.State.{Plain, seat_at, with_seat, with_slot}
+use Rattle.plain_state.specs.Steps.{Row}
 use Rattle.core_events.specs.declared.act.Act.TheVariants as act
 use Rattle.core_events.specs.declared.outcome.Outcome.TheVariants as outcome
 use Rattle.core_events.specs.declared.shape.Shape.{Shape}

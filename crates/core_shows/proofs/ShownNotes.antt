@@ -2,14 +2,14 @@
 use Rattle.std.proofs.Common.{◌≡◌, ⊎_elim, ℕ, ◌+◌, ◌^◌, ◌<◌, Bool, true, false, List, [], ◌∷◌, ◌++◌, length, set, refl, ap, sym, ◌∙◌, subst, arith}
 use Rattle.std.specs.Prelude.{slice_index, ◌==◌, if◌then◌else◌, Option}
 use Rattle.std.proofs.lemmas.List.{get_or-set_other}
-use Rattle.cdrc_plain.specs.declared.act.EventPlace.{EventPlace}
-use Rattle.cdrc_plain.specs.declared.act.PlainAct.TheVariants as plain
-use Rattle.cdrc_plain.specs.declared.slot.Kind.{Kind}
-use Rattle.cdrc_plain.specs.declared.slot.Kind.TheVariants.{Weak}
-use Rattle.cdrc_plain.specs.declared.slot.SlotId.{SlotId}
-use Rattle.cdrc_plain.specs.Lists.{Entry, entry_times}
-use Rattle.cdrc_plain.specs.State.{seat_at, with_seat}
-use Rattle.cdrc_plain.specs.Steps.{Row}
+use Rattle.plain_state.specs.declared.act.EventPlace.{EventPlace}
+use Rattle.plain_state.specs.declared.act.PlainAct.TheVariants as plain
+use Rattle.plain_state.specs.declared.slot.Kind.{Kind}
+use Rattle.plain_state.specs.declared.slot.Kind.TheVariants.{Weak}
+use Rattle.plain_state.specs.declared.slot.SlotId.{SlotId}
+use Rattle.plain_state.specs.Lists.{Entry, entry_times}
+use Rattle.plain_state.specs.State.{seat_at, with_seat}
+use Rattle.plain_state.specs.Steps.{Row}
 use Rattle.core_events.specs.declared.act.Act.TheVariants as act
 use Rattle.core_events.specs.declared.outcome.Outcome.TheVariants as outcome
 use Rattle.core_events.specs.declared.shape.Shape.{Shape}

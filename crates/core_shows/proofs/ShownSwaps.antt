@@ -5,16 +5,16 @@ use prog.Atomic.{either}
 use Rattle.std.proofs.lemmas.List.{length-set, length-map, get_or-set_same, get_or-set_other}
 use Rattle.std.proofs.lemmas.Bool.{cases_eq}
 use Rattle.std.proofs.lemmas.Bool.Decides.{nat_tests}
-use Rattle.cdrc_plain.specs.declared.act.EventPlace.{EventPlace}
-use Rattle.cdrc_plain.specs.declared.act.EventPlace.TheVariants.{Cell, Field, WeakCell, WeakField}
-use Rattle.cdrc_plain.specs.declared.act.PlainAct.TheVariants as plain
-use Rattle.cdrc_plain.specs.declared.slot.Kind.{Kind}
-use Rattle.cdrc_plain.specs.declared.slot.Kind.TheVariants.{Strong, Weak}
-use Rattle.cdrc_plain.specs.declared.slot.SlotId.{SlotId}
-use Rattle.cdrc_plain.specs.Lists.{Entry, times, entry_times}
-use Rattle.cdrc_plain.specs.Places.{place_kind, content, with_content}
-use Rattle.cdrc_plain.specs.State.{Plain, PlainSeat, seat_at, with_seat, new_seat}
-use Rattle.cdrc_plain.specs.Steps.{Row, word_of, joined, GivesUp, Replaces, Clears}
+use Rattle.plain_state.specs.declared.act.EventPlace.{EventPlace}
+use Rattle.plain_state.specs.declared.act.EventPlace.TheVariants.{Cell, Field, WeakCell, WeakField}
+use Rattle.plain_state.specs.declared.act.PlainAct.TheVariants as plain
+use Rattle.plain_state.specs.declared.slot.Kind.{Kind}
+use Rattle.plain_state.specs.declared.slot.Kind.TheVariants.{Strong, Weak}
+use Rattle.plain_state.specs.declared.slot.SlotId.{SlotId}
+use Rattle.plain_state.specs.Lists.{Entry, times, entry_times}
+use Rattle.plain_state.specs.Places.{place_kind, content, with_content}
+use Rattle.plain_state.specs.State.{Plain, PlainSeat, seat_at, with_seat, new_seat}
+use Rattle.plain_state.specs.Steps.{Row, word_of, joined, GivesUp, Replaces, Clears}
 use Rattle.core_events.specs.declared.act.Act.TheVariants as act
 use Rattle.core_events.specs.declared.outcome.Outcome.TheVariants as outcome
 use Rattle.core_events.specs.declared.shape.Shape.{Shape}

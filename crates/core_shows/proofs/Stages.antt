@@ -2,7 +2,7 @@
 -- mark stay.
 use Rattle.std.proofs.Common.{◌≡◌, ◌≢◌, ℕ, ◌+◌, ◌^◌, ◌<◌, ◌≤◌, refl, arith}
 use Rattle.std.proofs.lemmas.Bool.Decides.{nat_tests}
-use Rattle.cdrc_plain.specs.declared.slot.Stage.TheVariants.{Free, Blank, Live, Ended, Husk}
+use Rattle.plain_state.specs.declared.slot.Stage.TheVariants.{Free, Blank, Live, Ended, Husk}
 use Rattle.core_events.specs.Words.{ZERO, HELP, has_zero}
 use Rattle.core_law.specs.Slots.{Numbers, SlotLaw, free, blank, counted, asked, over, husk}
 use Rattle.core_law.proofs.Parts.{stage_in}

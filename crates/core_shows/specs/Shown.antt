@@ -1,10 +1,10 @@
 -- What a core shows of its words and of its events.
 use Rattle.std.specs.Prelude.{ℕ, ◌≡◌, ◌≢◌, ◌⊎◌, false, List, [], ◌∷◌}
-use Rattle.cdrc_plain.specs.declared.slot.SlotId.{SlotId}
-use Rattle.cdrc_plain.specs.declared.slot.Stage.TheVariants.{Free, Live}
-use Rattle.cdrc_plain.specs.References.{strong_refs, weak_refs}
-use Rattle.cdrc_plain.specs.State.{Plain, slot_at, stage_at}
-use Rattle.cdrc_plain.specs.Steps.{Does}
+use Rattle.plain_state.specs.declared.slot.SlotId.{SlotId}
+use Rattle.plain_state.specs.declared.slot.Stage.TheVariants.{Free, Live}
+use Rattle.plain_state.specs.References.{strong_refs, weak_refs}
+use Rattle.plain_state.specs.State.{Plain, slot_at, stage_at}
+use Rattle.plain_state.specs.Steps.{Does}
 use Rattle.core_events.specs.declared.act.Act.{Act}
 use Rattle.core_events.specs.declared.act.Event.{Event}
 use Rattle.core_events.specs.declared.shape.Shape.{Shape}

@@ -1,6 +1,6 @@
 //! What a core shows: a lawful plain state, and one plain step for each event.
 //!
-//! The plain state of `cdrc_plain` has lists of references in place of counts and words. After
+//! The plain state of `plain_state` has lists of references in place of counts and words. After
 //! every list of events the state that a core shows is lawful, and each event shows exactly one
 //! plain step. Each law is the clause of a function without a body. Nothing is promised about
 //! which event comes, or when.

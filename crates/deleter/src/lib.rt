@@ -15,7 +15,7 @@ ghost use Rattle.std.specs.Prelude.{◌≡◌};
 ghost use Rattle.std.specs.Fn.{FnReturnsAt};
 ghost use Rattle.deleter.specs.Weighing.{Weighs};
 
-use cdrc_plain::PayloadKind;
+use plain_state::PayloadKind;
 use std::marker::PhantomData;
 
 /// A closure that answers the weight of every payload of kind `W`.

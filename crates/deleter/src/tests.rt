@@ -3,7 +3,7 @@ ghost use Rattle.std.specs.Prelude.{◌≡◌, ◌≤◌, ◌^◌, slice_index};
 ghost use Rattle.std.proofs.Common.{rules};
 
 use crate::Deleter;
-use cdrc_plain::PayloadKind;
+use plain_state::PayloadKind;
 use std::cell::Cell;
 
 /// Payloads that weigh their first word.

@@ -1,9 +1,9 @@
 -- The announcements that a scan has read: which words announce a slot, and how often it is announced.
 use Rattle.std.specs.Prelude.{ℕ, ◌==◌, ◌&&◌, ◌^◌, not, nat_lt, Bool, List, count_by}
 use Rattle.std.specs.List.{filter}
-use Rattle.cdrc_plain.specs.declared.slot.Kind.{Kind}
-use Rattle.cdrc_plain.specs.declared.slot.Kind.TheVariants.{Strong, Weak}
-use Rattle.cdrc_plain.specs.declared.slot.SlotId.{SlotId}
+use Rattle.plain_state.specs.declared.slot.Kind.{Kind}
+use Rattle.plain_state.specs.declared.slot.Kind.TheVariants.{Strong, Weak}
+use Rattle.plain_state.specs.declared.slot.SlotId.{SlotId}
 use Rattle.announce_slots.specs.Words.{word_of}
 
 -- the number of a kind in an announcement word

@@ -1,7 +1,7 @@
 //! Words of 0 may be left out.
 ghost use Rattle.std.specs.Prelude.{◌≡◌, ◌≤◌, ◌++◌, ℕ, List, length};
-ghost use Rattle.cdrc_plain.specs.declared.slot.Kind.{Kind};
-ghost use Rattle.cdrc_plain.specs.declared.slot.SlotId.{SlotId};
+ghost use Rattle.plain_state.specs.declared.slot.Kind.{Kind};
+ghost use Rattle.plain_state.specs.declared.slot.SlotId.{SlotId};
 ghost use Rattle.eject_scan.specs.Seen.{announced_in, announcements};
 
 /// Of all words that a scan reads, those other than 0 tell how often each slot is announced. It does nothing.

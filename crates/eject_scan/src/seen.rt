@@ -3,7 +3,8 @@ ghost use Rattle.std.specs.Prelude.{◌≡◌, ◌<◌, [], ◌∷◌, ◌++◌,
 ghost use Rattle.eject_scan.specs.Seen.{announced_in, announcements};
 
 use announce_slots::{SLOT_LIMIT, encode};
-use cdrc_plain::{Announced, Kind, OutOfMemory, SlotId};
+use out_of_memory::OutOfMemory;
+use plain_state::{Announced, Kind, SlotId};
 use std::alloc::Global;
 use std::marker::Model;
 

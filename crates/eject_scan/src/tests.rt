@@ -1,6 +1,6 @@
 use crate::Seen;
 use announce_slots::encode;
-use cdrc_plain::{Announced, Kind, SlotId};
+use plain_state::{Announced, Kind, SlotId};
 use std::test::Fail;
 
 #[test]

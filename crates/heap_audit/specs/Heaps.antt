@@ -1,11 +1,11 @@
 -- What the words of a heap say: which slots are Live, what holds a slot, and which heaps are lawful.
 use Rattle.std.specs.Prelude.{ℕ, ◌≡◌, ◌<◌, ◌≤◌, ◌+◌, ◌-◌, ◌^◌, ◌==◌, List, length, All, Bool, nat_lt, count_by, sum_by, slice_index, if◌then◌else◌}
-use Rattle.cdrc_plain.specs.declared.slot.Kind.TheVariants.{Strong}
-use Rattle.cdrc_plain.specs.declared.slot.SlotId.{SlotId}
-use Rattle.cdrc_plain.specs.declared.image.SlotImage.{SlotImage}
-use Rattle.cdrc_plain.specs.declared.image.Heap.{Heap}
-use Rattle.cdrc_plain.specs.Images.{value, slot_image}
-use Rattle.cdrc_plain.specs.Lists.{Entry, entry_times}
+use Rattle.plain_state.specs.declared.slot.Kind.TheVariants.{Strong}
+use Rattle.plain_state.specs.declared.slot.SlotId.{SlotId}
+use Rattle.plain_state.specs.declared.image.SlotImage.{SlotImage}
+use Rattle.plain_state.specs.declared.image.Heap.{Heap}
+use Rattle.plain_state.specs.Images.{value, slot_image}
+use Rattle.plain_state.specs.Lists.{Entry, entry_times}
 
 -- the slot of this number
 abbrev pub slot : ℕ → SlotId

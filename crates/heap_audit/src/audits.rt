@@ -9,7 +9,7 @@ use crate::finding::Audit;
 use crate::live::{count_live, weigh_live};
 use crate::reach::reached_slots;
 use crate::search::{count_unreached, find_walk};
-use cdrc_plain::{Heap, PayloadKind};
+use plain_state::{Heap, PayloadKind};
 use deleter::Deleter;
 use out_of_memory::OutOfMemory;
 use std::alloc::Global;

@@ -1,7 +1,7 @@
 //! Whether a heap meets the condition of an audit, for tests, whose heaps are built by hand.
 ghost use Rattle.std.specs.Prelude.{◌≡◌, ◌<◌, ◌≤◌, ◌+◌, ◌^◌, length, slice_index, count_by, All, IfOk, IsTrue};
-ghost use Rattle.cdrc_plain.specs.Lists.{Entry, entry_times, same_kind};
-ghost use Rattle.cdrc_plain.specs.declared.slot.Kind.TheVariants.{Strong};
+ghost use Rattle.plain_state.specs.Lists.{Entry, entry_times, same_kind};
+ghost use Rattle.plain_state.specs.declared.slot.Kind.TheVariants.{Strong};
 ghost use Rattle.heap_audit.specs.Heaps.{
   IsInRange,
   IsLawful,
@@ -15,7 +15,7 @@ ghost use Rattle.heap_audit.specs.Heaps.{
 ghost use Rattle.heap_audit.specs.Tables.{AreFieldCounts};
 
 use crate::fields::field_counts;
-use cdrc_plain::{Heap, Kind, SlotId, SlotImage, ZERO};
+use plain_state::{Heap, Kind, SlotId, SlotImage, ZERO};
 use out_of_memory::OutOfMemory;
 use std::alloc::Global;
 

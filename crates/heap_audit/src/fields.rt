@@ -1,10 +1,10 @@
 //! How many strong fields hold each slot.
 ghost use Rattle.std.specs.Prelude.{◌≡◌, ◌<◌, ◌≤◌, ◌+◌, ◌^◌, length, All, IfOk, slice_index, sum_by};
 ghost use Rattle.heap_audit.specs.Heaps.{HasFieldsWithin, IsInRange, fields_holding};
-ghost use Rattle.cdrc_plain.specs.declared.slot.SlotId.{SlotId};
+ghost use Rattle.plain_state.specs.declared.slot.SlotId.{SlotId};
 ghost use Rattle.heap_audit.specs.Tables.{CountsWord, CountsFields, AreFieldCounts};
 
-use cdrc_plain::{Heap, SlotImage};
+use plain_state::{Heap, SlotImage};
 use out_of_memory::OutOfMemory;
 use std::alloc::Global;
 

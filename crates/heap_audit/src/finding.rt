@@ -1,5 +1,5 @@
 //! What an audit finds.
-use cdrc_plain::SlotId;
+use plain_state::SlotId;
 
 /// What an audit finds.
 #[derive(Debug, Drop)]

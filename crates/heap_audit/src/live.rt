@@ -4,7 +4,7 @@ ghost use Rattle.deleter.specs.Weighing.{Weighs};
 ghost use Rattle.heap_audit.specs.Heaps.{live_slots, weight_of};
 
 use crate::word::is_live;
-use cdrc_plain::{Heap, PayloadKind, SlotImage};
+use plain_state::{Heap, PayloadKind, SlotImage};
 use deleter::Deleter;
 
 /// How many slots are Live. One look at each slot.

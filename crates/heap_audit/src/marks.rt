@@ -2,7 +2,7 @@
 ghost use Rattle.std.specs.Prelude.{◌≡◌, ◌<◌, [], length, replicate, false, IfOk, OnOk};
 ghost use Rattle.heap_audit.specs.Marking.{Adds};
 
-use cdrc_plain::SlotId;
+use plain_state::SlotId;
 use out_of_memory::OutOfMemory;
 use std::alloc::Global;
 

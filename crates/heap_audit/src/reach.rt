@@ -6,7 +6,7 @@ ghost use Rattle.heap_audit.specs.Tables.{AreReached};
 
 use crate::fields::field_counts;
 use crate::marks::Marks;
-use cdrc_plain::{Heap, SlotId};
+use plain_state::{Heap, SlotId};
 use out_of_memory::OutOfMemory;
 use std::alloc::Global;
 

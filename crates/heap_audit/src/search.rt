@@ -1,6 +1,6 @@
 //! The unreached slots, and the walk that is found among them.
 ghost use Rattle.std.specs.Prelude.{◌≡◌, ◌≤◌, ◌<◌, ◌↔◌, ◌^◌, length, IfOk, IfSome, IsTrue, None};
-ghost use Rattle.cdrc_plain.specs.declared.slot.SlotId.{SlotId};
+ghost use Rattle.plain_state.specs.declared.slot.SlotId.{SlotId};
 ghost use Rattle.heap_audit.specs.Heaps.{slot, IsInRange, IsLawful};
 ghost use Rattle.heap_audit.specs.Reached.{IsUnreached, HowMany};
 ghost use Rattle.heap_audit.specs.Walks.{IsLeast, IsFound};
@@ -9,7 +9,7 @@ ghost use Rattle.heap_audit.specs.Tables.{AreReached, AreHolders, IsLeastIfAny, 
 use crate::ranks::lower;
 use crate::trails::{search, turn_round};
 use crate::word::is_live;
-use cdrc_plain::{Heap, SlotId};
+use plain_state::{Heap, SlotId};
 use out_of_memory::OutOfMemory;
 use std::alloc::Global;
 

@@ -3,7 +3,7 @@ ghost use Rattle.std.specs.Prelude.{◌≡◌, ◌≤◌, ◌^◌, slice_index};
 
 use crate::checked::is_auditable;
 use crate::{Audit, audit, check_walk};
-use cdrc_plain::{Heap, Kind, PayloadKind, SlotId, SlotImage, ZERO};
+use plain_state::{Heap, Kind, PayloadKind, SlotId, SlotImage, ZERO};
 use deleter::Deleter;
 use out_of_memory::OutOfMemory;
 use std::alloc::{AllocError, Global};

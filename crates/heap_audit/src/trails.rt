@@ -1,12 +1,12 @@
 //! Where a search comes to, and the walk that lies at its end.
 ghost use Rattle.std.specs.Prelude.{◌≡◌, ◌≤◌, ◌<◌, length, All, Contains, IfOk, IsSome, slice_index_or};
-ghost use Rattle.cdrc_plain.specs.declared.slot.SlotId.{SlotId};
+ghost use Rattle.plain_state.specs.declared.slot.SlotId.{SlotId};
 ghost use Rattle.heap_audit.specs.Heaps.{slot};
 ghost use Rattle.heap_audit.specs.Walks.{rank_of};
 ghost use Rattle.heap_audit.specs.Tables.{LeadsBy, Searched, TurnsRound, holder_at};
 
 use crate::marks::Marks;
-use cdrc_plain::SlotId;
+use plain_state::SlotId;
 use out_of_memory::OutOfMemory;
 use std::alloc::Global;
 

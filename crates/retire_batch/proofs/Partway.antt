@@ -3,7 +3,7 @@ use Rattle.std.proofs.Common.{◌≡◌, ℕ, ◌+◌, ◌<◌, ◌≤◌, Bool,
 use Rattle.std.specs.Prelude.{nat_lt}
 use Rattle.std.proofs.lemmas.List.{take_more, take_more_set, get_or-drop, drop-set-lt}
 use Rattle.std.proofs.lemmas.Grind.{drop_more_same}
-use Rattle.cdrc_plain.specs.Lists.{Entry, entry_times}
+use Rattle.plain_state.specs.Lists.{Entry, entry_times}
 use Rattle.retire_batch.specs.Ejection.{Announcements, kept, ejected}
 use Rattle.retire_batch.proofs.Splits.{kept_push, ejected_push, stays_by_kept}
 

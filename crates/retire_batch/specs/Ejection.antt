@@ -1,8 +1,8 @@
 -- What a scan keeps of the retired entries, and what it ejects: the multiset rule of deferred reference counting.
 use Rattle.std.specs.Prelude.{ℕ, ◌≡◌, ◌+◌, ◌-◌, ◌⊎◌, min, nat_lt, List, [], ◌∷◌, ◌++◌, if◌then◌else◌}
-use Rattle.cdrc_plain.specs.declared.slot.Kind.{Kind}
-use Rattle.cdrc_plain.specs.declared.slot.SlotId.{SlotId}
-use Rattle.cdrc_plain.specs.Lists.{Entry, is_entry, entry_times}
+use Rattle.plain_state.specs.declared.slot.Kind.{Kind}
+use Rattle.plain_state.specs.declared.slot.SlotId.{SlotId}
+use Rattle.plain_state.specs.Lists.{Entry, is_entry, entry_times}
 
 -- how often each slot is announced under each kind
 abbrev pub Announcements : Type 0

@@ -1,6 +1,6 @@
 -- What a batch has: two lists of entries, and room for so many in both together.
 use Rattle.std.specs.Prelude.{ℕ, ◌+◌, List, length}
-use Rattle.cdrc_plain.specs.Lists.{Entry}
+use Rattle.plain_state.specs.Lists.{Entry}
 
 pub record Entries : Type 0 where
   pub retired : List Entry

@@ -4,7 +4,8 @@ ghost use Rattle.retire_batch.specs.Ejection.{kept, ejected};
 ghost use Rattle.retire_batch.specs.Entries.{entry_count};
 
 use crate::split::split_entries;
-use cdrc_plain::{Announced, Kind, OutOfMemory, SlotId};
+use out_of_memory::OutOfMemory;
+use plain_state::{Announced, Kind, SlotId};
 use std::alloc::Global;
 use std::collections::VecDeque;
 use std::marker::Model;

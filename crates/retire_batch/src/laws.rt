@@ -1,6 +1,6 @@
 //! The rule of ejection, in its own words.
 ghost use Rattle.std.specs.Prelude.{◌≡◌, ◌+◌, List, length};
-ghost use Rattle.cdrc_plain.specs.Lists.{Entry};
+ghost use Rattle.plain_state.specs.Lists.{Entry};
 ghost use Rattle.retire_batch.specs.Ejection.{Announcements, kept, ejected, IsSublist, KeepsTheSmaller, LosesNothing, KeepsTheEarlier};
 
 /// What `Batch::split` keeps and ejects, of every list and for all announcements. It does nothing.

@@ -1,10 +1,10 @@
 //! The split of the retired entries, in place.
 ghost use Rattle.std.specs.Prelude.{◌≡◌, ◌≤◌, ◌+◌, nat_lt, [], vec_len, vec_capacity};
 ghost use Rattle.std.specs.VecDeque.{deque_len, deque_capacity};
-ghost use Rattle.cdrc_plain.specs.Lists.{is_entry, entry_times};
+ghost use Rattle.plain_state.specs.Lists.{is_entry, entry_times};
 ghost use Rattle.retire_batch.specs.Ejection.{kept, ejected};
 
-use cdrc_plain::{Announced, Kind, SlotId};
+use plain_state::{Announced, Kind, SlotId};
 use std::collections::VecDeque;
 
 /// Whether the entry is of this kind and slot.
@@ -15,7 +15,7 @@ fn is_of(entry: &(Kind, SlotId), kind: Kind, slot: SlotId) -> bool
 }
 
 /// How often an entry stands in a list.
-#[tactic(auto, unfolding(cdrc_plain::specs::Lists::entry_times))]
+#[tactic(auto, unfolding(plain_state::specs::Lists::entry_times))]
 fn count(entries: &[(Kind, SlotId)], kind: Kind, slot: SlotId) -> usize
     ensures { result ≡ entry_times kind slot entries.now }
 {

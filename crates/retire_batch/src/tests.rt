@@ -1,8 +1,8 @@
 ghost use Rattle.std.specs.Prelude.{if◌then◌else◌};
-ghost use Rattle.cdrc_plain.specs.Lists.{is_entry};
+ghost use Rattle.plain_state.specs.Lists.{is_entry};
 
 use crate::Batch;
-use cdrc_plain::{Announced, Kind, SlotId};
+use plain_state::{Announced, Kind, SlotId};
 use std::test::Fail;
 
 /// One slot, announced so many times under one kind.

@@ -1,7 +1,7 @@
 use Rattle.std.proofs.Common.{arith, ap, ℕ, ◌+◌}
-use Rattle.cdrc_plain.specs.Stores.{plain_of}
-use Rattle.cdrc_plain.proofs.Settlings.{then_settles}
-use Rattle.cdrc_plain.proofs.SettlingRounds.{drained_none, drained_more, drained_on, object_fits, total_fits, less_destroyed, less_looked, same_deferred, same_needed, all_settled}
+use Rattle.plain_store.specs.Stores.{plain_of}
+use Rattle.plain_store.proofs.Settlings.{then_settles}
+use Rattle.plain_store.proofs.SettlingRounds.{drained_none, drained_more, drained_on, object_fits, total_fits, less_destroyed, less_looked, same_deferred, same_needed, all_settled}
 use Rattle.cdrc_plain.proofs.heap_settle.drain.Goals as goal
 
 pub loop-payload-init : goal.loop-payload-init

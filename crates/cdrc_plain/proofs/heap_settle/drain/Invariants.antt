@@ -1,7 +1,7 @@
 use Rattle.std.proofs.Common.{◌+◌, ◌-◌, length}
-use Rattle.cdrc_plain.specs.Stores.{plain_of}
-use Rattle.cdrc_plain.specs.Draining.{per_object}
-use Rattle.cdrc_plain.proofs.SettlingRounds.{Drained}
+use Rattle.plain_store.specs.Stores.{plain_of}
+use Rattle.plain_store.specs.Draining.{per_object}
+use Rattle.plain_store.proofs.SettlingRounds.{Drained}
 use Rattle.cdrc_plain.proofs.heap_settle.drain.Given as goal
 
 abbrev pub invariant-loop-payload : goal.invariant-loop-payload

@@ -1,6 +1,6 @@
 use Rattle.std.proofs.Common.{arith}
 use Rattle.std.proofs.lemmas.Bool.Decides.{nat_tests}
-use Rattle.cdrc_plain.proofs.Listed.{listed}
+use Rattle.plain_store.proofs.Listed.{listed}
 use Rattle.cdrc_plain.proofs.tests.has.Goals as goal
 
 pub returns-then-x-slot : goal.returns-then-x-slot

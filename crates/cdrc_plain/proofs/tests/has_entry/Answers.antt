@@ -1,6 +1,6 @@
 use Rattle.std.proofs.Common.{arith, sym, ◌∙◌}
-use Rattle.cdrc_plain.specs.declared.slot.Kind.TheVariants.{Strong}
-use Rattle.cdrc_plain.proofs.Listed.{entry_listed}
+use Rattle.plain_state.specs.declared.slot.Kind.TheVariants.{Strong}
+use Rattle.plain_store.proofs.Listed.{entry_listed}
 use Rattle.cdrc_plain.proofs.tests.has_entry.Goals as goal
 
 pub returns-then-is_of : goal.returns-then-is_of

@@ -1,8 +1,8 @@
 use Rattle.std.proofs.Common.{subst, sym}
-use Rattle.cdrc_plain.specs.declared.slot.SlotId.{SlotId}
-use Rattle.cdrc_plain.specs.State.{seat_at}
-use Rattle.cdrc_plain.specs.Places.{Holds}
-use Rattle.cdrc_plain.proofs.Owning.{makes_owns, owns_holds}
+use Rattle.plain_state.specs.declared.slot.SlotId.{SlotId}
+use Rattle.plain_state.specs.State.{seat_at}
+use Rattle.plain_state.specs.Places.{Holds}
+use Rattle.plain_store.proofs.Owning.{makes_owns, owns_holds}
 use Rattle.cdrc_plain.proofs.tests_settle.make_and_drop.Goals as goal
 
 pub counts-requires : goal.counts-requires

@@ -1,8 +1,8 @@
 use Rattle.std.proofs.Common.{◌≡◌, ap, sym, subst, arith, rules, length, vec_len, List, ℕ, [], ◌∷◌, ◌∙◌}
-use Rattle.cdrc_plain.specs.declared.slot.SlotId.{SlotId}
-use Rattle.cdrc_plain.specs.Lists.{times}
-use Rattle.cdrc_plain.specs.Records.{record_weight}
-use Rattle.cdrc_plain.proofs.Kit.{times_push, held_self}
+use Rattle.plain_state.specs.declared.slot.SlotId.{SlotId}
+use Rattle.plain_state.specs.Lists.{times}
+use Rattle.plain_state.specs.Records.{record_weight}
+use Rattle.plain_state.proofs.Kit.{times_push, held_self}
 use Rattle.cdrc_words.specs.Records.{OwnsOnly}
 use Rattle.cdrc_words.proofs.Freeing.{owns_records, drop_one, settles_free}
 use Rattle.cdrc_words.proofs.Imaging.{freed_live, freed_weight, freed_deferred, line_is, nil_by}

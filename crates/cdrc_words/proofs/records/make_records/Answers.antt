@@ -2,7 +2,7 @@ use Rattle.std.proofs.Common.{◌≡◌, ◌+◌, ℕ, List, Err, ap, sym, subst
 use Rattle.std.specs.List.{sum_by}
 use Rattle.std.proofs.lemmas.List.{length-append}
 use Rattle.std.proofs.lemmas.List.Sums.{sum_by_more}
-use Rattle.cdrc_plain.specs.declared.slot.SlotId.{SlotId}
+use Rattle.plain_state.specs.declared.slot.SlotId.{SlotId}
 use Rattle.cdrc_words.specs.Counted.{size_of}
 use Rattle.cdrc_words.specs.Records.{HoldsRecords}
 use Rattle.cdrc_words.proofs.Holding.{none_held, one_more, same_size, not_full}

@@ -1,6 +1,6 @@
 use Rattle.std.proofs.Common.{◌≡◌, ◌*◌, ◌+◌, ap, sym, subst, arith, List, ℕ, [], length, ◌∙◌, IfOk}
 use Rattle.std.specs.List.{sum_by}
-use Rattle.cdrc_plain.specs.State.{Plain}
+use Rattle.plain_state.specs.State.{Plain}
 use Rattle.cdrc_text.specs.declared.row.AuditLine.{AuditLine}
 use Rattle.cdrc_text.specs.declared.row.Totals.{Totals}
 use Rattle.cdrc_words.specs.Counted.{size_of}

@@ -2,10 +2,10 @@ use Rattle.std.proofs.Common.{◌≡◌, ◌<◌, ℕ, List, ◌++◌, ◌∷◌
 use Rattle.std.proofs.lemmas.List.{length-map, length-append}
 use Rattle.std.proofs.lemmas.List.{map_push}
 use Rattle.cdrc_text.specs.declared.row.Row.{Row}
-use Rattle.cdrc_plain.specs.declared.slot.SlotId.{SlotId}
-use Rattle.cdrc_plain.specs.State.{seat_at}
-use Rattle.cdrc_plain.specs.Places.{Holds}
-use Rattle.cdrc_plain.specs.References.{strong_refs}
+use Rattle.plain_state.specs.declared.slot.SlotId.{SlotId}
+use Rattle.plain_state.specs.State.{seat_at}
+use Rattle.plain_state.specs.Places.{Holds}
+use Rattle.plain_state.specs.References.{strong_refs}
 use Rattle.cdrc_words.specs.Reports.{held_row}
 use Rattle.cdrc_words.proofs.Hands.{hand_holds, hand_counts}
 use Rattle.cdrc_words.proofs.records.rows_of.Goals as goal

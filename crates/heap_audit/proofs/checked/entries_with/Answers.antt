@@ -1,5 +1,5 @@
 use Rattle.std.proofs.Common.{rules}
-use Rattle.cdrc_plain.specs.Lists.{entry_times}
+use Rattle.plain_state.specs.Lists.{entry_times}
 use Rattle.heap_audit.proofs.checked.entries_with.Goals as goal
 
 pub returns : goal.returns

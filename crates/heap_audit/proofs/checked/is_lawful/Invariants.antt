@@ -1,5 +1,5 @@
 use Rattle.std.proofs.Common.{◌<◌}
-use Rattle.cdrc_plain.specs.declared.slot.SlotId.{SlotId}
+use Rattle.plain_state.specs.declared.slot.SlotId.{SlotId}
 use Rattle.heap_audit.specs.Heaps.{ObeysAt}
 use Rattle.heap_audit.proofs.checked.is_lawful.Given as goal
 

@@ -1,9 +1,9 @@
 use Rattle.std.proofs.Common.{count_by, ap, ◌∙◌, arith}
 use Rattle.std.proofs.lemmas.Bool.{leb-true}
 use Rattle.std.proofs.lemmas.List.{get_or_read}
-use Rattle.cdrc_plain.specs.declared.slot.Kind.TheVariants.{Strong}
-use Rattle.cdrc_plain.specs.Images.{free_image}
-use Rattle.cdrc_plain.specs.Lists.{entry_times}
+use Rattle.plain_state.specs.declared.slot.Kind.TheVariants.{Strong}
+use Rattle.plain_state.specs.Images.{free_image}
+use Rattle.plain_state.specs.Lists.{entry_times}
 use Rattle.heap_audit.specs.Heaps.{names}
 use Rattle.heap_audit.proofs.Lawfulness.{obeys_live, obeys_other}
 use Rattle.heap_audit.proofs.checked.obeys.Goals as goal

@@ -1,6 +1,6 @@
 use Rattle.std.proofs.Common.{ℕ, ◌≡◌, ◌+◌, ◌<◌, length, Some, refl, sym, ◌∙◌, ap, subst, inl, inr, arith}
 use Rattle.std.proofs.lemmas.Bool.{cases_lt, false≢true}
-use Rattle.cdrc_plain.specs.declared.slot.SlotId.{SlotId}
+use Rattle.plain_state.specs.declared.slot.SlotId.{SlotId}
 use Rattle.heap_audit.specs.Heaps.{slot}
 use Rattle.heap_audit.specs.Reached.{IsUnreached, HowMany}
 use Rattle.heap_audit.specs.Tables.{IsLeastIfAny}

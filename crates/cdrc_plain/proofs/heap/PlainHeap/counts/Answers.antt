@@ -1,7 +1,7 @@
 use Rattle.std.proofs.Common.{sym, subst}
-use Rattle.cdrc_plain.specs.State.{Plain, seat_at}
-use Rattle.cdrc_plain.specs.Places.{Holds}
-use Rattle.cdrc_plain.proofs.Stores.{held_slot}
+use Rattle.plain_state.specs.State.{Plain, seat_at}
+use Rattle.plain_state.specs.Places.{Holds}
+use Rattle.plain_store.proofs.Stores.{held_slot}
 use Rattle.cdrc_plain.proofs.heap.PlainHeap.counts.Goals as goal
 
 pub counts-requires-clause-there : goal.counts-requires-clause-there

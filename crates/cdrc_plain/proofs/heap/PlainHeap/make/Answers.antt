@@ -1,10 +1,10 @@
 use Rattle.std.proofs.Common.{◌≡◌, subst, Err}
 use Rattle.std.specs.Prelude.{◌↔◌}
-use Rattle.cdrc_plain.specs.declared.refusal.MakeRefused.TheVariants.{Full}
-use Rattle.cdrc_plain.specs.State.{Plain}
-use Rattle.cdrc_plain.specs.Heaps.{NoneFree}
-use Rattle.cdrc_plain.specs.Stores.{plain_of}
-use Rattle.cdrc_plain.proofs.Fits.{fit_made}
+use Rattle.plain_store.specs.declared.refusal.MakeRefused.TheVariants.{Full}
+use Rattle.plain_state.specs.State.{Plain}
+use Rattle.plain_store.specs.Heaps.{NoneFree}
+use Rattle.plain_store.specs.Stores.{plain_of}
+use Rattle.plain_store.proofs.Fits.{fit_made}
 use Rattle.cdrc_plain.proofs.heap.PlainHeap.make.Goals as goal
 
 pub invariant_of-self : goal.invariant_of-self

@@ -1,10 +1,10 @@
 use Rattle.std.proofs.Common.{subst, sym, arith, ◌∙◌}
-use Rattle.cdrc_plain.specs.State.{Plain}
-use Rattle.cdrc_plain.specs.Heaps.{AllFit}
-use Rattle.cdrc_plain.specs.Settling.{SettlesTo}
-use Rattle.cdrc_plain.specs.Stores.{plain_of}
-use Rattle.cdrc_plain.proofs.Settlings.{then_settles}
-use Rattle.cdrc_plain.proofs.SettlingRounds.{fit_after}
+use Rattle.plain_state.specs.State.{Plain}
+use Rattle.plain_store.specs.Heaps.{AllFit}
+use Rattle.plain_store.specs.Settling.{SettlesTo}
+use Rattle.plain_store.specs.Stores.{plain_of}
+use Rattle.plain_store.proofs.Settlings.{then_settles}
+use Rattle.plain_store.proofs.SettlingRounds.{fit_after}
 use Rattle.cdrc_plain.proofs.heap.PlainHeap.settle.Goals as goal
 
 pub drain-requires-clause-fit : goal.drain-requires-clause-fit

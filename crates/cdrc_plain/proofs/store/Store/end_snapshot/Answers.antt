@@ -1,7 +1,0 @@
-use Rattle.std.proofs.Common.{rules, refl}
-use Rattle.cdrc_plain.proofs.Loading.{kept_end}
-use Rattle.cdrc_plain.proofs.store.Store.end_snapshot.Goals as goal
-
-pub returns-clause-kept : goal.returns-clause-kept
-returns-clause-kept c =
-    kept_end c.args.self.now _ c.args.slot c.requires.kept (search rules) refl refl refl refl

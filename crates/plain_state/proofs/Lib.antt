@@ -1,0 +1,11 @@
+pub mod Kit
+pub mod Changes
+pub mod SlotLaw
+pub mod StageLaws
+pub mod SeatRows
+pub mod SlotRows
+pub mod PlaceRows
+pub mod Leaves
+pub mod EveryStep
+pub mod Start
+pub mod Records

@@ -1,0 +1,15 @@
+-- What stands in a list is counted in it.
+use Rattle.std.proofs.Common.{◌≡◌, ℕ, ◌<◌, List, true, length, get_or, arith}
+use Rattle.std.specs.Prelude.{if◌then◌else◌}
+use Rattle.std.proofs.lemmas.List.Sums.{get_or-le-sum_by}
+use Rattle.plain_state.specs.declared.slot.Kind.{Kind}
+use Rattle.plain_state.specs.declared.slot.SlotId.{SlotId}
+use Rattle.plain_state.specs.Lists.{Entry, is_slot, is_entry, times, entry_times}
+
+pub listed : (s d : SlotId) (xs : List SlotId) (i : ℕ) → i < length xs → is_slot s (get_or xs i d) ≡ true → 0 < times s xs
+unfolding times
+listed s d xs i lt here = omega (arith, rw here at (get_or-le-sum_by (λ (y : SlotId). if is_slot s y then 1 else 0) xs i d lt))
+
+pub entry_listed : (k : Kind) (s : SlotId) (d : Entry) (es : List Entry) (i : ℕ) → i < length es → is_entry k s (get_or es i d) ≡ true → 0 < entry_times k s es
+unfolding entry_times
+entry_listed k s d es i lt here = omega (arith, rw here at (get_or-le-sum_by (λ (e : Entry). if is_entry k s e then 1 else 0) es i d lt))

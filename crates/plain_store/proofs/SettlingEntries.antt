@@ -1,0 +1,204 @@
+-- An entry of the deferred list that is a surplus goes: what the store then keeps.
+use Rattle.std.proofs.Common.{◌≡◌, ◌≢◌, ⊎_elim, ℕ, ◌+◌, ◌-◌, ◌<◌, ◌≤◌, List, [], ◌++◌, length, get_or, take, drop, refl, ap, sym, ◌∙◌, subst, arith, lit<}
+use Rattle.std.specs.Prelude.{true, false, count_by, slice_set, slice_index, if◌then◌else◌}
+use Rattle.std.specs.List.{swap_remove}
+use Rattle.std.proofs.lemmas.List.{length-set, take-take, take-set-le, length-take-le}
+use Rattle.std.proofs.lemmas.List.Sums.{sum_by-swap_remove, sum_by-take-le, sum_by_more, count_by_more_yes, count_by_more_no, count_by-le-length}
+use Rattle.plain_state.specs.declared.slot.Kind.{Kind}
+use Rattle.plain_state.specs.declared.slot.Kind.TheVariants.{Strong, Weak}
+use Rattle.plain_state.specs.declared.slot.SlotId.{SlotId}
+use Rattle.plain_store.specs.declared.store.Store.{Store}
+use Rattle.plain_state.specs.Lists.{Entry, is_entry, entry_times, Loses}
+use Rattle.plain_state.specs.State.{Plain}
+use Rattle.plain_state.specs.References.{held_in, strong_refs, weak_refs}
+use Rattle.plain_store.specs.Stores.{plain_of, Tallied, Kept}
+use Rattle.plain_store.specs.Settling.{IsSurplus}
+use Rattle.plain_store.specs.Draining.{SettlesFreely, IsCalm, fewer, AllNeeded}
+use Rattle.plain_state.proofs.Kit.{slot_is, cases_slot, held_other, entry_in, entry_self, entry_none, entry_loses}
+use Rattle.plain_state.proofs.Changes.{seat_part}
+use Rattle.plain_state.proofs.SeatRows.{is_there}
+use Rattle.plain_store.proofs.Losing.{loses_at}
+use Rattle.plain_store.proofs.SettlingSteps.{takes, takes_settles}
+use Rattle.plain_store.proofs.SettlingRefs.{SameRefs, LosesRef, tallied_less, calm_same, takes_refs}
+use Rattle.plain_store.proofs.SettlingStores.{seat_of}
+
+counts_entry : (k : Kind) (s : SlotId) (e : Entry) → (if is_entry k s e then 1 else 0) ≡ entry_in k s e
+unfolding held_in
+counts_entry Strong s (Strong, x) = refl
+counts_entry Strong s (Weak, x) = refl
+counts_entry Weak s (Strong, x) = refl
+counts_entry Weak s (Weak, x) = refl
+
+-- 1 where e is (k, s)
+abbrev one_at : Kind → SlotId → Entry → ℕ
+one_at k s e = if is_entry k s e then 1 else 0
+
+swap_counts : (j : Kind) (t : SlotId) (es : List Entry) (at : ℕ) (e : Entry) → at < length es
+    → entry_times j t (swap_remove es at e) + one_at j t (get_or es at e) ≡ entry_times j t es
+unfolding entry_times
+swap_counts j t es at e lt = sum_by-swap_remove (one_at j t) es at e lt
+
+more_counts : (j : Kind) (t : SlotId) (es : List Entry) (i : ℕ) (e : Entry) → i < length es
+    → entry_times j t (take (i + 1) es) ≡ entry_times j t (take i es) + one_at j t (get_or es i e)
+unfolding entry_times
+more_counts j t es i e lt = sum_by_more (one_at j t) es i e lt
+
+counts_at : (j : Kind) (t : SlotId) (x e : Entry) → x ≡ e → one_at j t x ≡ entry_in j t e
+counts_at j t x e is = ap (one_at j t) is ∙ counts_entry j t e
+
+-- after a swap_remove
+pub entry_swap : (j : Kind) (t : SlotId) (es : List Entry) (at : ℕ) (e : Entry) → at < length es → get_or es at e ≡ e
+    → entry_times j t (swap_remove es at e) + entry_in j t e ≡ entry_times j t es
+entry_swap j t es at e lt is =
+    subst (λ (n : ℕ). entry_times j t (swap_remove es at e) + n ≡ entry_times j t es) (counts_at j t (get_or es at e) e is)
+    (swap_counts j t es at e lt)
+
+-- what one entry more adds
+pub entry_more : (j : Kind) (t : SlotId) (es : List Entry) (i : ℕ) (e : Entry) → i < length es → get_or es i e ≡ e
+    → entry_times j t (take (i + 1) es) ≡ entry_times j t (take i es) + entry_in j t e
+entry_more j t es i e lt is =
+    subst (λ (n : ℕ). entry_times j t (take (i + 1) es) ≡ entry_times j t (take i es) + n) (counts_at j t (get_or es i e) e is)
+    (more_counts j t es i e lt)
+
+pub entry_part : (j : Kind) (t : SlotId) (es : List Entry) (i : ℕ) → entry_times j t (take i es) ≤ entry_times j t es
+unfolding entry_times
+entry_part j t es i = sum_by-take-le (λ (f : Entry). if is_entry j t f then 1 else 0) es i
+
+-- of an entry of another kind or slot there is none in e
+pub other_refs : (k : Kind) (x : SlotId) (p q : Plain) (s : SlotId) → s.0 ≢ x.0 → LosesRef k x p q s → SameRefs p q s
+other_refs Strong x p q s ne l = let o = held_other s x (λ r. ne (sym r)) in let a = l.0 in let b = l.1 in (omega arith, omega arith)
+other_refs Weak x p q s ne l = let o = held_other s x (λ r. ne (sym r)) in let a = l.0 in let b = l.1 in (omega arith, omega arith)
+
+-- a slot with references is there, and is counted
+pub strong_counted : (h : Store) (s : SlotId) → Kept h → 0 < strong_refs (plain_of h) s
+    → (s.0 < length h.slots.items) × (s.0 < length h.strong.items) × (0 < slice_index h.strong.items s.0)
+strong_counted h s k some =
+    let live = (k.sound.lawful.strong s some).0 in
+    let at : s.0 < length h.slots.items = is_there (plain_of h) s (λ f. cc) in
+    (at, omega (arith, k.tallied.strong_size), omega (arith, k.tallied.strong s at))
+
+pub weak_counted : (h : Store) (s : SlotId) → Kept h → 0 < weak_refs (plain_of h) s
+    → (s.0 < length h.slots.items) × (s.0 < length h.weak.items) × (0 < slice_index h.weak.items s.0)
+weak_counted h s k some =
+    let at : s.0 < length h.slots.items = is_there (plain_of h) s (k.sound.lawful.weak s some) in
+    (at, omega (arith, k.tallied.weak_size), omega (arith, k.tallied.weak s at))
+
+pub deferred_strong : (h : Store) (s : SlotId) → 0 < entry_times Strong s h.deferred.items → 0 < strong_refs (plain_of h) s
+deferred_strong h s some = let part = seat_part (plain_of h) 0 s (lit< tt) in omega (arith, part.strong_deferred)
+
+pub deferred_weak : (h : Store) (s : SlotId) → 0 < entry_times Weak s h.deferred.items → 0 < weak_refs (plain_of h) s
+deferred_weak h s some = let part = seat_part (plain_of h) 0 s (lit< tt) in omega (arith, part.weak_deferred)
+
+deferred_there : (h : Store) (k : Kind) (s : SlotId) → Kept h → 0 < entry_times k s h.deferred.items → s.0 < length h.slots.items
+deferred_there h Strong s kept some = (strong_counted h s kept (deferred_strong h s some)).0
+deferred_there h Weak s kept some = (weak_counted h s kept (deferred_weak h s some)).0
+
+module _ (h : Store) (at : ℕ) (e : Entry) (kept : Kept h) (lt : at < length h.deferred.items) (is : get_or h.deferred.items at e ≡ e) where
+  abbrev left : List Entry
+  left = swap_remove h.deferred.items at e
+
+  pub entry_some : 0 < entry_times e.0 e.1 h.deferred.items
+  entry_some = let a = entry_swap e.0 e.1 h.deferred.items at e lt is in let o = entry_self e.0 e.1 in omega arith
+
+  pub entry_slot : e.1.0 < length h.slots.items
+  entry_slot = deferred_there h e.0 e.1 kept entry_some
+
+  pub strong_asked : e.0 ≡ Strong → (e.1.0 < length h.strong.items) × (0 < slice_index h.strong.items e.1.0)
+  strong_asked k =
+      let some : 0 < entry_times Strong e.1 h.deferred.items = subst (λ (j : Kind). 0 < entry_times j e.1 h.deferred.items) k entry_some in
+      let c = strong_counted h e.1 kept (deferred_strong h e.1 some) in (c.1, c.2)
+
+  pub weak_asked : e.0 ≡ Weak → (e.1.0 < length h.weak.items) × (0 < slice_index h.weak.items e.1.0)
+  weak_asked k =
+      let some : 0 < entry_times Weak e.1 h.deferred.items = subst (λ (j : Kind). 0 < entry_times j e.1 h.deferred.items) k entry_some in
+      let c = weak_counted h e.1 kept (deferred_weak h e.1 some) in (c.1, c.2)
+
+  abbrev pub after_take : Plain
+  after_take = takes (seat_of h) h.cells.items h.weak_cells.items h.slots.items refl left
+
+  less : (s : SlotId) → LosesRef e.0 e.1 (plain_of h) after_take s
+  less s = takes_refs (seat_of h) h.cells.items h.weak_cells.items h.slots.items refl e.0 e.1 s left
+      (λ j. entry_swap j s h.deferred.items at e lt is)
+
+  pub take_settles : IsSurplus (seat_of h) e.0 e.1 → SettlesFreely (plain_of h) after_take
+  take_settles more =
+      let fs = take at h.deferred.items ++ drop (at + 1) h.deferred.items in
+      let l : Loses h.deferred.items e fs = loses_at h.deferred.items fs at e e lt is refl in
+      takes_settles (seat_of h) h.cells.items h.weak_cells.items h.slots.items refl e.0 e.1 fs left kept.sound.lawful.covered l more
+      (λ j t. (let a = entry_swap j t h.deferred.items at e lt is in let b = entry_loses j t e h.deferred.items fs l in omega arith))
+
+  pub take_tallied : Tallied after_take (fewer Strong e.0 e.1.0 h.strong.items) (fewer Weak e.0 e.1.0 h.weak.items)
+  take_tallied = tallied_less e.0 e.1 (plain_of h) after_take h.strong.items h.weak.items kept.tallied entry_slot refl less
+
+  pub take_calm : (s : SlotId) → s ≢ e.1 → IsCalm (plain_of h) s → IsCalm after_take s
+  take_calm s ne calm =
+      calm_same (plain_of h) after_take s refl (other_refs e.0 e.1 (plain_of h) after_take s (λ q. ne (slot_is s e.1 q)) (less s)) calm
+
+-- entries before the place of a swap_remove stay
+pub before_swap : (es : List Entry) (at : ℕ) (e : Entry) → at < length es → take at (swap_remove es at e) ≡ take at es
+before_swap es at e lt =
+    take-take at (length es - 1) (slice_set es at (get_or es (length es - 1) e)) (omega arith)
+    ∙ take-set-le at es at (get_or es (length es - 1) e) (omega arith)
+
+pub swap_length : (es : List Entry) (at : ℕ) (e : Entry) → at < length es → length (swap_remove es at e) + 1 ≡ length es
+swap_length es at e lt =
+    let a = length-take-le (length es - 1) (slice_set es at (get_or es (length es - 1) e)) (let l = length-set es at (get_or es (length es - 1) e) in omega arith) in
+    omega arith
+
+-- one entry more stays
+pub one_more_needed : (es snapshots : List Entry) (i : ℕ) (e : Entry) → i < length es → get_or es i e ≡ e
+    → AllNeeded (take i es) snapshots → entry_times e.0 e.1 (take i es) < entry_times e.0 e.1 snapshots
+    → AllNeeded (take (i + 1) es) snapshots
+one_more_needed es snapshots i (k, x) lt is needed under j t = by_kind k j lt is under
+  where
+    same_kind_more : (m : Kind) → i < length es → get_or es i (m, x) ≡ (m, x) → entry_times m x (take i es) < entry_times m x snapshots
+        → entry_in m x (m, x) ≡ 1 → entry_times m x (take (i + 1) es) ≤ entry_times m x snapshots
+    same_kind_more m lt is under o = let a = entry_more m x es i (m, x) lt is in omega arith
+
+    no_more : (m n : Kind) → i < length es → get_or es i (m, x) ≡ (m, x) → entry_in n t (m, x) ≡ 0
+        → entry_times n t (take (i + 1) es) ≤ entry_times n t snapshots
+    no_more m n lt is z = let a = entry_more n t es i (m, x) lt is in let b = needed n t in omega arith
+
+    by_kind : (m n : Kind) → i < length es → get_or es i (m, x) ≡ (m, x) → entry_times m x (take i es) < entry_times m x snapshots
+        → entry_times n t (take (i + 1) es) ≤ entry_times n t snapshots
+    by_kind Strong Weak lt is under = no_more Strong Weak lt is refl
+    by_kind Weak Strong lt is under = no_more Weak Strong lt is refl
+    by_kind Strong Strong lt is under =
+        ⊎_elim
+        (λ (q : t ≡ x). subst (λ (u : SlotId). entry_times Strong u (take (i + 1) es) ≤ entry_times Strong u snapshots) (sym q)
+        (same_kind_more Strong lt is under (entry_self Strong x)))
+        (λ (ne : t.0 ≢ x.0). no_more Strong Strong lt is (held_other t x (λ r. ne (sym r))))
+        (cases_slot t x)
+    by_kind Weak Weak lt is under =
+        ⊎_elim
+        (λ (q : t ≡ x). subst (λ (u : SlotId). entry_times Weak u (take (i + 1) es) ≤ entry_times Weak u snapshots) (sym q)
+        (same_kind_more Weak lt is under (entry_self Weak x)))
+        (λ (ne : t.0 ≢ x.0). no_more Weak Weak lt is (held_other t x (λ r. ne (sym r))))
+        (cases_slot t x)
+
+-- an entry of which as many stay already as there are snapshots is a surplus
+pub is_surplus : (es snapshots : List Entry) (i : ℕ) (e : Entry) → i < length es → get_or es i e ≡ e
+    → entry_times e.0 e.1 snapshots ≤ entry_times e.0 e.1 (take i es) → entry_times e.0 e.1 snapshots < entry_times e.0 e.1 es
+is_surplus es snapshots i e lt is le =
+    let a = entry_more e.0 e.1 es i e lt is in
+    let b = entry_part e.0 e.1 es (i + 1) in
+    let c = entry_self e.0 e.1 in omega arith
+
+-- counting the entries one by one
+pub counts_none : (k : Kind) (s : SlotId) → 0 ≡ entry_times k s []
+counts_none k s = sym (entry_none k s)
+
+pub counts_yes : (k : Kind) (s : SlotId) (es : List Entry) (i : ℕ) (d : Entry) → i < length es → is_entry k s (get_or es i d) ≡ true
+    → entry_times k s (take (i + 1) es) ≡ entry_times k s (take i es) + 1
+unfolding entry_times
+counts_yes k s es i d lt e = count_by_more_yes (is_entry k s) es i d lt e
+
+pub counts_no : (k : Kind) (s : SlotId) (es : List Entry) (i : ℕ) (d : Entry) → i < length es → is_entry k s (get_or es i d) ≡ false
+    → entry_times k s (take (i + 1) es) ≡ entry_times k s (take i es)
+unfolding entry_times
+counts_no k s es i d lt e = count_by_more_no (is_entry k s) es i d lt e
+
+pub counts_few : (k : Kind) (s : SlotId) (es : List Entry) (i : ℕ) → i ≤ length es → entry_times k s (take i es) ≤ i
+unfolding entry_times
+counts_few k s es i le =
+    subst (λ (n : ℕ). count_by (is_entry k s) (take i es) ≤ n) (length-take-le i es le) (count_by-le-length (is_entry k s) (take i es))

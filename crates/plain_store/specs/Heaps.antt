@@ -1,0 +1,37 @@
+-- What the calls of a plain heap ask and do, in words of the plain state of its one seat.
+use Rattle.std.specs.Prelude.{ℕ, false, ◌≡◌, ◌≢◌, ◌<◌, ◌+◌, ◌⊎◌, List, [], ◌∷◌, ◌++◌, All}
+use Rattle.plain_state.specs.declared.act.PlainAct.{PlainAct}
+use Rattle.plain_state.specs.declared.act.PlainAct.TheVariants as act
+use Rattle.plain_state.specs.declared.slot.SlotId.{SlotId}
+use Rattle.plain_state.specs.declared.slot.PlainSlot.{PlainSlot}
+use Rattle.plain_state.specs.declared.slot.Stage.TheVariants.{Free, Live, Ended}
+use Rattle.plain_state.specs.Lists.{times}
+use Rattle.plain_state.specs.State.{Plain, seat_at, slot_at, stage_at}
+use Rattle.plain_state.specs.Runs.{Runs}
+
+-- the seat owns a strong, or a weak, reference to s
+abbrev pub Owns : Plain → SlotId → Type 0
+Owns p s = 0 < times s (seat_at p 0).owned
+
+abbrev pub OwnsWeakly : Plain → SlotId → Type 0
+OwnsWeakly p s = 0 < times s (seat_at p 0).weaks
+
+abbrev pub NoneFree : Plain → Type 0
+NoneFree p = All (λ x. x.stage ≢ Free) p.slots
+
+-- payload words from i on are filled
+abbrev pub fills : SlotId → ℕ → List ℕ → List PlainAct
+fills s i [] = []
+fills s i (word ∷ words) = act.Fill s i word ∷ fills s (i + 1) words
+
+-- the slot with an object of this payload
+abbrev pub made_slot : PlainSlot → List ℕ → PlainSlot
+made_slot x payload = record x { stage = Live; marked = false; life = x.life + 1; payload = payload }
+
+-- s is claimed, filled with the payload, and made
+abbrev pub Makes : Plain → SlotId → List ℕ → Plain → Type 0
+Makes p s payload q = Runs p 0 (act.Claim s ∷ fills s 0 payload ++ act.Make s ∷ []) q
+
+-- the payloads of all objects fit
+abbrev pub AllFit : (List ℕ → Type 0) → Plain → Type 0
+AllFit fits p = (s : SlotId) → (stage_at p s ≡ Live) ⊎ (stage_at p s ≡ Ended) → fits (slot_at p s).payload

@@ -1,0 +1,5 @@
+pub mod Heaps
+pub mod Calls
+pub mod Settling
+pub mod Stores
+pub mod Draining
