@@ -1,6 +1,6 @@
 -- Acts of which only the acting seat's view changes.
 use Rattle.std.proofs.Common.{◌≡◌, ℕ, set, refl}
-use Rattle.cdrc_plain.specs.declared.slot.SlotId.{SlotId}
+use Rattle.plain_state.specs.declared.slot.SlotId.{SlotId}
 use Rattle.core_events.specs.declared.act.Act.{Act}
 use Rattle.core_events.specs.declared.act.Act.TheVariants as act
 use Rattle.core_events.specs.declared.shape.Shape.{Shape}

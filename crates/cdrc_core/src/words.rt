@@ -1,6 +1,6 @@
 //! The words of a core: those at the start, and what becomes of one.
 ghost use Rattle.std.specs.Prelude.{◌≡◌, IfOk, List};
-ghost use Rattle.cdrc_plain.specs.Steps.{word_of};
+ghost use Rattle.plain_state.specs.Steps.{word_of};
 ghost use Rattle.core_events.specs.Words.{code, first_words, slot_at};
 ghost use Rattle.core_events.specs.Steps.{next};
 ghost use Rattle.core_events.specs.Runs.{IsShape};
