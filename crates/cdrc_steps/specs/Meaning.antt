@@ -1,12 +1,13 @@
 -- What a list of steps writes.
-use Rattle.std.specs.Prelude.{ℕ, ◌≡◌, ◌+◌, ◌^◌, ◌==◌, Bool, true, false, List, [], ◌∷◌, ◌++◌, replicate, slice_index, codes, Option, Some, None, if◌then◌else◌}
+use Rattle.std.specs.Prelude.{ℕ, ◌≡◌, ◌+◌, ◌^◌, ◌==◌, Bool, true, false, List, [], ◌∷◌, ◌++◌, replicate, codes, Option, Some, None, if◌then◌else◌}
 use Rattle.std.specs.Fmt.{decimal}
 use Rattle.std.specs.List.{flat_map, range_with_len}
 use Rattle.plain_state.specs.declared.slot.SlotId.{SlotId}
 use Rattle.core_events.specs.declared.act.Event.{Event}
 use Rattle.core_events.specs.declared.shape.Shape.{Shape}
 use Rattle.core_events.specs.declared.shape.Quota.{Quota}
-use Rattle.core_events.specs.Words.{ZERO, strong_at, weak_at}
+use Rattle.core_events.specs.Words.{ZERO}
+use Rattle.core_events.specs.Counts.{strong, weak}
 use Rattle.core_events.specs.Runs.{Core, Enabled, IsShape, after, outcome_of, start}
 use Rattle.line_words.specs.declared.reason.Reason.{Reason}
 use Rattle.line_words.specs.declared.reason.Reason.TheVariants.{Syntax, Range, NotEnabled}
@@ -15,12 +16,7 @@ use Rattle.line_machine.specs.Runs.{IsRun}
 use Rattle.step_lines.specs.Spelling.{SpellsEvent, SpellsShape}
 use Rattle.step_lines.specs.Texts.{event_text}
 use Rattle.cdrc_steps.specs.Ranges.{IsInRange}
-
--- a core, its shape, and how many events it made
-pub record Running : Type 0 where
-  pub shape : Shape
-  pub core : Core
-  pub events : ℕ
+use Rattle.cdrc_steps.specs.Runnings.{Running}
 
 -- each seat may use up 2^40 makes and adds
 abbrev pub quotas_of : Shape → List Quota
@@ -56,10 +52,10 @@ Refuses _ words _ = ⊥
 abbrev pub slot_line : Shape → Core → ℕ → List ℕ
 slot_line z c x =
     let s : SlotId = record { 0 = x } in
-    if slice_index c.words (weak_at z s) == ZERO
+    if weak z c s == ZERO
     then []
-    else codes "slot " ++ decimal x ++ codes " strong " ++ decimal (slice_index c.words (strong_at z s))
-    ++ codes " weak " ++ decimal (slice_index c.words (weak_at z s)) ++ codes "\n"
+    else codes "slot " ++ decimal x ++ codes " strong " ++ decimal (strong z c s)
+    ++ codes " weak " ++ decimal (weak z c s) ++ codes "\n"
 
 -- the lines of all slots, and how many events there were
 abbrev pub closing : Running → List ℕ
