@@ -1,0 +1,8 @@
+pub mod FirstBad
+pub mod InRange
+pub mod Leaving
+pub mod Replaying
+pub mod Slots
+pub mod Starting
+pub mod Starts
+pub mod Stays

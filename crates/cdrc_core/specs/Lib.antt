@@ -1,0 +1,4 @@
+pub mod Fits
+pub mod Fields
+pub mod Replays
+pub mod State

@@ -1,0 +1,113 @@
+//! The core: its invariant, and its public calls.
+ghost use Rattle.std.specs.Prelude.{◌≡◌, ◌↔◌, ◌<◌, IsTrue, IfOk, OnOk, OnErr, Err};
+ghost use Rattle.core_events.specs.declared.shape.ShapeField.{ShapeField};
+ghost use Rattle.core_events.specs.Counts.{strong, weak};
+ghost use Rattle.core_events.specs.Good.{Good};
+ghost use Rattle.core_events.specs.Runs.{AreQuotas, Enabled, IsShape, after, outcome_of, start};
+ghost use Rattle.cdrc_core.specs.Fields.{IsFirstBad};
+ghost use Rattle.cdrc_core.specs.declared.errors.StartError.TheVariants.{BadShape};
+ghost use Rattle.cdrc_core.specs.declared.errors.StepError.TheVariants.{NotEnabled, OutOfMemory};
+
+use crate::errors::{StartError, StepError};
+use crate::fields::first_bad;
+use crate::table::Table;
+use core_events::{Event, Outcome, Quota, Shape, SlotId};
+use std::alloc::Global;
+use std::marker::Model;
+
+/// The core of a domain: all its words, and what each seat knows. Its value, in contracts, is the
+/// shape and the state that `core_events` defines. The invariant of `core_law` holds of it.
+#[derive(Drop)]
+pub struct Core {
+    table: Table,
+}
+
+impl Model for Core {
+    ghost use Rattle.core_law.specs.Sound.{Sound};
+    ghost use Rattle.cdrc_core.specs.State.{State};
+
+    ghost Value = { State };
+
+    ghost view = { λ c. c.table };
+
+    ghost invariant = { λ c. Sound c.table.shape c.table.core };
+}
+
+impl Core {
+    /// A core in which nothing has happened, with a seat for each quota. `BadShape` names the first
+    /// field, in the order of `ShapeField`, that is out of its range: Seats 1 to 32, Slots 1 to
+    /// 4,194,304, Cells 0 to 65,536, WeakCells 0 to 4,194,304, Batch 1 to 1,024, and Quotas where
+    /// they are not one for each seat or one is above 2^40. Costs 8 bytes for each word: 21 for each
+    /// slot, one for each cell, four for each seat, and one.
+    #[tactic(auto, using(crate::proofs::Starting::start_sound))]
+    pub fn start(alloc: Global, shape: Shape, quotas: &[Quota]) -> Result<Core, StartError>
+        ensures ok { IfOk result (λ c. c ≡ record { shape = shape; core = start shape quotas.now }) }
+        ensures ranges { OnOk result (IsShape shape × AreQuotas shape quotas.now) }
+        ensures bad { (f : ShapeField) → (result ≡ Err (BadShape f)) ↔ IsFirstBad shape quotas.now f }
+    {
+        if let Some(field) = first_bad(&shape, quotas) {
+            return Err(StartError::BadShape(field));
+        }
+        let table = Table::first(alloc, shape, quotas)?;
+        Ok(Core { table })
+    }
+
+    /// Makes one event of one seat, and answers what the event answers. Refused as `NotEnabled`
+    /// exactly where the event isn't enabled, and as `OutOfMemory` where there was no memory for
+    /// what the seat keeps. A refusal changes nothing. It looks through the lists of the seat.
+    #[tactic(auto, using(crate::proofs::Starting::step_sound))]
+    pub fn step(&mut self, event: &Event) -> Result<Outcome, StepError>
+        ensures enabled { OnOk result
+            (Enabled self.old.shape self.old.core event.now.seat event.now.act) }
+        ensures told { IfOk result (λ o. o ≡ outcome_of self.old.shape self.old.core event.now) }
+        ensures ok { OnOk result (self.new ≡ record self.old {
+          core = after self.old.shape self.old.core event.now.seat event.now.act;
+        }) }
+        ensures refused { (result ≡ Err NotEnabled)
+            ↔ (Enabled self.old.shape self.old.core event.now.seat event.now.act → ⊥) }
+        ensures memory { result ≡ Err OutOfMemory
+            → Enabled self.old.shape self.old.core event.now.seat event.now.act }
+        ensures err { OnErr result (self.new ≡ self.old) }
+    {
+        self.table.step(event)
+    }
+
+    /// Whether `step` would make the event, but for memory.
+    pub fn is_enabled(&self, event: &Event) -> bool
+        ensures { IsTrue result ↔ Enabled self.now.shape self.now.core event.now.seat event.now.act }
+    {
+        self.table.is_enabled(event)
+    }
+
+    /// The strong word of a slot: its count, or its flags.
+    pub fn strong_word(&self, slot: SlotId) -> u64
+        requires { slot.0 < self.now.shape.slots }
+        ensures { result ≡ strong self.now.shape self.now.core slot }
+    {
+        self.table.strong_word(slot)
+    }
+
+    /// The weak word of a slot: its count, or 2^63 where the slot is free.
+    pub fn weak_word(&self, slot: SlotId) -> u64
+        requires { slot.0 < self.now.shape.slots }
+        ensures { result ≡ weak self.now.shape self.now.core slot }
+    {
+        self.table.weak_word(slot)
+    }
+
+    /// What holds of every core, whatever was done with it: the invariant of `core_events`. It does
+    /// nothing.
+    #[tactic(auto, using(crate::proofs::Starting::core_good))]
+    pub fn law(&self)
+        ensures { Good self.now.shape self.now.core }
+    {
+        let _table = &self.table;
+    }
+
+    /// How large the core is.
+    pub fn shape(&self) -> Shape
+        ensures { result ≡ self.now.shape }
+    {
+        self.table.shape()
+    }
+}

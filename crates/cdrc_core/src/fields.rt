@@ -1,0 +1,44 @@
+//! The test of a shape and its quotas.
+ghost use Rattle.std.specs.Prelude.{◌^◌, ◌≤◌, ◌↔◌, IsTrue, All, IfSome, IsNone};
+ghost use Rattle.core_events.specs.Runs.{AreQuotas, IsQuota, IsShape};
+ghost use Rattle.cdrc_core.specs.Fields.{IsFirstBad};
+
+use core_events::{Quota, Shape, ShapeField};
+
+const MOST_SEATS: u32 = 32;
+const MOST_SLOTS: u32 = 4_194_304;
+const MOST_CELLS: u32 = 65_536;
+const MOST_WEAK_CELLS: u32 = 4_194_304;
+const MOST_BATCH: u32 = 1_024;
+const MOST_USES: u64 = 1 << 40;
+
+fn are_quotas(shape: &Shape, quotas: &[Quota]) -> bool
+    ensures { IsTrue result ↔ AreQuotas shape.now quotas.now }
+{
+    quotas.len() == shape.seats as usize
+        && quotas
+            .iter()
+            .all(|quota| quota.makes <= MOST_USES && quota.adds <= MOST_USES)
+}
+
+/// The first field, in the order of `ShapeField`, that is out of its range.
+pub fn first_bad(shape: &Shape, quotas: &[Quota]) -> Option<ShapeField>
+    ensures bad { IfSome result (IsFirstBad shape.now quotas.now) }
+    ensures good { IsNone result → IsShape shape.now × AreQuotas shape.now quotas.now }
+{
+    if shape.seats < 1 || shape.seats > MOST_SEATS {
+        Some(ShapeField::Seats)
+    } else if shape.slots < 1 || shape.slots > MOST_SLOTS {
+        Some(ShapeField::Slots)
+    } else if shape.cells > MOST_CELLS {
+        Some(ShapeField::Cells)
+    } else if shape.weak_cells > MOST_WEAK_CELLS {
+        Some(ShapeField::WeakCells)
+    } else if shape.batch < 1 || shape.batch > MOST_BATCH {
+        Some(ShapeField::Batch)
+    } else if !are_quotas(shape, quotas) {
+        Some(ShapeField::Quotas)
+    } else {
+        None
+    }
+}

@@ -1,0 +1,20 @@
+//! The core of a domain, run by one event at a time.
+#![tactic(auto)]
+
+mod domain;
+mod errors;
+mod events;
+mod fields;
+mod laws;
+mod replays;
+mod seats;
+mod stub;
+mod table;
+mod words;
+
+pub use core_events::{
+    Act, Event, EventPlace, Kind, Note, Outcome, Phase, Quota, Shape, ShapeField, SlotId,
+};
+pub use domain::Core;
+pub use errors::{ReplayError, StartError, StepError};
+pub use laws::one_first_bad;

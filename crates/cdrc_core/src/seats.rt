@@ -1,0 +1,27 @@
+//! The seats at the start.
+ghost use Rattle.std.specs.Prelude.{◌≡◌, IfOk};
+ghost use Rattle.core_events.specs.Views.{first_views};
+ghost use Rattle.core_events.specs.Runs.{AreQuotas, IsShape};
+
+use core_events::{Quota, Shape};
+use crate::stub::SeatView;
+use out_of_memory::OutOfMemory;
+use std::alloc::Global;
+
+/// A seat for each quota, that has done nothing.
+#[tactic(auto, using(crate::proofs::Starts::more_seats))]
+pub fn first_seats(
+    alloc: Global,
+    shape: Shape,
+    quotas: &[Quota],
+) -> Result<Vec<SeatView>, OutOfMemory>
+    requires sizes { IsShape shape }
+    requires quotas { AreQuotas shape quotas.now }
+    ensures { IfOk result (λ seats. seats.items ≡ first_views shape 0 quotas.now) }
+{
+    let mut seats = Vec::with_capacity(alloc, quotas.len())?;
+    for (seat, quota) in quotas.iter().enumerate() {
+        seats.push_reserved(SeatView::first(alloc, shape, seat as u32, *quota));
+    }
+    Ok(seats)
+}

@@ -1,0 +1,82 @@
+//! All words and all seats, and one event of them.
+ghost use Rattle.std.specs.Prelude.{◌≡◌, ◌↔◌, ◌<◌, IsTrue, IfOk};
+ghost use Rattle.core_events.specs.Counts.{strong, weak};
+ghost use Rattle.core_events.specs.Runs.{AreQuotas, HasNullFields, IsShape, start};
+ghost use Rattle.core_law.specs.Sound.{Sound};
+ghost use Rattle.cdrc_core.specs.State.{State};
+
+use crate::seats::first_seats;
+use crate::words::{first_words, slot_index};
+use core_events::{Quota, Shape, SlotId};
+use crate::stub::SeatView;
+use out_of_memory::OutOfMemory;
+use std::alloc::Global;
+use std::marker::Model;
+
+/// The words and the seats. What holds of them is said of `Core`.
+#[derive(Drop)]
+pub struct Table {
+    pub(crate) shape: Shape,
+    pub(crate) words: Vec<u64>,
+    pub(crate) seats: Vec<SeatView>,
+}
+
+impl Model for Table {
+    ghost Value = { State };
+
+    ghost view = { λ t. record {
+      shape = t.shape;
+      core = record { words = t.words.items; views = t.seats.items };
+    } };
+}
+
+impl Table {
+    /// Nothing has happened.
+    pub fn first(alloc: Global, shape: Shape, quotas: &[Quota]) -> Result<Table, OutOfMemory>
+        requires sizes { IsShape shape }
+        requires quotas { AreQuotas shape quotas.now }
+        ensures { IfOk result (λ t. t ≡ record { shape = shape; core = start shape quotas.now }) }
+    {
+        let words = first_words(alloc, &shape)?;
+        let seats = first_seats(alloc, shape, quotas)?;
+        Ok(Table {
+            shape,
+            words,
+            seats,
+        })
+    }
+
+    pub fn shape(&self) -> Shape
+        ensures { result ≡ self.now.shape }
+    {
+        self.shape
+    }
+
+    /// The strong word of a slot.
+    pub fn strong_word(&self, slot: SlotId) -> u64
+        requires there { slot.0 < self.now.shape.slots }
+        requires sound { Sound self.now.shape self.now.core }
+        ensures { result ≡ strong self.now.shape self.now.core slot }
+    {
+        self.words[slot_index(&self.shape, slot)]
+    }
+
+    /// The weak word of a slot.
+    pub fn weak_word(&self, slot: SlotId) -> u64
+        requires there { slot.0 < self.now.shape.slots }
+        requires sound { Sound self.now.shape self.now.core }
+        ensures { result ≡ weak self.now.shape self.now.core slot }
+    {
+        self.words[slot_index(&self.shape, slot) + 1]
+    }
+
+    /// Whether the three fields of a slot are null.
+    pub fn has_null_fields(&self, slot: SlotId) -> bool
+        requires there { slot.0 < self.now.shape.slots }
+        requires sound { Sound self.now.shape self.now.core }
+        ensures { IsTrue result ↔ HasNullFields self.now.shape self.now.core.words slot }
+    {
+        let first = slot_index(&self.shape, slot) + 2;
+        self.words[first] == 0 && self.words[first + 1] == 0 && self.words[first + 2] == 0
+    }
+}

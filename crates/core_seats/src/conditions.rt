@@ -1,0 +1,244 @@
+//! What a seat may do, by what it has.
+ghost use Rattle.std.specs.Prelude.{◌≡◌, ◌≢◌, ◌↔◌, ◌⊎◌, ◌<◌, ℕ, IsTrue, []};
+ghost use Rattle.plain_state.specs.declared.slot.SlotId.{SlotId};
+ghost use Rattle.plain_state.specs.Lists.{times};
+ghost use Rattle.core_events.specs.declared.act.Act.TheVariants as act;
+ghost use Rattle.core_events.specs.declared.view.Note.TheVariants as note;
+ghost use Rattle.core_events.specs.declared.view.Phase.TheVariants as phase;
+ghost use Rattle.core_events.specs.Views.{note_of, Holds, HoldsStrongly, IsOpen, IsDyingField};
+ghost use Rattle.core_events.specs.Steps.{IsIdle, HasAdd, HasRoom, CanGive, IsContent, CanLeave, May};
+
+use crate::holdings::Holdings;
+use crate::lists::{has_slot, has_snapshot};
+use crate::places::kind_of;
+use core_events::{EventPlace, Kind, Note, Phase, Shape, SlotId};
+
+/// Whether a content is null, or a slot of the domain.
+pub(crate) fn is_content(shape: &Shape, content: Option<SlotId>) -> bool
+    ensures { IsTrue result ↔ IsContent shape.now content }
+{
+    match content {
+        None => true,
+        Some(slot) => slot.0 < shape.slots,
+    }
+}
+
+impl Holdings {
+    /// Whether the seat is there, and in the middle of nothing.
+    pub(crate) fn is_idle(&self) -> bool
+        ensures { IsTrue result ↔ IsIdle self.now }
+    {
+        matches!(self.phase, Phase::Idle) && !self.left
+    }
+
+    pub(crate) fn has_add(&self) -> bool
+        ensures { IsTrue result ↔ HasAdd self.now }
+    {
+        self.adds < self.quota.adds
+    }
+
+    pub(crate) fn has_make(&self) -> bool
+        ensures { IsTrue result ↔ (self.now.makes < self.now.quota.makes) }
+    {
+        self.makes < self.quota.makes
+    }
+
+    pub(crate) fn has_room(&self) -> bool
+        ensures { IsTrue result ↔ HasRoom self.now }
+    {
+        self.retired.len() + self.owed.len() < self.room as usize
+    }
+
+    pub(crate) fn owns(&self, slot: SlotId) -> bool
+        ensures { IsTrue result ↔ (0 < times slot self.now.owned) }
+    {
+        has_slot(&self.owned, slot)
+    }
+
+    pub(crate) fn owns_weakly(&self, slot: SlotId) -> bool
+        ensures { IsTrue result ↔ (0 < times slot self.now.weaks) }
+    {
+        has_slot(&self.weaks, slot)
+    }
+
+    pub(crate) fn has_dying(&self, slot: SlotId) -> bool
+        ensures { IsTrue result ↔ (0 < times slot self.now.dying) }
+    {
+        has_slot(&self.dying, slot)
+    }
+
+    pub(crate) fn owes(&self) -> bool
+        ensures { IsTrue result ↔ (self.now.owed ≢ []) }
+    {
+        !self.owed.is_empty()
+    }
+
+    /// Whether the seat owns the slot, or is under a snapshot of it.
+    pub(crate) fn holds(&self, slot: SlotId) -> bool
+        ensures { IsTrue result ↔ Holds self.now slot }
+    {
+        has_slot(&self.owned, slot)
+            || has_slot(&self.weaks, slot)
+            || has_snapshot(&self.notes, Kind::Strong, slot)
+            || has_snapshot(&self.notes, Kind::Weak, slot)
+    }
+
+    /// The same, strongly.
+    pub(crate) fn holds_strongly(&self, slot: SlotId) -> bool
+        ensures { IsTrue result ↔ HoldsStrongly self.now slot }
+    {
+        has_slot(&self.owned, slot) || has_snapshot(&self.notes, Kind::Strong, slot)
+    }
+
+    /// Whether a place is open to the seat.
+    pub(crate) fn is_open(&self, shape: &Shape, place: EventPlace) -> bool
+        ensures { IsTrue result ↔ IsOpen shape.now self.now place }
+    {
+        match place {
+            EventPlace::Cell(cell) => cell < shape.cells,
+            EventPlace::Field(slot, field) => field < 2 && self.holds_strongly(slot),
+            EventPlace::WeakCell(cell) => cell < shape.weak_cells,
+            EventPlace::WeakField(slot) => self.holds_strongly(slot),
+        }
+    }
+
+    /// Whether a place is a field of a slot that the seat has ended.
+    fn is_dying_field(&self, place: EventPlace) -> bool
+        ensures { IsTrue result ↔ IsDyingField self.now place }
+    {
+        match place {
+            EventPlace::Cell(_) | EventPlace::WeakCell(_) => false,
+            EventPlace::Field(slot, field) => field < 2 && self.has_dying(slot),
+            EventPlace::WeakField(slot) => self.has_dying(slot),
+        }
+    }
+
+    /// Whether the seat has this content to give to a place of this kind.
+    pub(crate) fn can_give(&self, kind: Kind, new: Option<SlotId>) -> bool
+        ensures { IsTrue result ↔ CanGive kind new self.now }
+    {
+        match (kind, new) {
+            (_, None) => true,
+            (Kind::Strong, Some(slot)) => self.owns(slot),
+            (Kind::Weak, Some(slot)) => self.owns_weakly(slot),
+        }
+    }
+
+    /// Whether there is such an announcement word, and it stands for nothing.
+    pub(crate) fn has_idle_note(&self, at: u32) -> bool
+        ensures { IsTrue result ↔ ((at < 4) × (note_of self.now at ≡ note.Idle)) }
+    {
+        at < 4 && matches!(self.notes[at as usize], Note::Idle)
+    }
+
+    /// Whether there is such an announcement word, and it stands for something.
+    pub(crate) fn has_busy_note(&self, at: u32) -> bool
+        ensures { IsTrue result ↔ ((at < 4) × (note_of self.now at ≢ note.Idle)) }
+    {
+        at < 4 && !matches!(self.notes[at as usize], Note::Idle)
+    }
+
+    /// Whether a reference of this kind is announced there, and was not found yet.
+    pub(crate) fn has_announced(&self, at: u32, kind: Kind) -> bool
+        ensures { IsTrue result ↔ ((at < 4) × ((s : SlotId) × (note_of self.now at ≡ note.Announced kind s))) }
+    {
+        at < 4 && matches!(self.notes[at as usize], Note::Announced(k, _) if k == kind)
+    }
+
+    /// Whether the seat may put this content into the place: into a place that is open to it, or
+    /// null into a field of a slot that it has ended.
+    pub(crate) fn can_put(&self, shape: &Shape, place: EventPlace, new: Option<SlotId>) -> bool
+        ensures { IsTrue result ↔ May shape.now (act.Swap place new) self.now }
+    {
+        self.is_idle()
+            && self.has_room()
+            && (self.is_open(shape, place) && self.can_give(kind_of(place), new)
+                || self.is_dying_field(place) && new.is_none())
+    }
+
+    /// Whether the seat may begin a scan, or is in the middle of one.
+    pub(crate) fn can_scan(&self, shape: &Shape) -> bool
+        ensures { IsTrue result ↔ May shape.now act.Scan self.now }
+    {
+        self.is_idle() && !self.owes() || matches!(self.phase, Phase::Scan)
+    }
+
+    /// Whether the seat has nothing that only itself could give up.
+    pub(crate) fn can_leave(&self) -> bool
+        ensures { IsTrue result ↔ CanLeave self.now }
+    {
+        self.is_idle()
+            && !self.owes()
+            && matches!(self.notes, [Note::Idle, Note::Idle, Note::Idle, Note::Idle])
+    }
+
+    pub(crate) fn is_finishing(&self) -> bool
+        ensures { IsTrue result ↔ ((s : SlotId) × (self.now.phase ≡ phase.Finish s)) }
+    {
+        matches!(self.phase, Phase::Finish(_))
+    }
+
+    pub(crate) fn is_helping(&self) -> bool
+        ensures { IsTrue result ↔ ((s : SlotId) × (self.now.phase ≡ phase.Help s)) }
+    {
+        matches!(self.phase, Phase::Help(_))
+    }
+
+    pub(crate) fn is_marking(&self) -> bool
+        ensures { IsTrue result ↔ ((s : SlotId) × (self.now.phase ≡ phase.Zero s)) }
+    {
+        matches!(self.phase, Phase::Zero(_))
+    }
+
+    pub(crate) fn is_filling(&self) -> bool
+        ensures { IsTrue result ↔ ((s : SlotId) × (self.now.phase ≡ phase.Blank s)) }
+    {
+        matches!(self.phase, Phase::Blank(_))
+    }
+
+    pub(crate) fn is_giving(&self) -> bool
+        ensures { IsTrue result ↔ ((s : SlotId) × (self.now.phase ≡ phase.Give s)) }
+    {
+        matches!(self.phase, Phase::Give(_))
+    }
+}
+
+impl Holdings {
+    /// Whether the seat may try a place.
+    pub(crate) fn can_try(
+        &self,
+        shape: &Shape,
+        place: EventPlace,
+        old: Option<SlotId>,
+        new: Option<SlotId>,
+    ) -> bool
+        ensures { IsTrue result ↔ May shape.now (act.Cas place old new) self.now }
+    {
+        self.is_idle()
+            && self.has_room()
+            && self.is_open(shape, place)
+            && self.can_give(kind_of(place), new)
+            && is_content(shape, old)
+    }
+
+    /// Whether the seat may try to claim the slot.
+    pub(crate) fn can_claim(&self, shape: &Shape, slot: SlotId) -> bool
+        ensures { IsTrue result ↔ May shape.now (act.Claim slot) self.now }
+    {
+        self.is_idle() && slot.0 < shape.slots && self.has_make() && self.has_add()
+    }
+
+    /// Whether the seat may read a payload word of the slot.
+    pub(crate) fn can_see(&self, slot: SlotId) -> bool
+        ensures { IsTrue result ↔ (IsIdle self.now × (Holds self.now slot ⊎ (0 < times slot self.now.dying))) }
+    {
+        self.is_idle() && (self.holds(slot) || self.has_dying(slot))
+    }
+
+    /// Whether the seat may take over what the other one has, as far as its own things tell.
+    pub(crate) fn can_let_leave(&self, shape: &Shape, other: u32) -> bool
+        ensures { IsTrue result ↔ May shape.now (act.Leave other) self.now }
+    {
+        self.seat == 0 && other != 0 && other < shape.seats && self.can_leave()
+    }
+}

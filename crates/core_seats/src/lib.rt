@@ -1,0 +1,43 @@
+//! What one seat of a domain has, as a value that a machine changes.
+//!
+//! `SeatView` is a seat's half of the table of events: whether the seat may make an act, which word
+//! the act is on, what the act answers, and what the seat has afterwards. Its model is the seat's
+//! view, and every change of it is the one that the table says, exactly. The words are somebody
+//! else's: whoever has them hands over the word that an act finds.
+//!
+//! Nothing here keeps a seat within the table: `may` is the test, and `moves` requires it. A seat
+//! that leaves hands what it has to the first one by `take_over`. Want of memory is told before
+//! anything has changed.
+//!
+//! ```text
+//! let mut seat = SeatView::first(alloc, shape, 0, quota);
+//! let act = Act::Claim(SlotId(3));
+//! if seat.may(&shape, &act) {
+//!     let at = seat.place(&shape, &act);           // the word that the act is on
+//!     let answer = seat.moves(&shape, &act, word)?;    // word: what stood there
+//! }
+//! ```
+#![tactic(auto)]
+
+mod announcements;
+mod changes;
+mod conditions;
+mod counters;
+mod endings;
+mod exchanges;
+mod holdings;
+mod leave;
+mod lists;
+mod phases;
+mod places;
+mod reads;
+mod seat;
+mod split;
+mod table;
+#[cfg(test)]
+mod tests;
+mod words;
+
+pub use core_events::{Act, EventPlace, Kind, Move, Note, Outcome, Phase, Quota, Shape, SlotId};
+pub use out_of_memory::OutOfMemory;
+pub use seat::SeatView;

@@ -1,0 +1,112 @@
+//! The table of events: when a seat may make an act, which word the act is on, what it does.
+ghost use Rattle.std.specs.Prelude.{◌≡◌, ◌↔◌, ◌<◌, ◌^◌, IsTrue, IfOk, OnErr};
+ghost use Rattle.core_events.specs.Views.{room_of, first_view};
+ghost use Rattle.core_events.specs.Steps.{May, CanLeave, answer, moved, place};
+ghost use Rattle.core_seats.specs.Fits.{IsFit, IsWordFor};
+
+use crate::conditions::is_content;
+use crate::holdings::Holdings;
+use crate::phases::slot_in_phase;
+use crate::places::{counter_index, kind_of, note_index, place_index, slot_index};
+use crate::seat::SeatView;
+use core_events::{Act, Kind, Move, Outcome, Quota, Shape, SlotId};
+use out_of_memory::OutOfMemory;
+use std::alloc::Global;
+
+impl SeatView {
+    /// A seat that has done nothing. It takes no memory.
+    pub fn first(alloc: Global, shape: Shape, seat: u32, quota: Quota) -> SeatView
+        requires { room_of shape < 2 ^ 32 }
+        ensures { result ≡ first_view shape seat quota }
+    {
+        SeatView {
+            holdings: Holdings::first(alloc, shape, seat, quota),
+            trail: Vec::new(alloc),
+        }
+    }
+
+    /// Whether the seat may make the act, as far as what it has tells. It looks through the lists of
+    /// the seat that the act needs.
+    pub fn may(&self, shape: &Shape, act: &Act) -> bool
+        ensures { IsTrue result ↔ May shape.now act.now self.now }
+    {
+        let has = &self.holdings;
+        match *act {
+            Act::Add(slot) | Act::Wadd(slot) => has.is_idle() && has.has_add() && has.holds(slot),
+            Act::Drop(slot) => has.is_idle() && has.owns(slot),
+            Act::Pay => has.is_idle() && has.owes(),
+            Act::Finish => has.is_finishing(),
+            Act::Take => has.is_helping(),
+            Act::Count(slot) | Act::Wcount(slot) => has.is_idle() && has.holds(slot),
+            Act::Mark => has.is_marking(),
+            Act::Announce(at, _, slot) => {
+                has.is_idle() && has.has_idle_note(at) && slot.0 < shape.slots
+            }
+            Act::Release(at) => has.is_idle() && has.has_busy_note(at),
+            Act::Look(place) => has.is_idle() && has.is_open(shape, place),
+            Act::Check(at, place) => {
+                has.is_idle() && has.has_announced(at, kind_of(place)) && has.is_open(shape, place)
+            }
+            Act::Scan => has.can_scan(shape),
+            Act::Swap(place, new) => has.can_put(shape, place, new),
+            Act::Cas(place, old, new) => has.can_try(shape, place, old, new),
+            Act::Claim(slot) => has.can_claim(shape, slot),
+            Act::Fill(at, _) => has.is_filling() && at < 16,
+            Act::Start => has.is_filling(),
+            Act::See(slot, at) => has.can_see(slot) && at < 16,
+            Act::Free => has.is_giving(),
+            Act::Wdrop(slot) => has.is_idle() && has.owns_weakly(slot),
+            Act::Destroy(slot) => has.is_idle() && has.has_dying(slot),
+            Act::Leave(other) => has.can_let_leave(shape, other),
+        }
+    }
+
+    /// The place, among all words, of the word that the act is on.
+    pub fn place(&self, shape: &Shape, act: &Act) -> usize
+        ensures { result ≡ place shape.now act.now self.now }
+    {
+        let has = &self.holdings;
+        match *act {
+            Act::Add(slot) | Act::Drop(slot) | Act::Count(slot) => slot_index(shape, slot),
+            Act::Pay => has.owed_index(shape),
+            Act::Finish | Act::Take | Act::Mark | Act::Start => has.phase_index(shape),
+            Act::Announce(at, _, _) | Act::Release(at) => note_index(has.seat, at),
+            Act::Look(at) | Act::Check(_, at) | Act::Swap(at, _) | Act::Cas(at, _, _) => {
+                place_index(shape, at)
+            }
+            Act::Scan => 1 + has.seen.len(),
+            Act::Claim(slot)
+            | Act::Wadd(slot)
+            | Act::Wdrop(slot)
+            | Act::Destroy(slot)
+            | Act::Wcount(slot) => slot_index(shape, slot) + 1,
+            Act::Fill(at, _) => has.phase_index(shape) + 5 + at as usize,
+            Act::See(slot, at) => slot_index(shape, slot) + 5 + at as usize,
+            Act::Free => has.phase_index(shape) + 1,
+            Act::Leave(_) => 0,
+        }
+    }
+
+    /// Makes the act, which finds the word, and notes it with its answer. A leave is only noted: what
+    /// the seat takes over then comes by `take_over`. After an error nothing has changed.
+    pub fn moves(&mut self, shape: &Shape, act: &Act, word: u64) -> Result<Outcome, OutOfMemory>
+        requires may { May shape.now act.now self.old }
+        requires fit { IsFit self.old }
+        requires content { IsWordFor shape.now act.now word }
+        ensures told { IfOk result (λ o. o ≡ answer shape.now act.now word self.old) }
+        ensures ok { IfOk result (λ _. self.new ≡ moved shape.now act.now word self.old) }
+        ensures err { OnErr result (self.new ≡ self.old) }
+    {
+        self.trail.reserve(1)?;
+        let outcome = self.holdings.change(shape, act, word)?;
+        self.trail.push_reserved(Move { act: *act, outcome });
+        Ok(outcome)
+    }
+
+    /// Whether the seat has nothing that only itself could give up.
+    pub fn can_leave(&self) -> bool
+        ensures { IsTrue result ↔ CanLeave self.now }
+    {
+        self.holdings.can_leave()
+    }
+}
