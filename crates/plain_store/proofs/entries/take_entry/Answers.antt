@@ -1,5 +1,5 @@
 use Rattle.plain_store.proofs.Losing.{loses_at}
-use Rattle.plain_store.proofs.store_snapshots.take_entry.Goals as goal
+use Rattle.plain_store.proofs.entries.take_entry.Goals as goal
 
 pub returns-in-Some : goal.returns-in-Some
 returns-in-Some c =

@@ -1,8 +1,8 @@
 use Rattle.std.proofs.Common.{arith, sym, ◌∙◌}
 use Rattle.plain_state.specs.declared.slot.Kind.TheVariants.{Strong}
 use Rattle.plain_state.proofs.Kit.{entry_none}
-use Rattle.plain_store.proofs.Entries.{no_entry_more, no_entry_at_all}
-use Rattle.plain_store.proofs.store_snapshots.entry_at.Goals as goal
+use Rattle.plain_store.proofs.EntryPlaces.{no_entry_more, no_entry_at_all}
+use Rattle.plain_store.proofs.entries.index_of_entry.Goals as goal
 
 pub loop-i-init : goal.loop-i-init
 loop-i-init c = entry_none c.args.kind c.args.slot

@@ -1,7 +1,7 @@
 use Rattle.std.proofs.Common.{arith, ap, sym, ◌+◌, ℕ, ◌∙◌}
 use Rattle.plain_store.proofs.SettlingEntries.{counts_none, counts_yes, counts_no, counts_few}
-use Rattle.plain_store.proofs.store_settle.entry_count.Goals as goal
-use Rattle.plain_store.proofs.store_settle.entry_count.Goals.{then-is_same, else-is_same}
+use Rattle.plain_store.proofs.entries.entry_count.Goals as goal
+use Rattle.plain_store.proofs.entries.entry_count.Goals.{then-is_of, else-is_of}
 
 pub loop-entry-init : goal.loop-entry-init
 loop-entry-init c = counts_none c.args.kind c.args.slot
@@ -13,11 +13,11 @@ overflow_add-count c =
 
 pub loop-entry-preserved : goal.loop-entry-preserved
 loop-entry-preserved c =
-    elim c.if-is_same.branch [
-      | then-is_same w ↦
+    elim c.if-is_of.branch [
+      | then-is_of w ↦
           w.count-is ∙ ap (λ (n : ℕ). n + 1) c.loop-entry.invariant
-          ∙ sym (counts_yes c.args.kind c.args.slot c.args.list.now c.loop-entry.entry-index _ (omega arith) (sym c.is_same.ensures ∙ w.if-is_same.true))
-      | else-is_same w ↦
+          ∙ sym (counts_yes c.args.kind c.args.slot c.args.list.now c.loop-entry.entry-index _ (omega arith) (sym c.is_of.ensures ∙ w.if-is_of.true))
+      | else-is_of w ↦
           w.count-is ∙ c.loop-entry.invariant
-          ∙ sym (counts_no c.args.kind c.args.slot c.args.list.now c.loop-entry.entry-index _ (omega arith) (sym c.is_same.ensures ∙ w.if-is_same.false))
+          ∙ sym (counts_no c.args.kind c.args.slot c.args.list.now c.loop-entry.entry-index _ (omega arith) (sym c.is_of.ensures ∙ w.if-is_of.false))
     ]
