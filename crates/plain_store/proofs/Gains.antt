@@ -12,7 +12,7 @@ use Rattle.plain_state.specs.declared.act.PlainAct.TheVariants as act
 use Rattle.plain_state.specs.declared.slot.Kind.TheVariants.{Strong}
 use Rattle.plain_state.specs.Places.{Holds, HoldsStrongly}
 use Rattle.plain_state.specs.Steps.{Does}
-use Rattle.plain_store.specs.Heaps.{OwnsWeakly}
+use Rattle.plain_store.specs.Heaps.{OwnsWeakly, AllFit, IsHeap}
 use Rattle.plain_store.specs.Stores.{plain_of, Tallied, Kept}
 use Rattle.plain_store.specs.Calls.{gained, weakly_gained, spent}
 use Rattle.plain_state.proofs.Kit.{times_push, times_loses, none_by, none_or_some}
@@ -175,3 +175,13 @@ kept_weak_drop h h' x k o d adds f g next =
     (rw (f, g) (tallied_weak_less p q h.strong.items h.weak.items k.tallied refl x (weak_owned_there h x k o)
     (λ s. omega (arith, (c s).strong)) (λ s. omega (arith, (c s).weak, u s))))
     (omega (arith, adds, k.adds)) next
+
+-- a store that is kept stands for a heap
+pub kept_heap : (fits : List ℕ → Type 0) (h : Store) → Kept h → AllFit fits (plain_of h) → IsHeap fits (plain_of h)
+kept_heap fits h k all = record {
+  sound = k.sound;
+  seats = refl;
+  slots = k.slots;
+  adds = omega (arith, one_seat h, k.adds);
+  payloads = all;
+}

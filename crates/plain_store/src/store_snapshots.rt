@@ -1,11 +1,11 @@
 //! Snapshots that the seat of a store is under.
-ghost use Rattle.std.specs.Prelude.{◌≡◌, ◌<◌, ◌≤◌, IfOk, OnErr, false, true, length};
+ghost use Rattle.std.specs.Prelude.{◌≡◌, ◌<◌, ◌≤◌, IfOk, OnErr, length};
 ghost use Rattle.plain_state.specs.declared.act.PlainAct.TheVariants as act;
 ghost use Rattle.plain_state.specs.declared.slot.Kind.TheVariants.{Strong};
 ghost use Rattle.plain_state.specs.Lists.{entry_times};
 ghost use Rattle.plain_state.specs.Places.{IsOpen, place_kind};
 ghost use Rattle.plain_state.specs.Steps.{Does};
-ghost use Rattle.plain_store.specs.Calls.{Snaps, HasSnapshot, ending};
+ghost use Rattle.plain_store.specs.Calls.{Snaps};
 ghost use Rattle.plain_store.specs.Stores.{plain_of, Kept};
 
 use crate::entries::take_entry;
@@ -74,7 +74,7 @@ impl Store {
     }
 
     /// An uncounted snapshot ends.
-    fn end_snapshot(&mut self, slot: SlotId)
+    pub fn end_snapshot(&mut self, slot: SlotId)
         requires kept { Kept self.old }
         requires under { 0 < entry_times Strong slot self.old.snapshots.items }
         ensures does { Does (plain_of self.old) 0 (act.EndSnapshot Strong slot) 0 (plain_of self.new) }
@@ -82,19 +82,5 @@ impl Store {
         ensures kept { Kept self.new }
     {
         take_entry(&mut self.snapshots, Kind::Strong, slot);
-    }
-
-    /// A snapshot ends.
-    pub fn unsnap(&mut self, slot: SlotId, counted: bool)
-        requires kept { Kept self.old }
-        requires has { HasSnapshot (plain_of self.old) slot counted }
-        ensures does { Does (plain_of self.old) 0 (ending slot counted) 0 (plain_of self.new) }
-        ensures kept { Kept self.new }
-    {
-        if counted {
-            self.drop_owned(slot);
-        } else {
-            self.end_snapshot(slot);
-        }
     }
 }

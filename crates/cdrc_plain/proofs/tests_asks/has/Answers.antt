@@ -1,7 +1,7 @@
 use Rattle.std.proofs.Common.{arith}
 use Rattle.std.proofs.lemmas.Bool.Decides.{nat_tests}
 use Rattle.plain_store.proofs.Listed.{listed}
-use Rattle.cdrc_plain.proofs.tests.has.Goals as goal
+use Rattle.cdrc_plain.proofs.tests_asks.has.Goals as goal
 
 pub returns-then-x-slot : goal.returns-then-x-slot
 returns-then-x-slot c =

@@ -1,7 +1,7 @@
 use Rattle.std.proofs.Common.{arith, sym, ◌∙◌}
 use Rattle.plain_state.specs.declared.slot.Kind.TheVariants.{Strong}
 use Rattle.plain_store.proofs.Listed.{entry_listed}
-use Rattle.cdrc_plain.proofs.tests.has_entry.Goals as goal
+use Rattle.cdrc_plain.proofs.tests_asks.has_entry.Goals as goal
 
 pub returns-then-is_of : goal.returns-then-is_of
 returns-then-is_of c =
