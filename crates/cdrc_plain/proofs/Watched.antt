@@ -1,5 +1,5 @@
 -- Where a heap may be restless after a call.
-use Rattle.std.proofs.Common.{◌≡◌, ◌≢◌, ⊎_elim, ◌<◌, Bool, true, false, length, refl, ◌∙◌, arith}
+use Rattle.std.proofs.Common.{◌≡◌, ◌<◌, Bool, true, false, length, refl, ◌∙◌, arith}
 use Rattle.std.specs.Prelude.{ℕ, if◌then◌else◌}
 use Rattle.std.proofs.lemmas.Bool.Decides.{nat_tests}
 use Rattle.plain_state.specs.declared.act.PlainAct.TheVariants as act
@@ -9,7 +9,6 @@ use Rattle.plain_state.specs.State.{Plain}
 use Rattle.plain_state.specs.Steps.{Does}
 use Rattle.plain_state.proofs.Kit.{slot_is, times_lost}
 use Rattle.plain_store.specs.declared.store.Store.{Store}
-use Rattle.plain_store.specs.Draining.{IsCalm}
 use Rattle.plain_store.specs.Stores.{plain_of, Kept}
 use Rattle.plain_store.proofs.Calming.{StaysCalm, StaysCalmBut, drop_calm, weak_drop_calm}
 use Rattle.plain_store.proofs.Gains.{weak_owned_there}

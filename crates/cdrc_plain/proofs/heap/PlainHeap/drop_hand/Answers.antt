@@ -2,7 +2,6 @@ use Rattle.std.proofs.Common.{ap}
 use Rattle.plain_state.specs.State.{Plain}
 use Rattle.plain_store.specs.Stores.{plain_of}
 use Rattle.plain_store.proofs.Fits.{fit_same}
-use Rattle.cdrc_plain.specs.Watching.{IsRestlessOnly}
 use Rattle.cdrc_plain.proofs.Watched.{restless_drop}
 use Rattle.cdrc_plain.proofs.heap.PlainHeap.drop_hand.Goals as goal
 

@@ -1,4 +1,4 @@
-use Rattle.std.proofs.Common.{rules, ap, subst}
+use Rattle.std.proofs.Common.{ap, subst}
 use Rattle.plain_state.specs.declared.act.PlainAct.TheVariants as act
 use Rattle.plain_state.specs.declared.slot.SlotId.{SlotId}
 use Rattle.plain_state.specs.State.{Plain}

@@ -5,7 +5,6 @@ use Rattle.plain_store.specs.Settling.{SettlesTo}
 use Rattle.plain_store.specs.Stores.{plain_of}
 use Rattle.plain_store.proofs.Settlings.{then_settles}
 use Rattle.plain_store.proofs.SettlingRounds.{fit_after}
-use Rattle.cdrc_plain.specs.Watching.{IsRestlessOnly}
 use Rattle.cdrc_plain.proofs.heap.PlainHeap.settle.Goals as goal
 
 pub drain-requires-clause-fit : goal.drain-requires-clause-fit
