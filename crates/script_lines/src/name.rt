@@ -29,7 +29,7 @@ impl Name {
         ensures ok { IfOk result (λ name. (word.now ≡ name) × IsName name) }
         ensures refused { result ≡ Err Syntax → IsName word.now → ⊥ }
     {
-        if word.len() > 32 || word == b"null" || word.is_empty() || !word.iter().all(|byte| is_name_byte(*byte)) {
+        if word.len() > 32 || word == b"null".as_slice() || word.is_empty() || !word.iter().all(|byte| is_name_byte(*byte)) {
             return Err(LineRefused::Syntax);
         }
         let Ok(text) = str::from_utf8(word) else {
