@@ -19,7 +19,9 @@
 mod command;
 mod name;
 mod parse;
+mod place;
 mod refused;
+mod verb;
 
 pub use crate::command::{Command, ScriptLine, TextPlace};
 pub use crate::name::Name;

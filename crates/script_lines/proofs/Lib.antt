@@ -1,0 +1,4 @@
+-- The lemmas that the contracts stand on.
+pub mod Bytes
+pub mod Places
+pub mod Refusals
