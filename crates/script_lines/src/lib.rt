@@ -16,6 +16,7 @@
 //! ```
 #![tactic(auto)]
 
+mod arguments;
 mod command;
 mod name;
 mod parse;
