@@ -2,9 +2,11 @@
 use Rattle.std.proofs.Common.{◌≡◌, ℕ, List, [], ◌∷◌, Option, codes, refl, sym, ap, ◌∙◌}
 use Rattle.script_lines.specs.declared.command.Command.{Command}
 use Rattle.script_lines.specs.declared.command.Command.TheVariants.{Make, Copy, Drop, Weaken, CopyWeak, DropWeak, Upgrade, Put, Clear, Load, Replace, Snap, EndSnapshot, Keep, Read, Counts, Audit}
+use Rattle.script_lines.specs.declared.command.ScriptLine.{ScriptLine}
+use Rattle.script_lines.specs.declared.command.ScriptLine.TheVariants.{Heap, Command as OnHeap}
 use Rattle.script_lines.specs.declared.command.TextPlace.{TextPlace}
 use Rattle.script_lines.specs.declared.verb.Verb.{Verb}
-use Rattle.script_lines.specs.Spelling.{Each, Named, NamedOrNull, Number, Place, SpellsCommand}
+use Rattle.script_lines.specs.Spelling.{Each, Named, NamedOrNull, Number, Place, Spells, SpellsCommand}
 use Rattle.script_lines.specs.Verbs.{spelling}
 use Rattle.script_lines.proofs.Shapes.{Shape, OneName, TwoNames, NameAndNumber, OnePlace, PlaceAndName, PlaceAndTwo, ThreeNumbers, Nothing, shape, shape-spelling, verb_at}
 
@@ -91,3 +93,40 @@ module _ (verb : Verb) (words : List (List ℕ)) where
       → SpellsCommand command (spelling verb ∷ words) → ⊥
   no-place_and_two is none (Replace p old new) spells = none p old new spells.1
   no-place_and_two is none command spells = let other = sym is ∙ same-shape command spells in cc
+
+-- ---- lines
+
+spelling-word : (command : Command) → word_of command ≡ spelling (verb_at (word_of command))
+spelling-word (Make n i) = refl
+spelling-word (Copy n m) = refl
+spelling-word (Drop n) = refl
+spelling-word (Weaken n m) = refl
+spelling-word (CopyWeak n m) = refl
+spelling-word (DropWeak n) = refl
+spelling-word (Upgrade n m) = refl
+spelling-word (Put p n) = refl
+spelling-word (Clear p) = refl
+spelling-word (Load p n) = refl
+spelling-word (Replace p old new) = refl
+spelling-word (Snap p n) = refl
+spelling-word (EndSnapshot n) = refl
+spelling-word (Keep n m) = refl
+spelling-word (Read n i) = refl
+spelling-word (Counts n) = refl
+spelling-word Audit = refl
+
+-- a word that is no verb's begins no line
+pub no-verb : (word : List ℕ) (words : List (List ℕ)) → ((verb : Verb) → word ≡ spelling verb → ⊥) → (line : ScriptLine) → Spells line (word ∷ words) → ⊥
+no-verb word words none (Heap slots cells weak_cells) spells = none (verb_at (codes "heap")) spells.0
+no-verb word words none (OnHeap command) spells =
+    none (verb_at (word_of command)) (first-word command word words spells ∙ spelling-word command)
+
+not-heap : (command : Command) → shape (verb_at (word_of command)) ≡ ThreeNumbers → ⊥
+not-heap (Make n i) is = cc
+not-heap command is = cc
+
+-- a verb of three numbers begins no command
+pub no-heap : (verb : Verb) (words : List (List ℕ)) → shape verb ≡ ThreeNumbers
+    → ((i j k : ℕ) → Each (Number i ∷ Number j ∷ Number k ∷ []) words → ⊥) → (line : ScriptLine) → Spells line (spelling verb ∷ words) → ⊥
+no-heap verb words is none (Heap slots cells weak_cells) spells = none slots cells weak_cells spells.1
+no-heap verb words is none (OnHeap command) spells = not-heap command (sym (same-shape verb words command spells) ∙ is)
