@@ -18,6 +18,7 @@
 
 mod arguments;
 mod command;
+pub mod laws;
 mod name;
 mod parse;
 mod place;
