@@ -1,5 +1,5 @@
 //! Worked rows, and the refusals of `start`.
-ghost use Rattle.std.specs.Prelude.{◌<◌};
+ghost use Rattle.std.specs.Prelude.{◌≡◌, ◌<◌};
 
 use crate::{
     Act, Core, Event, EventPlace, Kind, Outcome, Quota, ReplayError, Shape, ShapeField, SlotId,
@@ -20,7 +20,9 @@ const WIDE: Quota = Quota {
 
 const ZERO: u64 = 9_223_372_036_854_775_808;
 
-const fn sizes(seats: u32, slots: u32, cells: u32, weak_cells: u32, batch: u32) -> Shape {
+const fn sizes(seats: u32, slots: u32, cells: u32, weak_cells: u32, batch: u32) -> Shape
+    ensures { result.slots ≡ slots }
+{
     Shape {
         seats,
         slots,
