@@ -24,7 +24,7 @@ use Rattle.core_law.proofs.Held.{held_named}
 use Rattle.core_law.proofs.Writes.{IsPlace, place_bound, places_at}
 use Rattle.core_law.proofs.Keeps.{open_there, dying_there}
 use Rattle.core_law.proofs.Steady.{Counted, named_in_range, in_finish, in_help, in_zero, in_blank, in_give}
-use Rattle.cdrc_core.specs.Fits.{IsFit, IsWordFor}
+use Rattle.core_seats.specs.Fits.{IsFit, IsWordFor}
 
 module _ (z : Shape) (c : Core) (n : ℕ) (so : Sound z c) (there : n < length c.views) where
   hn : n < z.seats

@@ -3,7 +3,7 @@ ghost use Rattle.std.specs.Prelude.{◌≡◌, ◌↔◌, ◌<◌, IsTrue, IfOk,
 ghost use Rattle.core_events.specs.declared.shape.ShapeField.{ShapeField};
 ghost use Rattle.core_events.specs.Counts.{strong, weak};
 ghost use Rattle.core_events.specs.Good.{Good};
-ghost use Rattle.core_events.specs.Runs.{AreQuotas, Enabled, IsShape, after, outcome_of, start};
+ghost use Rattle.core_events.specs.Runs.{AreQuotas, Enabled, IsShape, after, outcome_of, start, view_at};
 ghost use Rattle.cdrc_core.specs.Fields.{IsFirstBad};
 ghost use Rattle.cdrc_core.specs.declared.errors.StartError.TheVariants.{BadShape};
 ghost use Rattle.cdrc_core.specs.declared.errors.StepError.TheVariants.{NotEnabled, OutOfMemory};
@@ -12,6 +12,7 @@ use crate::errors::{StartError, StepError};
 use crate::fields::first_bad;
 use crate::table::Table;
 use core_events::{Event, Outcome, Quota, Shape, SlotId};
+use core_seats::SeatView;
 use std::alloc::Global;
 use std::marker::Model;
 
@@ -19,7 +20,7 @@ use std::marker::Model;
 /// shape and the state that `core_events` defines. The invariant of `core_law` holds of it.
 #[derive(Drop)]
 pub struct Core {
-    table: Table,
+    pub(crate) table: Table,
 }
 
 impl Model for Core {
@@ -93,6 +94,14 @@ impl Core {
         ensures { result ≡ weak self.now.shape self.now.core slot }
     {
         self.table.weak_word(slot)
+    }
+
+    /// What one seat knows.
+    pub fn seat(&self, seat: u32) -> &SeatView
+        requires { seat < self.now.shape.seats }
+        ensures { result.now ≡ view_at self.now.core seat }
+    {
+        self.table.seat(seat)
     }
 
     /// What holds of every core, whatever was done with it: the invariant of `core_events`. It does
