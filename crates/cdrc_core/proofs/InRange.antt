@@ -173,3 +173,6 @@ pub destroy_there : (z : Shape) (c : Core) (n : ℕ) (s : SlotId) → Sound z c 
     → May z (act.Destroy s) (view_at c n) → s.0 < z.slots
 destroy_there z c n s so hn may =
     let p = may.1 in named z c n so hn s (omega arith)
+
+-- what the event of a seat needs of the numbers
+pub ruleset in_range = (place_there, word_for, seat_fit)
