@@ -35,16 +35,19 @@ impl Model for Core {
 }
 
 impl Core {
-    /// A core in which nothing has happened, with a seat for each quota. `BadShape` names the first
-    /// field, in the order of `ShapeField`, that is out of its range: Seats 1 to 32, Slots 1 to
-    /// 4,194,304, Cells 0 to 65,536, WeakCells 0 to 4,194,304, Batch 1 to 1,024, and Quotas where
-    /// they are not one for each seat or one is above 2^40. Costs 8 bytes for each word: 21 for each
-    /// slot, one for each cell, four for each seat, and one.
+    /// A core in which nothing has happened, with a seat for each quota.
+    ///
+    /// `BadShape` names the first field, in the order of `ShapeField`, that is out of its range:
+    /// Seats 1 to 32, Slots 1 to 4,194,304, Cells 0 to 65,536, WeakCells 0 to 4,194,304, Batch 1 to
+    /// 1,024; Quotas are one for each seat, and no entry is above 2^40. It takes 8 bytes for each
+    /// word: 21 for each slot, one for each cell, four for each seat, and one more.
     #[tactic(auto, using(crate::proofs::Starting::start_sound))]
     pub fn start(alloc: Global, shape: Shape, quotas: &[Quota]) -> Result<Core, StartError>
-        ensures ok { IfOk result (λ c. c ≡ record { shape = shape; core = start shape quotas.now }) }
+        ensures ok { IfOk result
+            (λ c. c ≡ record { shape = shape; core = start shape quotas.now }) }
         ensures ranges { OnOk result (IsShape shape × AreQuotas shape quotas.now) }
-        ensures bad { (f : ShapeField) → (result ≡ Err (BadShape f)) ↔ IsFirstBad shape quotas.now f }
+        ensures bad { (f : ShapeField)
+            → (result ≡ Err (BadShape f)) ↔ IsFirstBad shape quotas.now f }
     {
         if let Some(field) = first_bad(&shape, quotas) {
             return Err(StartError::BadShape(field));
@@ -75,7 +78,8 @@ impl Core {
 
     /// Whether `step` would make the event, but for memory.
     pub fn is_enabled(&self, event: &Event) -> bool
-        ensures { IsTrue result ↔ Enabled self.now.shape self.now.core event.now.seat event.now.act }
+        ensures { IsTrue result
+            ↔ Enabled self.now.shape self.now.core event.now.seat event.now.act }
     {
         self.table.is_enabled(event)
     }

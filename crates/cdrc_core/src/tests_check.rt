@@ -44,7 +44,7 @@ fn word_at(core: &Core, at: usize) -> u64 {
     }
 }
 
-/// How many of `count` places from `first` on, each `step` words after the one before, hold the slot.
+/// How many of `count` places hold the slot: the first, and each `step` words after the last.
 fn holding(core: &Core, first: usize, count: u32, step: usize, slot: SlotId) -> u64 {
     let mut times: u64 = 0;
     let mut at = first;

@@ -129,7 +129,8 @@ impl Dice {
         }
     }
 
-    /// An act that a seat in this phase may perhaps make. One that is to end something mostly waits.
+    /// An act that a seat in this phase may perhaps make. One that is to end something mostly
+    /// waits.
     fn act(&mut self, view: &SeatView) -> Act {
         let phase = view.phase();
         if self.below(12) > 0 && !matches!(phase, Phase::Idle | Phase::Scan) {
