@@ -23,6 +23,8 @@ mod name;
 mod parse;
 mod place;
 mod refused;
+#[cfg(test)]
+mod tests;
 mod verb;
 
 pub use crate::command::{Command, ScriptLine, TextPlace};
