@@ -10,7 +10,7 @@ use Rattle.script_lines.specs.declared.command.Command.{Command}
 use Rattle.script_lines.specs.declared.command.ScriptLine.TheVariants.{Heap}
 use Rattle.script_lines.specs.Spelling.{Spells, SpellsCommand}
 use Rattle.script_desk.specs.declared.said.Said.{Said}
-use Rattle.script_desk.specs.Desks.{Desk}
+use Rattle.script_desk.specs.Desks.{Desk, maker_of, nobody}
 use Rattle.script_desk.specs.Faults.{IsInRange, HasNameFault, HasKindFault}
 use Rattle.script_desk.specs.Effects.{Runs}
 use Rattle.cdrc_scripts.specs.SaidLines.{said_line}
@@ -23,8 +23,8 @@ IsHeapInRange slots cells weak_cells =
 -- the desk of a heap with nothing in it: no name is bound, and nothing was made
 abbrev pub IsOpened : ℕ → ℕ → ℕ → Desk → Type 0
 IsOpened slots cells weak_cells d =
-    (d.plain ≡ empty 1 slots cells weak_cells) × ((name : List ℕ) → d.names name ≡ None)
-    × (d.makes ≡ 0) × ((s : SlotId) → d.makers s ≡ record { number = 0; name = [] })
+    (d.plain ≡ empty 1 slots cells weak_cells) × (d.names ≡ []) × (d.makes ≡ 0)
+    × ((s : SlotId) → maker_of d s ≡ nobody)
 
 -- the first line gives a heap its numbers and writes nothing; every later line is a command without a fault, which runs
 abbrev pub Takes : Option Desk → List (List ℕ) → List ℕ → Option Desk → Type 0
