@@ -10,9 +10,8 @@ ghost use Rattle.core_events.specs.Views.{note_of};
 ghost use Rattle.core_events.specs.Steps.{is_valid, validated, with_note, is_last, all_seen, scanned};
 
 use crate::holdings::Holdings;
-use crate::split::{Parts, split};
-use crate::words::{found_in, held_as};
 use core_events::{Kind, Note, Outcome, Phase, Shape, SlotId};
+use core_parts::{Parts, found_in, held_as, split};
 use out_of_memory::OutOfMemory;
 
 /// How many announcement words there are.

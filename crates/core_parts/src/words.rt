@@ -6,27 +6,27 @@ ghost use Rattle.core_events.specs.Words.{has_help, value, slot_in, code};
 use core_events::{Kind, SlotId};
 
 /// The zero flag of a strong word, and the weak word of a free slot.
-pub(crate) const ZERO_FLAG: u64 = 1 << 63;
+pub const ZERO_FLAG: u64 = 1 << 63;
 
 /// The help flag of a strong word.
 const HELP_FLAG: u64 = 1 << 62;
 
 /// Whether the help flag stands.
-pub(crate) fn helps(word: u64) -> bool
+pub fn helps(word: u64) -> bool
     ensures { result ≡ has_help word }
 {
     word % ZERO_FLAG >= HELP_FLAG
 }
 
 /// What a strong word counts.
-pub(crate) fn counted(word: u64) -> u64
+pub fn counted(word: u64) -> u64
     ensures { result ≡ value word }
 {
     if word < ZERO_FLAG { word } else { 0 }
 }
 
 /// The slot that the word of a place holds.
-pub(crate) fn found_in(word: u64) -> Option<SlotId>
+pub fn found_in(word: u64) -> Option<SlotId>
     requires { word < 2 ^ 32 }
     ensures { result ≡ slot_in word }
 {
@@ -38,7 +38,7 @@ pub(crate) fn found_in(word: u64) -> Option<SlotId>
 }
 
 /// The word of a place with this content.
-pub(crate) fn held_as(content: Option<SlotId>) -> u64
+pub fn held_as(content: Option<SlotId>) -> u64
     ensures { result ≡ word_of content }
 {
     match content {
@@ -48,7 +48,7 @@ pub(crate) fn held_as(content: Option<SlotId>) -> u64
 }
 
 /// The announcement word of a reference.
-pub(crate) fn announced_as(kind: Kind, slot: SlotId) -> u64
+pub fn announced_as(kind: Kind, slot: SlotId) -> u64
     ensures { result ≡ code kind slot }
 {
     match kind {

@@ -7,7 +7,7 @@ ghost use Rattle.core_events.specs.Views.{valid_of, without};
 use core_events::{Kind, Note, SlotId};
 
 /// Whether the slot stands in the list.
-pub(crate) fn has_slot(list: &[SlotId], slot: SlotId) -> bool
+pub fn has_slot(list: &[SlotId], slot: SlotId) -> bool
     ensures { IsTrue result ↔ (0 < times slot list.now) }
 {
     list.contains(&slot)
@@ -15,7 +15,7 @@ pub(crate) fn has_slot(list: &[SlotId], slot: SlotId) -> bool
 
 /// Takes the first entry of the slot out of the list, if it is there.
 #[tactic(auto, using(crate::proofs::Slots::without_at, crate::proofs::Slots::without_none))]
-pub(crate) fn take_first(list: &mut Vec<SlotId>, slot: SlotId)
+pub fn take_first(list: &mut Vec<SlotId>, slot: SlotId)
     ensures { list.new.items ≡ without slot list.old.items }
 {
     for i in 0..list.len() {
@@ -38,7 +38,7 @@ fn is_snapshot(note: &Note, kind: Kind, slot: SlotId) -> bool
 
 /// Whether a seat with these notes is under a snapshot of the slot, of this kind.
 #[tactic(auto, using(crate::proofs::Snapshots::snapshot_search))]
-pub(crate) fn has_snapshot(notes: &[Note], kind: Kind, slot: SlotId) -> bool
+pub fn has_snapshot(notes: &[Note], kind: Kind, slot: SlotId) -> bool
     ensures { IsTrue result ↔ (0 < entry_times kind slot (valid_of notes.now)) }
 {
     for note in notes {
@@ -51,7 +51,7 @@ pub(crate) fn has_snapshot(notes: &[Note], kind: Kind, slot: SlotId) -> bool
 
 /// Whether every note stands for nothing.
 #[tactic(auto, using(crate::proofs::Snapshots::all_idle))]
-pub(crate) fn are_idle(notes: &[Note]) -> bool
+pub fn are_idle(notes: &[Note]) -> bool
     ensures { IsTrue result ↔ ((j : ℕ) → slice_index_or notes.now j Idle ≡ Idle) }
 {
     for note in notes {

@@ -1,10 +1,10 @@
-use Rattle.std.proofs.Common.{◌≡◌, ◌∙◌, sym, ap, ℕ, ◌<◌, length, get_or, Vec, arith}
+use Rattle.std.proofs.Common.{◌∙◌, sym, ap, ◌<◌, length, Vec, arith}
 use Rattle.std.proofs.lemmas.List.{get_or_default}
 use Rattle.std.specs.declared.alloc.Global.{Global}
 use Rattle.plain_state.specs.declared.slot.SlotId.{SlotId}
 use Rattle.core_events.specs.Views.{without}
-use Rattle.core_seats.proofs.Slots.{past, without_at}
-use Rattle.core_seats.proofs.lists.take_first.Goals as goal
+use Rattle.core_parts.proofs.Slots.{past, without_at}
+use Rattle.core_parts.proofs.lists.take_first.Goals as goal
 
 pub returns-then-index-slot : goal.returns-then-index-slot
 returns-then-index-slot c =

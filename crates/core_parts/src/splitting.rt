@@ -3,7 +3,7 @@ ghost use Rattle.std.specs.Prelude.{◌≡◌, ◌+◌, ◌++◌, ◌∷◌, [],
 ghost use Rattle.std.specs.VecDeque.{deque_len};
 ghost use Rattle.std.specs.List.{filter};
 ghost use Rattle.core_events.specs.Ejection.{code_of, without_word, is_seen, kept, ejected};
-ghost use Rattle.core_seats.specs.Scans.{announces};
+ghost use Rattle.core_parts.specs.Scans.{announces};
 
 use crate::words::announced_as;
 use core_events::{Kind, SlotId};
@@ -13,9 +13,9 @@ use std::collections::VecDeque;
 
 /// The two parts of a list of retired entries.
 #[derive(Drop)]
-pub(crate) struct Parts {
-    pub(crate) kept: Vec<(Kind, SlotId)>,
-    pub(crate) ejected: VecDeque<(Kind, SlotId)>,
+pub struct Parts {
+    pub kept: Vec<(Kind, SlotId)>,
+    pub ejected: VecDeque<(Kind, SlotId)>,
 }
 
 /// Takes the first copy of the word, if there is one, and tells.
@@ -54,7 +54,7 @@ fn announcing(alloc: Global, seen: &[u64], last: u64) -> Result<Vec<u64>, OutOfM
 /// are words that announce it, the earlier ones. Each entry is compared with the words that
 /// announce something and aren't used up.
 #[tactic(auto, using(crate::proofs::Scans::kept_left, crate::proofs::Scans::ejected_left))]
-pub(crate) fn split(
+pub fn split(
     alloc: Global,
     retired: &[(Kind, SlotId)],
     seen: &[u64],

@@ -1,6 +1,6 @@
 use Rattle.std.proofs.Common.{◌≡◌, ◌≢◌, ℕ, ◌<◌, get_or}
-use Rattle.core_seats.proofs.Slots.{past}
-use Rattle.core_seats.proofs.lists.take_first.Given as goal
+use Rattle.core_parts.proofs.Slots.{past}
+use Rattle.core_parts.proofs.lists.take_first.Given as goal
 
 abbrev pub invariant-loop-i : goal.invariant-loop-i
 invariant-loop-i l =

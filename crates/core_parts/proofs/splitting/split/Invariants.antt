@@ -1,8 +1,8 @@
 use Rattle.std.proofs.Common.{◌≡◌, ◌+◌, ◌++◌, ◌∷◌, [], drop}
-use Rattle.std.specs.Prelude.{vec_len, length}
+use Rattle.std.specs.Prelude.{vec_len}
 use Rattle.std.specs.VecDeque.{deque_len}
 use Rattle.core_events.specs.Ejection.{kept, ejected}
-use Rattle.core_seats.proofs.split.split.Given as goal
+use Rattle.core_parts.proofs.splitting.split.Given as goal
 
 abbrev pub invariant-loop-entry : goal.invariant-loop-entry
 invariant-loop-entry l = record {
