@@ -16,10 +16,13 @@
 //! ```
 #![tactic(auto)]
 
+mod arguments;
 mod command;
 mod name;
 mod parse;
+mod place;
 mod refused;
+mod verb;
 
 pub use crate::command::{Command, ScriptLine, TextPlace};
 pub use crate::name::Name;

@@ -1,7 +1,7 @@
 //! The names that a script binds.
 
-ghost use Rattle.std.specs.Prelude.{◌≡◌, ℕ, List, IfOk, Err, string_bytes};
-ghost use Rattle.script_lines.specs.Names.{IsName};
+ghost use Rattle.std.specs.Prelude.{◌≡◌, ◌↔◌, ℕ, List, IsTrue, IfOk, Err, string_bytes};
+ghost use Rattle.script_lines.specs.Names.{is_name_byte as is_in_name, IsName};
 ghost use Rattle.script_lines.specs.declared.refused.LineRefused.TheVariants.{Syntax};
 
 use crate::refused::LineRefused;
@@ -29,7 +29,7 @@ impl Name {
         ensures ok { IfOk result (λ name. (word.now ≡ name) × IsName name) }
         ensures refused { result ≡ Err Syntax → IsName word.now → ⊥ }
     {
-        if word.len() > 32 || word == b"null" || word.is_empty() || !word.iter().all(|byte| is_name_byte(*byte)) {
+        if !is_name(word) {
             return Err(LineRefused::Syntax);
         }
         let Ok(text) = str::from_utf8(word) else {
@@ -49,6 +49,22 @@ impl Name {
     }
 }
 
-fn is_name_byte(byte: u8) -> bool {
+/// The most bytes of a name.
+const LONGEST: usize = 32;
+
+// The word is a name.
+fn is_name(word: &[u8]) -> bool
+    ensures { IsTrue result ↔ IsName word.now }
+{
+    !word.is_empty()
+        && word.len() <= LONGEST
+        && word.iter().all(|byte| is_name_byte(*byte))
+        && word != b"null".as_slice()
+}
+
+// The byte is an ASCII letter, a digit or `_`.
+fn is_name_byte(byte: u8) -> bool
+    ensures { result ≡ is_in_name byte }
+{
     byte.is_ascii_alphanumeric() || byte == b'_'
 }

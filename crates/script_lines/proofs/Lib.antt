@@ -1,0 +1,5 @@
+-- The lemmas that the contracts stand on.
+pub mod Bytes
+pub mod Forms
+pub mod Places
+pub mod Refusals
