@@ -1,7 +1,7 @@
 -- A refusal that `?` hands on.
-use Rattle.std.proofs.Common.{◌≡◌, Result, Err}
+use Rattle.std.proofs.Common.{◌≡◌, Result, Ok, Err, refl, sym, ap, ◌∙◌}
 use Rattle.std.proofs.lemmas.Result.{err_from_is_err_and}
-use Rattle.std.specs.Result.{IsErrAnd}
+use Rattle.std.specs.Result.{is_ok, IsErrAnd}
 use Rattle.script_lines.specs.declared.refused.LineRefused.{LineRefused}
 use Rattle.script_lines.specs.declared.refused.LineRefused.TheVariants.{Syntax}
 
@@ -14,3 +14,9 @@ same-refusal r e handed told =
     let same = p.2 in
     let is : e ≡ Syntax = cc in
     cc
+
+-- a refusal that `map` leaves as it is
+pub mapped-refusal : {T U : Type 0} (r : Result T LineRefused) (mapped : Result U LineRefused) → is_ok mapped ≡ is_ok r
+    → ((e : LineRefused) → r ≡ Err e → mapped ≡ Err e) → mapped ≡ Err Syntax → r ≡ Err Syntax
+mapped-refusal (Ok x) mapped same cases told = let wrong = sym same ∙ ap is_ok told in cc
+mapped-refusal (Err e) mapped same cases told = let e = cases e refl in cc
