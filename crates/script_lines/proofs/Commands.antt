@@ -121,7 +121,7 @@ no-verb word words none (Heap slots cells weak_cells) spells = none (verb_at (co
 no-verb word words none (OnHeap command) spells =
     none (verb_at (word_of command)) (first-word command word words spells ∙ spelling-word command)
 
-not-heap : (command : Command) → shape (verb_at (word_of command)) ≡ ThreeNumbers → ⊥
+pub not-heap : (command : Command) → shape (verb_at (word_of command)) ≡ ThreeNumbers → ⊥
 not-heap (Make n i) is = cc
 not-heap command is = cc
 

@@ -5,3 +5,4 @@ pub mod Forms
 pub mod Places
 pub mod Refusals
 pub mod Shapes
+pub mod Unique

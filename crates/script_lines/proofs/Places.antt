@@ -15,7 +15,7 @@ first-name [] rest is = absurd (omega (arith, is.some))
 first-name (byte ∷ bytes) rest is = is.bytes 0 0 (omega arith)
 
 -- a word that begins with a byte that is in no name begins with no name
-no-name_first : (byte : ℕ) (index name rest : List ℕ) → is_name_byte byte ≡ false → byte ∷ index ≡ name ++ rest → IsName name → ⊥
+pub no-name_first : (byte : ℕ) (index name rest : List ℕ) → is_name_byte byte ≡ false → byte ∷ index ≡ name ++ rest → IsName name → ⊥
 no-name_first byte index name rest odd same is =
     let first : byte ≡ get_or (name ++ rest) 0 0 = ap (λ word. get_or word 0 0) same in
     let wrong : true ≡ false = sym (first-name name rest is) ∙ ap is_name_byte (sym first) ∙ odd in

@@ -18,10 +18,13 @@
 
 mod arguments;
 mod command;
+pub mod laws;
 mod name;
 mod parse;
 mod place;
 mod refused;
+#[cfg(test)]
+mod tests;
 mod verb;
 
 pub use crate::command::{Command, ScriptLine, TextPlace};

@@ -23,7 +23,8 @@ module _ (word : List ℕ) where
   one-number n m first second = one-number_of word n m first second
 
   one-slot : (s t : SlotId) → Slot s word → Slot t word → s ≡ t
-  one-slot s t first second = let same : s.0 ≡ t.0 = one-number s.0 t.0 first second in cc
+  one-slot s t first second =
+      let made : ℕ → SlotId = λ n. record { 0 = n } in ap made (one-number s.0 t.0 first second)
 
   one-kind : (k l : Kind) → KindWord k word → KindWord l word → k ≡ l
   one-kind Strong Strong first second = refl
@@ -215,12 +216,16 @@ one-act : (words : List (List ℕ)) (a b : Act) → SpellsAct words a → Spells
 one-act [] a b first second = absurd (no-words a first)
 one-act (name ∷ words) a b first second = one-named name words a b first second
 
+event : ℕ → Act → Event
+event n a = record { seat = n; act = a }
+
 pub one-event : (words : List (List ℕ)) (e f : Event) → SpellsEvent words e → SpellsEvent words f → e ≡ f
 one-event [] e f first second = absurd first
 one-event (seat ∷ words) e f first second =
     let seat_is : e.seat ≡ f.seat = one-number seat e.seat f.seat first.0 second.0 in
     let act_is : e.act ≡ f.act = one-act words e.act f.act first.1 second.1 in
-    cc
+    let same : event e.seat e.act ≡ event f.seat f.act = cc in
+    made_of e f same
 
 pub one-shape : (words : List (List ℕ)) (y z : Shape) → SpellsShape words y → SpellsShape words z → y ≡ z
 one-shape [] y z first second = absurd first

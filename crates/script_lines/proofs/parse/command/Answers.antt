@@ -68,4 +68,3 @@ returns-in-Read-clause-syntax c told =
 pub returns-in-Counts-clause-syntax : goal.returns-in-Counts-clause-syntax
 returns-in-Counts-clause-syntax c told =
     no-one_name c.args.verb _ (ap shape c.in-Counts.is) (c.one_name-in-Counts.ensures.syntax (mapped-refusal _ _ c.map-in-Counts.ensures.variant (λ e is. rw is at c.map-in-Counts.ensures.cases) told))
-

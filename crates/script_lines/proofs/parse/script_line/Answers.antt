@@ -18,7 +18,7 @@ pub returns-in_err-slots-clause-syntax : goal.returns-in_err-slots-clause-syntax
 returns-in_err-slots-clause-syntax c told line spells =
     let verb = c.in-Some-find_verb.verb in
     let words : texts_of c.args.words.now ≡ spelling verb ∷ texts_of c.in-Some.arguments.now
-        = ap texts_of c.in-Some.ensures.cases.0
-        ∙ ap (λ word. word ∷ texts_of c.in-Some.arguments.now) c.in-Some-find_verb.ensures.some in
+    = ap texts_of c.in-Some.ensures.cases.0
+    ∙ ap (λ word. word ∷ texts_of c.in-Some.arguments.now) c.in-Some-find_verb.ensures.some in
     no-heap verb (texts_of c.in-Some.arguments.now) (ap shape c.in-Heap.is)
     (c.in_err-slots.ensures.syntax (same-refusal _ _ c.from_residual.ensures.1 told)) line (subst (Spells line) words spells)
