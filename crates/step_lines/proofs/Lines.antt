@@ -1,5 +1,5 @@
 -- The lines of an event and of a shape, from what their words spell.
-use Rattle.std.proofs.Common.{◌≡◌, ◌⊎◌, inl, inr, ℕ, List, [], ◌∷◌, length, refl, sym, ap, codes, Result, Err}
+use Rattle.std.proofs.Common.{◌≡◌, ℕ, List, ◌∷◌, length, codes, Result, Err}
 use Rattle.std.specs.Borrow.{Bor}
 use Rattle.std.specs.Result.{IsErrAnd}
 use Rattle.core_events.specs.declared.act.Act.{Act}

@@ -1,5 +1,5 @@
 -- Which act a name and the words after it spell.
-use Rattle.std.proofs.Common.{◌≡◌, ◌⊎◌, inl, inr, ℕ, false, List, [], ◌∷◌, length, refl, true≢false, sym, subst, ◌∙◌, codes, Option, Result, Err}
+use Rattle.std.proofs.Common.{◌≡◌, inl, inr, ℕ, false, List, [], ◌∷◌, length, refl, true≢false, sym, subst, ◌∙◌, codes, Option, Result, Err}
 use Rattle.std.specs.Cmp.Lexicographic.{bytes_decides}
 use Rattle.std.specs.Str.{bytes_eq}
 use Rattle.std.specs.Borrow.{Bor}
@@ -13,7 +13,7 @@ use Rattle.line_words.specs.Words.{texts_of}
 use Rattle.step_lines.specs.declared.refused.LineRefused.{LineRefused}
 use Rattle.step_lines.specs.Beyond.{IsBeyondAct, IsBeyondContent, IsBeyondPlace, IsBeyondSlot, IsTooLarge, IsTooLargeValue}
 use Rattle.step_lines.specs.Reading.{Reads}
-use Rattle.step_lines.specs.Spelling.{Content, Each, KindWord, Number, Place, Slot, SpellsAct}
+use Rattle.step_lines.specs.Spelling.{Each, Slot, SpellsAct}
 use Rattle.step_lines.specs.Texts.{event_name}
 use Rattle.step_lines.proofs.Readings.{Both, OneOf, reads_as, reads_made, reads_refused}
 use Rattle.step_lines.proofs.Words.{word_at, one_word, two_words, three_words, ContentAt, KindAt, NumberAt, PlaceAt, SlotAt}

@@ -1,5 +1,5 @@
 -- Words spell one event and one shape at most.
-use Rattle.std.proofs.Common.{◌≡◌, ℕ, ◌+◌, List, [], ◌∷◌, ◌++◌, Option, Some, None, length, codes, refl, sym, ap, subst, ◌∙◌, arith, append_assoc}
+use Rattle.std.proofs.Common.{◌≡◌, ℕ, ◌+◌, List, [], ◌∷◌, ◌++◌, Option, Some, None, codes, refl, sym, ap, subst, ◌∙◌, arith, append_assoc}
 use Rattle.plain_state.specs.declared.act.EventPlace.{EventPlace}
 use Rattle.plain_state.specs.declared.act.EventPlace.TheVariants.{Cell, Field, WeakCell, WeakField}
 use Rattle.plain_state.specs.declared.slot.Kind.{Kind}
@@ -11,7 +11,7 @@ use Rattle.core_events.specs.declared.act.Event.{Event}
 use Rattle.core_events.specs.declared.shape.Shape.{Shape}
 use Rattle.line_words.proofs.Decimal.{one-number_of}
 use Rattle.line_words.specs.Number.{IsNumber}
-use Rattle.step_lines.specs.Spelling.{Content, Each, KindWord, Number, Place, Slot, SpellsAct, SpellsEvent, SpellsShape, Word}
+use Rattle.step_lines.specs.Spelling.{Content, Each, KindWord, Number, Place, Slot, SpellsAct, SpellsEvent, SpellsShape}
 use Rattle.step_lines.specs.Texts.{event_name}
 use Rattle.step_lines.proofs.Places.{number_first, number_no_null, same-ends}
 use Rattle.step_lines.proofs.Rows.{named, other}
@@ -57,7 +57,7 @@ one-place word (Cell i) (WeakField t) first second = absurd second
 one-place word (Field s k) (Cell j) first second = absurd (no-field word second.0 first.0 s.0 k second.1 first.1 first.3)
 one-place word (Field s k) (Field t l) first second =
     let ends = same-ends first.0 second.0 58 (48 + k) 58 (48 + l)
-        (sym (field-ends word first.0 k first.3) ∙ field-ends word second.0 l second.3) in
+    (sym (field-ends word first.0 k first.3) ∙ field-ends word second.0 l second.3) in
     let slot : s ≡ t = one-slot second.0 s t (subst (λ w. Slot s w) ends.0 first.1) second.1 in
     let field : k ≡ l = omega (arith, ends.1) in
     cc
@@ -216,29 +216,31 @@ one-act : (words : List (List ℕ)) (a b : Act) → SpellsAct words a → Spells
 one-act [] a b first second = absurd (no-words a first)
 one-act (name ∷ words) a b first second = one-named name words a b first second
 
-event : ℕ → Act → Event
-event n a = record { seat = n; act = a }
+-- an event and a shape are their parts
+abbrev event_of : ℕ → Act → Event
+event_of n a = record { seat = n; act = a }
+
+abbrev shape_of : ℕ → ℕ → ℕ → ℕ → ℕ → Shape
+shape_of n s c w b = record { seats = n; slots = s; cells = c; weak_cells = w; batch = b }
 
 pub one-event : (words : List (List ℕ)) (e f : Event) → SpellsEvent words e → SpellsEvent words f → e ≡ f
 one-event [] e f first second = absurd first
 one-event (seat ∷ words) e f first second =
     let seat_is : e.seat ≡ f.seat = one-number seat e.seat f.seat first.0 second.0 in
     let act_is : e.act ≡ f.act = one-act words e.act f.act first.1 second.1 in
-    let same : event e.seat e.act ≡ event f.seat f.act = cc in
-    made_of e f same
+    ap (λ (n : ℕ). event_of n e.act) seat_is ∙ ap (λ (a : Act). event_of f.seat a) act_is
 
 pub one-shape : (words : List (List ℕ)) (y z : Shape) → SpellsShape words y → SpellsShape words z → y ≡ z
 one-shape [] y z first second = absurd first
 one-shape (name ∷ words) y z first second =
     let front = both-more (Number y.seats) (Number y.slots ∷ Number y.cells ∷ Number y.weak_cells ∷ Number y.batch ∷ [])
-        (Number z.seats) (Number z.slots ∷ Number z.cells ∷ Number z.weak_cells ∷ Number z.batch ∷ []) words first.1 second.1 in
+    (Number z.seats) (Number z.slots ∷ Number z.cells ∷ Number z.weak_cells ∷ Number z.batch ∷ []) words first.1 second.1 in
     let next = both-more (Number y.slots) (Number y.cells ∷ Number y.weak_cells ∷ Number y.batch ∷ [])
-        (Number z.slots) (Number z.cells ∷ Number z.weak_cells ∷ Number z.batch ∷ []) front.1.0 front.1.1.0 front.1.1.1 in
+    (Number z.slots) (Number z.cells ∷ Number z.weak_cells ∷ Number z.batch ∷ []) front.1.0 front.1.1.0 front.1.1.1 in
     let rest = both-three (Number y.cells) (Number y.weak_cells) (Number y.batch) (Number z.cells) (Number z.weak_cells) (Number z.batch)
-        next.1.0 next.1.1.0 next.1.1.1 in
-    let seats_is : y.seats ≡ z.seats = one-number front.0.0 y.seats z.seats front.0.1 front.0.2 in
-    let slots_is : y.slots ≡ z.slots = one-number next.0.0 y.slots z.slots next.0.1 next.0.2 in
-    let cells_is : y.cells ≡ z.cells = one-number rest.0.0 y.cells z.cells rest.0.1 rest.0.2 in
-    let weak_cells_is : y.weak_cells ≡ z.weak_cells = one-number rest.1.0.0 y.weak_cells z.weak_cells rest.1.0.1 rest.1.0.2 in
-    let batch_is : y.batch ≡ z.batch = one-number rest.1.1.0 y.batch z.batch rest.1.1.1 rest.1.1.2 in
-    cc
+    next.1.0 next.1.1.0 next.1.1.1 in
+    ap (λ (n : ℕ). shape_of n y.slots y.cells y.weak_cells y.batch) (one-number front.0.0 y.seats z.seats front.0.1 front.0.2)
+    ∙ ap (λ (n : ℕ). shape_of z.seats n y.cells y.weak_cells y.batch) (one-number next.0.0 y.slots z.slots next.0.1 next.0.2)
+    ∙ ap (λ (n : ℕ). shape_of z.seats z.slots n y.weak_cells y.batch) (one-number rest.0.0 y.cells z.cells rest.0.1 rest.0.2)
+    ∙ ap (λ (n : ℕ). shape_of z.seats z.slots z.cells n y.batch) (one-number rest.1.0.0 y.weak_cells z.weak_cells rest.1.0.1 rest.1.0.2)
+    ∙ ap (λ (n : ℕ). shape_of z.seats z.slots z.cells z.weak_cells n) (one-number rest.1.1.0 y.batch z.batch rest.1.1.1 rest.1.1.2)

@@ -8,12 +8,10 @@ ghost use Rattle.step_lines.specs.Spelling.{SpellsEvent, SpellsShape};
 pub fn event_is_one()
     ensures { (words : List (List ℕ)) (e f : AnyEvent) →
         SpellsEvent words e → SpellsEvent words f → e ≡ f }
-{
-}
+{}
 
 /// Words spell one shape at most.
 pub fn shape_is_one()
     ensures { (words : List (List ℕ)) (y z : AnyShape) →
         SpellsShape words y → SpellsShape words z → y ≡ z }
-{
-}
+{}

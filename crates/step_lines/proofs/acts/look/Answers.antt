@@ -1,7 +1,5 @@
 use Rattle.std.proofs.Common.{arith}
-use Rattle.step_lines.specs.Beyond.{IsBeyondPlace}
 use Rattle.step_lines.proofs.Rows.{look_refused}
-use Rattle.step_lines.proofs.Words.{PlaceAt}
 use Rattle.step_lines.proofs.acts.look.Goals as goal
 
 pub returns-in_err-parse_place : goal.returns-in_err-parse_place

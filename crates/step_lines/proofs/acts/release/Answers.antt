@@ -1,7 +1,5 @@
 use Rattle.std.proofs.Common.{arith}
-use Rattle.step_lines.specs.Beyond.{IsTooLarge}
 use Rattle.step_lines.proofs.Rows.{release_refused}
-use Rattle.step_lines.proofs.Words.{NumberAt}
 use Rattle.step_lines.proofs.acts.release.Goals as goal
 
 pub returns-in_err-parse_number : goal.returns-in_err-parse_number

@@ -1,4 +1,4 @@
-use Rattle.std.proofs.Common.{rules, codes}
+use Rattle.std.proofs.Common.{codes}
 use Rattle.std.specs.Cmp.Lexicographic.{bytes_decides}
 use Rattle.step_lines.proofs.Places.{content_reads}
 use Rattle.step_lines.proofs.arguments.parse_content.Goals as goal
