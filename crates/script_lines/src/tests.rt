@@ -2,7 +2,7 @@
 
 use crate::{Command, LineRefused, Name, ScriptLine, TextPlace, script_line};
 use line_words::words;
-use std::alloc::Global;
+use std::alloc::{AllocError, Global};
 use std::test::Fail;
 
 fn parsed(alloc: Global, line: &[u8]) -> Result<ScriptLine, LineRefused> {
@@ -24,6 +24,13 @@ fn name(alloc: Global, word: &[u8]) -> Result<Name, LineRefused> {
 // Two names, spelled as they are.
 fn names(alloc: Global, first: &[u8], second: &[u8]) -> Result<(Name, Name), LineRefused> {
     Ok((name(alloc, first)?, name(alloc, second)?))
+}
+
+// The front, and so many of the byte behind it.
+fn long_line(alloc: Global, front: &[u8], byte: u8, count: usize) -> Result<Vec<u8>, AllocError> {
+    let mut line = Vec::from_slice(alloc, front)?;
+    line.extend_from_slice(&vec![in alloc; byte; count]?)?;
+    Ok(line)
 }
 
 #[test]
@@ -89,6 +96,51 @@ fn commands_on_two_names(rt: HostRuntime) {
 }
 
 #[test]
+fn places(rt: HostRuntime) {
+    let alloc = rt.alloc();
+    assert!(rt; spells(alloc, b"clear @+07", Ok(Command::Clear(TextPlace::Cell(7)))));
+    assert!(rt;
+        spells(
+            alloc,
+            b"clear ~0",
+            Ok(Command::Clear(TextPlace::WeakCell(0)))
+        )
+    );
+    let table: [(&[u8], fn(Name) -> TextPlace); 3] = [
+        (b"clear a:0", |n| TextPlace::Field(n, 0)),
+        (b"clear a:1", |n| TextPlace::Field(n, 1)),
+        (b"clear a:w", TextPlace::WeakField),
+    ];
+    for (row, (line, place)) in table.iter().enumerate() {
+        let expected = name(alloc, b"a").map(|n| Command::Clear(place(n)));
+        assert!(rt; spells(alloc, line, expected), "at {row}");
+    }
+}
+
+#[test]
+fn commands_on_a_place_and_a_name(rt: HostRuntime) {
+    let alloc = rt.alloc();
+    let table: [(&[u8], fn(TextPlace, Name) -> Command); 3] = [
+        (b"put @3 a", Command::Put),
+        (b"load @3 a", Command::Load),
+        (b"snap @3 a", Command::Snap),
+    ];
+    for (row, (line, command)) in table.iter().enumerate() {
+        let expected = name(alloc, b"a").map(|n| command(TextPlace::Cell(3), n));
+        assert!(rt; spells(alloc, line, expected), "at {row}");
+    }
+}
+
+#[test]
+fn replacing_takes_names_or_null(rt: HostRuntime) {
+    let alloc = rt.alloc();
+    let old = name(alloc, b"a").map(|n| Command::Replace(TextPlace::Cell(0), Some(n), None));
+    assert!(rt; spells(alloc, b"cas @0 a null", old));
+    let new = name(alloc, b"a").map(|n| Command::Replace(TextPlace::Cell(0), None, Some(n)));
+    assert!(rt; spells(alloc, b"cas @0 null a", new));
+}
+
+#[test]
 fn words_that_spell_no_line(rt: HostRuntime) {
     let alloc = rt.alloc();
     let table: [&[u8]; 34] = [
@@ -133,30 +185,36 @@ fn words_that_spell_no_line(rt: HostRuntime) {
 }
 
 #[test]
-fn long_words(rt: HostRuntime) -> Result<(), Fail> {
+fn names_have_32_bytes_at_most(rt: HostRuntime) -> Result<(), Fail> {
     let alloc = rt.alloc();
-    let mut line = Vec::from_slice(alloc, b"drop ")?;
-    line.extend_from_slice(b"abcdefghijklmnopqrstuvwxyz_01234")?;
+    let most = long_line(alloc, b"drop ", b'x', 32)?;
     assert!(rt;
         matches!(
-            parsed(alloc, &line),
+            parsed(alloc, &most),
             Ok(ScriptLine::Command(Command::Drop(_)))
         )
     );
-    line.push(b'5')?;
-    assert!(rt; parsed(alloc, &line) == Err(LineRefused::Syntax));
+    let more = long_line(alloc, b"drop ", b'x', 33)?;
+    assert!(rt; parsed(alloc, &more) == Err(LineRefused::Syntax));
+    Ok(())
+}
 
-    let long = vec![in alloc; b'x'; 1_048_576]?;
-    assert!(rt; parsed(alloc, &long) == Err(LineRefused::Syntax));
-    line.extend_from_slice(&long)?;
-    assert!(rt; parsed(alloc, &line) == Err(LineRefused::Syntax));
+#[test]
+fn words_of_a_mebibyte(rt: HostRuntime) -> Result<(), Fail> {
+    let alloc = rt.alloc();
+    let word = long_line(alloc, b"", b'x', 1_048_576)?;
+    assert!(rt; parsed(alloc, &word) == Err(LineRefused::Syntax));
+    let named = long_line(alloc, b"drop ", b'x', 1_048_576)?;
+    assert!(rt; parsed(alloc, &named) == Err(LineRefused::Syntax));
+    Ok(())
+}
 
-    let mut cell = Vec::from_slice(alloc, b"clear @")?;
-    cell.extend_from_slice(&vec![in alloc; b'0'; 5000]?)?;
-    cell.push(b'7')?;
-    assert!(rt;
-        parsed(alloc, &cell) == Ok(ScriptLine::Command(Command::Clear(TextPlace::Cell(7))))
-    );
+#[test]
+fn numbers_of_5000_zeros(rt: HostRuntime) -> Result<(), Fail> {
+    let alloc = rt.alloc();
+    let mut line = long_line(alloc, b"clear @", b'0', 5000)?;
+    line.push(b'7')?;
+    assert!(rt; spells(alloc, &line, Ok(Command::Clear(TextPlace::Cell(7)))));
     Ok(())
 }
 
