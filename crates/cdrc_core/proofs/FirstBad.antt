@@ -82,5 +82,5 @@ pub passed_bad : (z : Shape) (qs : List Quota) (e : StartError) {T U : Type 0}
 passed_bad z qs e r s here there told f = (
   λ h. let same : e ≡ BadShape f = cc (h, here) in (told f).0 (there ∙ ap Err same),
   λ bad. let h = (told f).1 bad in let same : e ≡ BadShape f = cc (h, there) in
-  here ∙ ap (λ x. Err (Start x)) same,
+      here ∙ ap (λ x. Err (Start x)) same,
 )

@@ -1,5 +1,5 @@
 -- The word that an event is on is there, and a place holds null or a slot that is there.
-use Rattle.std.proofs.Common.{◌≡◌, ◌∙◌, ◌⊎◌, ⊎_elim, ℕ, ◌+◌, ◌-◌, ◌*◌, ◌<◌, ◌≤◌, List, [], ◌∷◌, length, refl, ap, sym, subst, arith}
+use Rattle.std.proofs.Common.{◌≡◌, ◌∙◌, ◌⊎◌, ⊎_elim, ℕ, ◌-◌, ◌<◌, ◌≤◌, List, [], ◌∷◌, length, refl, ap, sym, subst, arith}
 use Rattle.std.specs.Prelude.{slice_index, Option}
 use Rattle.std.proofs.lemmas.Bool.{cases_lt}
 use Rattle.plain_state.specs.declared.act.EventPlace.{EventPlace}
@@ -13,18 +13,18 @@ use Rattle.core_events.specs.declared.act.Act.TheVariants as act
 use Rattle.core_events.specs.declared.shape.Shape.{Shape}
 use Rattle.core_events.specs.declared.view.CoreView.{CoreView}
 use Rattle.core_events.specs.declared.view.Phase.TheVariants as phase
-use Rattle.core_events.specs.Words.{note_at, payload_at, place_at, slot_at, word_count}
-use Rattle.core_events.specs.Views.{Holds, IsOpen, no_view, slot_of}
+use Rattle.core_events.specs.Words.{note_at, payload_at, place_at, word_count}
+use Rattle.core_events.specs.Views.{Holds, no_view, slot_of}
 use Rattle.core_events.specs.Steps.{May, place, owed_at, counter_at}
 use Rattle.core_events.specs.Runs.{Core, view_at}
-use Rattle.core_events.specs.Counts.{naming, in_phase, listed, places}
+use Rattle.core_events.specs.Counts.{naming, in_phase}
 use Rattle.core_law.specs.Sound.{Sound}
-use Rattle.core_law.proofs.Kit.{one_same, in_word_same, entry_cons, kind_one}
+use Rattle.core_law.proofs.Kit.{one_same, in_word_same, entry_cons}
 use Rattle.core_law.proofs.Held.{held_named}
 use Rattle.core_law.proofs.Writes.{IsPlace, place_bound, places_at}
 use Rattle.core_law.proofs.Keeps.{open_there, dying_there}
-use Rattle.core_law.proofs.Steady.{Counted, named_in_range, in_finish, in_help, in_zero, in_blank, in_give}
-use Rattle.cdrc_core.specs.Fits.{IsFit, IsWordFor}
+use Rattle.core_law.proofs.Steady.{named_in_range, in_finish, in_help, in_zero, in_blank, in_give}
+use Rattle.core_seats.specs.Fits.{IsFit, IsWordFor}
 
 module _ (z : Shape) (c : Core) (n : ℕ) (so : Sound z c) (there : n < length c.views) where
   hn : n < z.seats
@@ -173,3 +173,6 @@ pub destroy_there : (z : Shape) (c : Core) (n : ℕ) (s : SlotId) → Sound z c 
     → May z (act.Destroy s) (view_at c n) → s.0 < z.slots
 destroy_there z c n s so hn may =
     let p = may.1 in named z c n so hn s (omega arith)
+
+-- what the event of a seat needs of the numbers
+pub ruleset in_range = (place_there, word_for, seat_fit)

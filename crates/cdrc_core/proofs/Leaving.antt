@@ -1,5 +1,5 @@
 -- A seat that leaves: the seats are cut before it, and the first one has room for all that it takes.
-use Rattle.std.proofs.Common.{◌≡◌, ◌≢◌, ◌∙◌, ℕ, ◌+◌, ◌-◌, ◌*◌, ◌^◌, ◌<◌, ◌≤◌, Bool, List, ◌++◌, length, get_or, set, length-append, length-set, refl, ap, sym, subst, Result, Ok, Err, arith}
+use Rattle.std.proofs.Common.{◌≡◌, ◌≢◌, ◌∙◌, ℕ, ◌+◌, ◌-◌, ◌^◌, ◌<◌, ◌≤◌, Bool, List, ◌++◌, length, get_or, set, length-append, length-set, refl, ap, sym, subst, Result, Ok, Err, arith}
 use Rattle.std.specs.Prelude.{if◌then◌else◌, OnOk}
 use Rattle.std.proofs.lemmas.List.{get_or_append_left, get_or-append_right, get_or_default, set-append_left, set-append_right, set-get_or}
 use Rattle.std.proofs.Math.Nat.{mul-le-mul_left}

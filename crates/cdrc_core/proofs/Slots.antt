@@ -1,5 +1,5 @@
 -- The words of free slots.
-use Rattle.std.proofs.Common.{◌≡◌, ◌∙◌, List, ℕ, zero, suc, ◌+◌, ◌++◌, refl, ap, sym, append_assoc, add-one, arith}
+use Rattle.std.proofs.Common.{◌≡◌, ◌∙◌, List, ℕ, zero, suc, ◌+◌, ◌++◌, refl, ap, sym, append_assoc, add-one}
 use Rattle.core_events.specs.Words.{all_free, free_words}
 
 more : (n : ℕ) → all_free (suc n) ≡ all_free n ++ free_words

@@ -1,5 +1,5 @@
 -- Which field of a shape and its quotas is out of its range.
-use Rattle.std.specs.Prelude.{ℕ, ◌^◌, ◌≤◌, List, [], ◌∷◌, All}
+use Rattle.std.specs.Prelude.{◌≤◌, List, [], ◌∷◌, All}
 use Rattle.core_events.specs.declared.shape.Shape.{Shape}
 use Rattle.core_events.specs.declared.shape.Quota.{Quota}
 use Rattle.core_events.specs.declared.shape.ShapeField.{ShapeField}

@@ -1,4 +1,3 @@
-pub mod Fits
 pub mod Fields
 pub mod Replays
 pub mod State

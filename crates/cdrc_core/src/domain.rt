@@ -3,7 +3,7 @@ ghost use Rattle.std.specs.Prelude.{◌≡◌, ◌↔◌, ◌<◌, IsTrue, IfOk,
 ghost use Rattle.core_events.specs.declared.shape.ShapeField.{ShapeField};
 ghost use Rattle.core_events.specs.Counts.{strong, weak};
 ghost use Rattle.core_events.specs.Good.{Good};
-ghost use Rattle.core_events.specs.Runs.{AreQuotas, Enabled, IsShape, after, outcome_of, start};
+ghost use Rattle.core_events.specs.Runs.{AreQuotas, Enabled, IsShape, after, outcome_of, start, view_at};
 ghost use Rattle.cdrc_core.specs.Fields.{IsFirstBad};
 ghost use Rattle.cdrc_core.specs.declared.errors.StartError.TheVariants.{BadShape};
 ghost use Rattle.cdrc_core.specs.declared.errors.StepError.TheVariants.{NotEnabled, OutOfMemory};
@@ -12,6 +12,7 @@ use crate::errors::{StartError, StepError};
 use crate::fields::first_bad;
 use crate::table::Table;
 use core_events::{Event, Outcome, Quota, Shape, SlotId};
+use core_seats::SeatView;
 use std::alloc::Global;
 use std::marker::Model;
 
@@ -19,7 +20,7 @@ use std::marker::Model;
 /// shape and the state that `core_events` defines. The invariant of `core_law` holds of it.
 #[derive(Drop)]
 pub struct Core {
-    table: Table,
+    pub(crate) table: Table,
 }
 
 impl Model for Core {
@@ -34,16 +35,19 @@ impl Model for Core {
 }
 
 impl Core {
-    /// A core in which nothing has happened, with a seat for each quota. `BadShape` names the first
-    /// field, in the order of `ShapeField`, that is out of its range: Seats 1 to 32, Slots 1 to
-    /// 4,194,304, Cells 0 to 65,536, WeakCells 0 to 4,194,304, Batch 1 to 1,024, and Quotas where
-    /// they are not one for each seat or one is above 2^40. Costs 8 bytes for each word: 21 for each
-    /// slot, one for each cell, four for each seat, and one.
+    /// A core in which nothing has happened, with a seat for each quota.
+    ///
+    /// `BadShape` names the first field, in the order of `ShapeField`, that is out of its range:
+    /// Seats 1 to 32, Slots 1 to 4,194,304, Cells 0 to 65,536, WeakCells 0 to 4,194,304, Batch 1 to
+    /// 1,024; Quotas are one for each seat, and no entry is above 2^40. It takes 8 bytes for each
+    /// word: 21 for each slot, one for each cell, four for each seat, and one more.
     #[tactic(auto, using(crate::proofs::Starting::start_sound))]
     pub fn start(alloc: Global, shape: Shape, quotas: &[Quota]) -> Result<Core, StartError>
-        ensures ok { IfOk result (λ c. c ≡ record { shape = shape; core = start shape quotas.now }) }
+        ensures ok { IfOk result
+            (λ c. c ≡ record { shape = shape; core = start shape quotas.now }) }
         ensures ranges { OnOk result (IsShape shape × AreQuotas shape quotas.now) }
-        ensures bad { (f : ShapeField) → (result ≡ Err (BadShape f)) ↔ IsFirstBad shape quotas.now f }
+        ensures bad { (f : ShapeField)
+            → (result ≡ Err (BadShape f)) ↔ IsFirstBad shape quotas.now f }
     {
         if let Some(field) = first_bad(&shape, quotas) {
             return Err(StartError::BadShape(field));
@@ -74,7 +78,8 @@ impl Core {
 
     /// Whether `step` would make the event, but for memory.
     pub fn is_enabled(&self, event: &Event) -> bool
-        ensures { IsTrue result ↔ Enabled self.now.shape self.now.core event.now.seat event.now.act }
+        ensures { IsTrue result
+            ↔ Enabled self.now.shape self.now.core event.now.seat event.now.act }
     {
         self.table.is_enabled(event)
     }
@@ -93,6 +98,14 @@ impl Core {
         ensures { result ≡ weak self.now.shape self.now.core slot }
     {
         self.table.weak_word(slot)
+    }
+
+    /// What one seat knows.
+    pub fn seat(&self, seat: u32) -> &SeatView
+        requires { seat < self.now.shape.seats }
+        ensures { result.now ≡ view_at self.now.core seat }
+    {
+        self.table.seat(seat)
     }
 
     /// What holds of every core, whatever was done with it: the invariant of `core_events`. It does

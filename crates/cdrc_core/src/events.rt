@@ -31,7 +31,8 @@ impl Table {
     /// Whether the event is enabled.
     pub fn is_enabled(&self, event: &Event) -> bool
         requires { Sound self.now.shape self.now.core }
-        ensures { IsTrue result ↔ Enabled self.now.shape self.now.core event.now.seat event.now.act }
+        ensures { IsTrue result
+            ↔ Enabled self.now.shape self.now.core event.now.seat event.now.act }
     {
         let seat = event.seat as usize;
         seat < self.seats.len()
@@ -39,9 +40,9 @@ impl Table {
             && self.rest_may(event)
     }
 
-    /// Makes an event that is no leave: it changes one word and one seat. After an error nothing has
-    /// changed.
-    #[tactic(auto, using(crate::proofs::InRange::place_there, crate::proofs::InRange::word_for, crate::proofs::InRange::seat_fit, crate::proofs::Stays::stays_views))]
+    /// Makes an event that is no leave: it changes one word and one seat. After an error nothing
+    /// has changed.
+    #[tactic(auto, using(crate::proofs::InRange::in_range, crate::proofs::Stays::stays_views))]
     fn make(&mut self, event: &Event) -> Result<Outcome, NoMemory>
         requires sound { Sound self.old.shape self.old.core }
         requires enabled { Enabled self.old.shape self.old.core event.now.seat event.now.act }

@@ -6,19 +6,22 @@ ghost use Rattle.cdrc_core.specs.Fields.{IsFirstBad};
 use core_events::{Quota, Shape, ShapeField};
 
 const MOST_SEATS: u32 = 32;
+
 const MOST_SLOTS: u32 = 4_194_304;
+
 const MOST_CELLS: u32 = 65_536;
+
 const MOST_WEAK_CELLS: u32 = 4_194_304;
+
 const MOST_BATCH: u32 = 1_024;
+
 const MOST_USES: u64 = 1 << 40;
 
 fn are_quotas(shape: &Shape, quotas: &[Quota]) -> bool
     ensures { IsTrue result ↔ AreQuotas shape.now quotas.now }
 {
     quotas.len() == shape.seats as usize
-        && quotas
-            .iter()
-            .all(|quota| quota.makes <= MOST_USES && quota.adds <= MOST_USES)
+        && quotas.iter().all(|quota| quota.makes <= MOST_USES && quota.adds <= MOST_USES)
 }
 
 /// The first field, in the order of `ShapeField`, that is out of its range.

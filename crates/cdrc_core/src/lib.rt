@@ -1,4 +1,21 @@
-//! The core of a domain, run by one event at a time.
+//! The core of a domain of counted objects, run by one event at a time.
+//!
+//! `Core` holds all words of a domain and what each seat knows, and makes the events of the table
+//! that `core_events` defines: the whole table, a seat's leave and an object's destruction among
+//! them. It keeps this rule: the state is the one that the definitions give, after every event, and
+//! an event that isn't enabled is refused and changes nothing. So the invariant that `core_law`
+//! proves of all lists of events holds of every core.
+//!
+//! It is for one thread: what many threads do at once is here one list of events, in the order of
+//! their atomic steps. Nothing is promised about which events come, or that any is enabled.
+//!
+//! ```text
+//! let mut core = Core::start(alloc, shape, &quotas)?;
+//! core.step(&Event { seat: 0, act: Act::Claim(SlotId(3)) })?;    // Outcome::Claimed
+//! core.step(&Event { seat: 0, act: Act::Start })?;               // slot 3 is live
+//! core.strong_word(SlotId(3));                                   // 1
+//! let (core, outcomes) = Core::replay(alloc, shape, &quotas, &events)?;
+//! ```
 #![tactic(auto)]
 
 mod domain;
@@ -8,13 +25,19 @@ mod fields;
 mod laws;
 mod replays;
 mod seats;
-mod stub;
 mod table;
+#[cfg(test)]
+mod tests;
+#[cfg(test)]
+mod tests_check;
+#[cfg(test)]
+mod tests_walk;
 mod words;
 
 pub use core_events::{
     Act, Event, EventPlace, Kind, Note, Outcome, Phase, Quota, Shape, ShapeField, SlotId,
 };
+pub use core_seats::SeatView;
 pub use domain::Core;
 pub use errors::{ReplayError, StartError, StepError};
 pub use laws::one_first_bad;

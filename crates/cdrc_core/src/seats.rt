@@ -4,7 +4,7 @@ ghost use Rattle.core_events.specs.Views.{first_views};
 ghost use Rattle.core_events.specs.Runs.{AreQuotas, IsShape};
 
 use core_events::{Quota, Shape};
-use crate::stub::SeatView;
+use core_seats::SeatView;
 use out_of_memory::OutOfMemory;
 use std::alloc::Global;
 

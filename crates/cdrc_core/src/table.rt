@@ -1,14 +1,14 @@
 //! All words and all seats, and one event of them.
 ghost use Rattle.std.specs.Prelude.{◌≡◌, ◌↔◌, ◌<◌, IsTrue, IfOk};
 ghost use Rattle.core_events.specs.Counts.{strong, weak};
-ghost use Rattle.core_events.specs.Runs.{AreQuotas, HasNullFields, IsShape, start};
+ghost use Rattle.core_events.specs.Runs.{AreQuotas, HasNullFields, IsShape, start, view_at};
 ghost use Rattle.core_law.specs.Sound.{Sound};
 ghost use Rattle.cdrc_core.specs.State.{State};
 
 use crate::seats::first_seats;
 use crate::words::{first_words, slot_index};
 use core_events::{Quota, Shape, SlotId};
-use crate::stub::SeatView;
+use core_seats::SeatView;
 use out_of_memory::OutOfMemory;
 use std::alloc::Global;
 use std::marker::Model;
@@ -68,6 +68,15 @@ impl Table {
         ensures { result ≡ weak self.now.shape self.now.core slot }
     {
         self.words[slot_index(&self.shape, slot) + 1]
+    }
+
+    /// What one seat knows.
+    pub fn seat(&self, seat: u32) -> &SeatView
+        requires there { seat < self.now.shape.seats }
+        requires sound { Sound self.now.shape self.now.core }
+        ensures { result.now ≡ view_at self.now.core seat }
+    {
+        &self.seats[seat as usize]
     }
 
     /// Whether the three fields of a slot are null.

@@ -26,8 +26,7 @@ pub fn first_words(alloc: Global, shape: &Shape) -> Result<Vec<u64>, OutOfMemory
     requires { IsShape shape.now }
     ensures { IfOk result (λ words. words.items ≡ first_words shape.now) }
 {
-    let front =
-        1 + 4 * shape.seats as usize + shape.cells as usize + shape.weak_cells as usize;
+    let front = 1 + 4 * shape.seats as usize + shape.cells as usize + shape.weak_cells as usize;
     let slots = shape.slots as usize;
     let mut words = Vec::with_capacity(alloc, front + 21 * slots)?;
     words.resize(front, 0)?;

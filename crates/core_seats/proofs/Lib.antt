@@ -1,0 +1,4 @@
+pub mod Slots
+pub mod Snapshots
+pub mod Scans
+pub mod Trails

@@ -1,5 +1,6 @@
 //! Announcements: written, found valid, taken back, read by a scan.
-ghost use Rattle.std.specs.Prelude.{◌≡◌, ◌<◌, ◌+◌, ◌^◌, ◌≤◌, ◌==◌, ◌++◌, ◌∷◌, [], IfOk, OnOk, OnErr, length, if◌then◌else◌};
+ghost use Rattle.std.specs.Prelude.{◌≡◌, ◌<◌, ◌+◌, ◌^◌, ◌≤◌, ◌==◌, ◌++◌, ◌∷◌, [], IfOk, OnOk, OnErr, length, vec_len, if◌then◌else◌};
+ghost use Rattle.std.specs.VecDeque.{deque_len};
 ghost use Rattle.core_events.specs.declared.outcome.Outcome.TheVariants as outcome;
 ghost use Rattle.core_events.specs.declared.view.Note.TheVariants as note;
 ghost use Rattle.core_events.specs.declared.view.Phase.TheVariants as phase;
@@ -10,7 +11,7 @@ ghost use Rattle.core_events.specs.Steps.{is_valid, validated, with_note, is_las
 
 use crate::holdings::Holdings;
 use crate::split::{Parts, split};
-use crate::words::found_in;
+use crate::words::{found_in, held_as};
 use core_events::{Kind, Note, Outcome, Phase, Shape, SlotId};
 use out_of_memory::OutOfMemory;
 
@@ -59,7 +60,7 @@ impl Holdings {
             then with_note at (validated (note_of self.old at)) self.old else self.old) }
     {
         if let Note::Announced(kind, slot) = self.notes[at as usize] {
-            if word == u64::from(slot.0) + 1 {
+            if word == held_as(Some(slot)) {
                 self.set_note(at, Note::Valid(kind, slot));
                 return Outcome::Valid;
             }
@@ -87,8 +88,10 @@ impl Holdings {
 
     /// The parts of the retired entries, by the words seen and this last one.
     fn parts(&self, word: u64) -> Result<Parts, OutOfMemory>
+        requires { length self.now.retired ≤ self.now.room }
         ensures kept { IfOk result (λ p. p.kept.items ≡ kept self.now.retired (all_seen word self.now)) }
         ensures ejected { IfOk result (λ p. p.ejected.items ≡ ejected self.now.retired (all_seen word self.now)) }
+        ensures few { IfOk result (λ p. vec_len p.kept + deque_len p.ejected < 2 ^ 32) }
     {
         split(self.alloc, &self.retired, &self.seen, word)
     }
@@ -110,7 +113,7 @@ impl Holdings {
 
     /// Reads the next announcement word. The last one splits the retired entries.
     pub(crate) fn scan(&mut self, shape: &Shape, word: u64) -> Result<Outcome, OutOfMemory>
-        requires { length self.old.retired < 2 ^ 32 }
+        requires { length self.old.retired ≤ self.old.room }
         ensures told { IfOk result (λ o. o ≡ (if is_last shape.now self.old
             then outcome.Split word (length (kept self.old.retired (all_seen word self.old)))
             (length (ejected self.old.retired (all_seen word self.old)))

@@ -24,6 +24,8 @@ impl Holdings {
         ensures ok { IfOk result (λ _. self.new ≡ changed shape.now act.now word self.old) }
         ensures err { OnErr result (self.new ≡ self.old) }
     {
+        // so that the number of a slot that a place holds fits its type
+        let _slots = shape.slots;
         match *act {
             Act::Add(slot) => self.add(slot, word),
             Act::Drop(slot) => Ok(self.drop_strong(slot, word)),

@@ -9,7 +9,7 @@ ghost use Rattle.core_events.specs.Views.{note_of, Holds, HoldsStrongly, IsOpen,
 ghost use Rattle.core_events.specs.Steps.{IsIdle, HasAdd, HasRoom, CanGive, IsContent, CanLeave, May};
 
 use crate::holdings::Holdings;
-use crate::lists::{has_slot, has_snapshot};
+use crate::lists::{are_idle, has_slot, has_snapshot};
 use crate::places::kind_of;
 use core_events::{EventPlace, Kind, Note, Phase, Shape, SlotId};
 
@@ -67,10 +67,17 @@ impl Holdings {
         has_slot(&self.dying, slot)
     }
 
-    pub(crate) fn owes(&self) -> bool
-        ensures { IsTrue result ↔ (self.now.owed ≢ []) }
+    pub(crate) fn owes_nothing(&self) -> bool
+        ensures { IsTrue result ↔ (self.now.owed ≡ []) }
     {
-        !self.owed.is_empty()
+        self.owed.is_empty()
+    }
+
+    /// Whether the seat is in the middle of nothing, and owes nothing.
+    fn is_settled(&self) -> bool
+        ensures { IsTrue result ↔ (IsIdle self.now × (self.now.owed ≡ [])) }
+    {
+        self.is_idle() && self.owes_nothing()
     }
 
     /// Whether the seat owns the slot, or is under a snapshot of it.
@@ -142,7 +149,11 @@ impl Holdings {
     pub(crate) fn has_announced(&self, at: u32, kind: Kind) -> bool
         ensures { IsTrue result ↔ ((at < 4) × ((s : SlotId) × (note_of self.now at ≡ note.Announced kind s))) }
     {
-        at < 4 && matches!(self.notes[at as usize], Note::Announced(k, _) if k == kind)
+        at < 4
+            && match self.notes[at as usize] {
+                Note::Announced(k, _) => k == kind,
+                Note::Idle | Note::Valid(_, _) => false,
+            }
     }
 
     /// Whether the seat may put this content into the place: into a place that is open to it, or
@@ -160,16 +171,21 @@ impl Holdings {
     pub(crate) fn can_scan(&self, shape: &Shape) -> bool
         ensures { IsTrue result ↔ May shape.now act.Scan self.now }
     {
-        self.is_idle() && !self.owes() || matches!(self.phase, Phase::Scan)
+        self.is_settled() || matches!(self.phase, Phase::Scan)
+    }
+
+    /// Whether all announcement words stand for nothing.
+    fn announces_nothing(&self) -> bool
+        ensures { IsTrue result ↔ ((j : ℕ) → note_of self.now j ≡ note.Idle) }
+    {
+        are_idle(&self.notes)
     }
 
     /// Whether the seat has nothing that only itself could give up.
     pub(crate) fn can_leave(&self) -> bool
         ensures { IsTrue result ↔ CanLeave self.now }
     {
-        self.is_idle()
-            && !self.owes()
-            && matches!(self.notes, [Note::Idle, Note::Idle, Note::Idle, Note::Idle])
+        self.is_settled() && self.announces_nothing()
     }
 
     pub(crate) fn is_finishing(&self) -> bool
@@ -226,6 +242,14 @@ impl Holdings {
         ensures { IsTrue result ↔ May shape.now (act.Claim slot) self.now }
     {
         self.is_idle() && slot.0 < shape.slots && self.has_make() && self.has_add()
+    }
+
+    /// Whether the seat may write a payload word.
+    pub(crate) fn can_fill(&self, shape: &Shape, at: u32, word: u64) -> bool
+        ensures { IsTrue result ↔ May shape.now (act.Fill at word) self.now }
+    {
+        let _any = word;
+        self.is_filling() && at < 16
     }
 
     /// Whether the seat may read a payload word of the slot.

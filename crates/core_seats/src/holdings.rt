@@ -47,7 +47,7 @@ pub(crate) struct Holdings {
 }
 
 impl Model for Holdings {
-    ghost use Rattle.std.specs.Prelude.{[]};
+    ghost use Rattle.std.specs.Prelude.{◌<◌, ◌^◌, []};
     ghost use Rattle.core_events.specs.declared.view.CoreView.{CoreView};
 
     ghost Value = { CoreView };
@@ -72,6 +72,8 @@ impl Model for Holdings {
       made = a.made.items;
       left_trails = a.left_trails.items;
     } };
+
+    ghost invariant = { λ a. (a.room < 2 ^ 32) × (a.quota.makes < 2 ^ 64) × (a.quota.adds < 2 ^ 64) };
 }
 
 /// How many entries a seat may have retired and owed together, as long as no other has left.

@@ -1,5 +1,5 @@
 //! A seat leaves, and the first one takes over what it had.
-ghost use Rattle.std.specs.Prelude.{◌≡◌, ◌+◌, ◌<◌, ◌^◌, [], OnOk, OnErr};
+ghost use Rattle.std.specs.Prelude.{◌≡◌, ◌+◌, ◌<◌, ◌≤◌, ◌^◌, ◌++◌, [], OnOk, OnErr, vec_len, vec_capacity};
 ghost use Rattle.core_events.specs.declared.act.Act.TheVariants as act;
 ghost use Rattle.core_events.specs.declared.outcome.Outcome.TheVariants as outcome;
 ghost use Rattle.core_events.specs.Views.{room_of};
@@ -11,6 +11,15 @@ use crate::seat::SeatView;
 use core_events::{Act, Move, Outcome};
 use out_of_memory::OutOfMemory;
 use std::mem;
+
+/// Moves all of a list behind another one, which has room for it: no memory is taken.
+fn move_all<T>(from: &mut Vec<T>, to: &mut Vec<T>)
+    requires { vec_len to.old + vec_len from.old ≤ vec_capacity to.old }
+    ensures taken { to.new.items ≡ to.old.items ++ from.old.items }
+    ensures given { from.new.items ≡ [] }
+{
+    let _ = to.append(from);
+}
 
 impl Holdings {
     /// Takes over what the leaver has, and its trail.
@@ -29,12 +38,11 @@ impl Holdings {
         self.dying.reserve(leaver.dying.len())?;
         self.made.reserve(leaver.made.len())?;
         self.left_trails.reserve(1)?;
-        // There is room for all of it, so none of these takes memory.
-        let _ = self.owned.append(&mut leaver.owned);
-        let _ = self.weaks.append(&mut leaver.weaks);
-        let _ = self.retired.append(&mut leaver.retired);
-        let _ = self.dying.append(&mut leaver.dying);
-        let _ = self.made.append(&mut leaver.made);
+        move_all(&mut leaver.owned, &mut self.owned);
+        move_all(&mut leaver.weaks, &mut self.weaks);
+        move_all(&mut leaver.retired, &mut self.retired);
+        move_all(&mut leaver.dying, &mut self.dying);
+        move_all(&mut leaver.made, &mut self.made);
         self.left_trails.push_reserved(PastTrail {
             seat: leaver.seat,
             trail: mem::replace(trail, Vec::new(self.alloc)),

@@ -1,6 +1,7 @@
 //! Lists of slots and of notes.
-ghost use Rattle.std.specs.Prelude.{◌≡◌, ◌↔◌, ◌<◌, IsTrue};
-ghost use Rattle.plain_state.specs.Lists.{times, entry_times, same_kind};
+ghost use Rattle.std.specs.Prelude.{◌≡◌, ◌↔◌, ◌<◌, ℕ, IsTrue, slice_index_or};
+ghost use Rattle.plain_state.specs.Lists.{times, entry_times};
+ghost use Rattle.core_events.specs.declared.view.Note.TheVariants.{Idle, Valid};
 ghost use Rattle.core_events.specs.Views.{valid_of, without};
 
 use core_events::{Kind, Note, SlotId};
@@ -13,6 +14,7 @@ pub(crate) fn has_slot(list: &[SlotId], slot: SlotId) -> bool
 }
 
 /// Takes the first entry of the slot out of the list, if it is there.
+#[tactic(auto, using(crate::proofs::Slots::without_at, crate::proofs::Slots::without_none))]
 pub(crate) fn take_first(list: &mut Vec<SlotId>, slot: SlotId)
     ensures { list.new.items ≡ without slot list.old.items }
 {
@@ -24,9 +26,38 @@ pub(crate) fn take_first(list: &mut Vec<SlotId>, slot: SlotId)
     }
 }
 
+/// Whether a note is a valid one of this kind and slot.
+fn is_snapshot(note: &Note, kind: Kind, slot: SlotId) -> bool
+    ensures { IsTrue result ↔ (note.now ≡ Valid kind slot) }
+{
+    match note {
+        Note::Valid(k, s) => *k == kind && *s == slot,
+        Note::Idle | Note::Announced(_, _) => false,
+    }
+}
+
 /// Whether a seat with these notes is under a snapshot of the slot, of this kind.
+#[tactic(auto, using(crate::proofs::Snapshots::snapshot_at, crate::proofs::Snapshots::snapshot_none))]
 pub(crate) fn has_snapshot(notes: &[Note], kind: Kind, slot: SlotId) -> bool
     ensures { IsTrue result ↔ (0 < entry_times kind slot (valid_of notes.now)) }
 {
-    notes.contains(&Note::Valid(kind, slot))
+    for note in notes {
+        if is_snapshot(note, kind, slot) {
+            return true;
+        }
+    }
+    false
+}
+
+/// Whether every note stands for nothing.
+#[tactic(auto, using(crate::proofs::Snapshots::all_idle))]
+pub(crate) fn are_idle(notes: &[Note]) -> bool
+    ensures { IsTrue result ↔ ((j : ℕ) → slice_index_or notes.now j Idle ≡ Idle) }
+{
+    for note in notes {
+        if *note != Note::Idle {
+            return false;
+        }
+    }
+    true
 }

@@ -1,5 +1,5 @@
 //! Where the words are that acts work on, by the order of a domain's words.
-ghost use Rattle.std.specs.Prelude.{◌≡◌};
+ghost use Rattle.std.specs.Prelude.{◌≡◌, ◌<◌, ◌^◌};
 ghost use Rattle.plain_state.specs.Places.{place_kind};
 ghost use Rattle.core_events.specs.Words.{note_at, slot_at, place_at};
 ghost use Rattle.core_events.specs.Views.{slot_of};
@@ -21,7 +21,8 @@ pub(crate) fn kind_of(place: EventPlace) -> Kind
 
 /// The first word of a slot, its strong one.
 pub(crate) fn slot_index(shape: &Shape, slot: SlotId) -> usize
-    ensures { result ≡ slot_at shape.now slot.0 }
+    ensures at { result ≡ slot_at shape.now slot.0 }
+    ensures fits { result < 2 ^ 38 }
 {
     1 + 4 * shape.seats as usize
         + shape.cells as usize
@@ -63,7 +64,8 @@ pub(crate) fn place_index(shape: &Shape, place: EventPlace) -> usize
 impl Holdings {
     /// The strong word of the slot of the seat's phase.
     pub(crate) fn phase_index(&self, shape: &Shape) -> usize
-        ensures { result ≡ slot_at shape.now (slot_of self.now.phase).0 }
+        ensures at { result ≡ slot_at shape.now (slot_of self.now.phase).0 }
+        ensures fits { result < 2 ^ 38 }
     {
         slot_index(shape, slot_in_phase(self.phase))
     }

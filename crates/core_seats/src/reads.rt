@@ -3,6 +3,7 @@ ghost use Rattle.std.specs.Prelude.{◌≡◌};
 
 use crate::seat::SeatView;
 use core_events::{Kind, Move, Note, Phase, Quota, Shape, SlotId};
+use std::collections::VecDeque;
 
 impl SeatView {
     pub fn seat(&self) -> u32
@@ -94,5 +95,17 @@ impl SeatView {
         ensures { result.now ≡ self.now.trail }
     {
         &self.trail
+    }
+
+    pub fn owed(&self) -> &VecDeque<(Kind, SlotId)>
+        ensures { result.now.items ≡ self.now.owed }
+    {
+        &self.holdings.owed
+    }
+
+    pub fn seen(&self) -> &[u64]
+        ensures { result.now ≡ self.now.seen }
+    {
+        &self.holdings.seen
     }
 }

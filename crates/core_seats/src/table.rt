@@ -34,7 +34,7 @@ impl SeatView {
         match *act {
             Act::Add(slot) | Act::Wadd(slot) => has.is_idle() && has.has_add() && has.holds(slot),
             Act::Drop(slot) => has.is_idle() && has.owns(slot),
-            Act::Pay => has.is_idle() && has.owes(),
+            Act::Pay => has.is_idle() && !has.owes_nothing(),
             Act::Finish => has.is_finishing(),
             Act::Take => has.is_helping(),
             Act::Count(slot) | Act::Wcount(slot) => has.is_idle() && has.holds(slot),
@@ -51,7 +51,7 @@ impl SeatView {
             Act::Swap(place, new) => has.can_put(shape, place, new),
             Act::Cas(place, old, new) => has.can_try(shape, place, old, new),
             Act::Claim(slot) => has.can_claim(shape, slot),
-            Act::Fill(at, _) => has.is_filling() && at < 16,
+            Act::Fill(at, word) => has.can_fill(shape, at, word),
             Act::Start => has.is_filling(),
             Act::See(slot, at) => has.can_see(slot) && at < 16,
             Act::Free => has.is_giving(),

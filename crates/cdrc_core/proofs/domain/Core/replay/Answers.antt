@@ -1,4 +1,4 @@
-use Rattle.std.proofs.Common.{◌≡◌, Err, ap, subst, rules, arith}
+use Rattle.std.proofs.Common.{◌≡◌, Err, ap, subst, rules}
 use Rattle.core_events.specs.Runs.{start}
 use Rattle.cdrc_core.specs.Replays.{IsFirstRefused}
 use Rattle.cdrc_core.specs.declared.errors.StepError.TheVariants.{NotEnabled, OutOfMemory}

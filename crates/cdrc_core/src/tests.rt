@@ -1,0 +1,279 @@
+//! Worked rows, and the refusals of `start`.
+ghost use Rattle.std.specs.Prelude.{◌≡◌, ◌<◌};
+
+use crate::{
+    Act, Core, Event, EventPlace, Kind, Outcome, Quota, ReplayError, Shape, ShapeField, SlotId,
+    StartError, StepError,
+};
+use std::alloc::Global;
+use std::process::Abort;
+use std::test::Fail;
+
+const SLOT: SlotId = SlotId(0);
+
+const WEAK_CELL: EventPlace = EventPlace::WeakCell(0);
+
+const WIDE: Quota = Quota {
+    makes: 1 << 40,
+    adds: 1 << 40,
+};
+
+const ZERO: u64 = 9_223_372_036_854_775_808;
+
+const fn sizes(seats: u32, slots: u32, cells: u32, weak_cells: u32, batch: u32) -> Shape
+    ensures { result.slots ≡ slots }
+{
+    Shape {
+        seats,
+        slots,
+        cells,
+        weak_cells,
+        batch,
+    }
+}
+
+fn by(seat: u32, act: Act) -> Event {
+    Event { seat, act }
+}
+
+/// From the start these events answer so, and leave slot 0 these words.
+fn row(
+    rt: &impl Abort,
+    alloc: Global,
+    shape: Shape,
+    events: &[Event],
+    answers: &[Outcome],
+    words: (u64, u64),
+) -> Result<(), Fail>
+    requires { 0 < shape.slots }
+{
+    let mut quotas = Vec::new(alloc);
+    quotas.resize(shape.seats as usize, WIDE)?;
+    let (core, outcomes) = Core::replay(alloc, shape, &quotas, events)?;
+    assert_eq!(rt; outcomes.as_slice(), answers);
+    assert_eq!(rt; (core.strong_word(SLOT), core.weak_word(SLOT)), words);
+    Ok(())
+}
+
+// A decrement that comes to its finish late doesn't end the object again.
+#[test]
+fn late_finish(rt: HostRuntime) -> Result<(), Fail> {
+    let events = [
+        by(1, Act::Claim(SLOT)),
+        by(1, Act::Start),
+        by(1, Act::Wadd(SLOT)),
+        by(1, Act::Swap(WEAK_CELL, Some(SLOT))),
+        by(2, Act::Announce(0, Kind::Weak, SLOT)),
+        by(2, Act::Check(0, WEAK_CELL)),
+        by(2, Act::Wadd(SLOT)),
+        by(2, Act::Release(0)),
+        by(1, Act::Drop(SLOT)),
+        by(2, Act::Add(SLOT)),
+        by(2, Act::Drop(SLOT)),
+        by(2, Act::Finish),
+        by(1, Act::Finish),
+    ];
+    let answers = [
+        Outcome::Claimed,
+        Outcome::Plain,
+        Outcome::Plain,
+        Outcome::Found(None),
+        Outcome::Plain,
+        Outcome::Valid,
+        Outcome::Plain,
+        Outcome::Plain,
+        Outcome::Zeroed,
+        Outcome::Up,
+        Outcome::Zeroed,
+        Outcome::Ended,
+        Outcome::Lost,
+    ];
+    row(
+        &rt,
+        rt.alloc(),
+        sizes(3, 1, 0, 1, 12),
+        &events,
+        &answers,
+        (ZERO, 3),
+    )
+}
+
+// A reader that finds the count at 0 sets both flags; of two helpers one ends the object.
+#[test]
+fn readers_help(rt: HostRuntime) -> Result<(), Fail> {
+    let events = [
+        by(1, Act::Claim(SLOT)),
+        by(1, Act::Start),
+        by(1, Act::Wadd(SLOT)),
+        by(1, Act::Swap(WEAK_CELL, Some(SLOT))),
+        by(0, Act::Announce(0, Kind::Weak, SLOT)),
+        by(0, Act::Check(0, WEAK_CELL)),
+        by(0, Act::Wadd(SLOT)),
+        by(0, Act::Release(0)),
+        by(2, Act::Announce(0, Kind::Weak, SLOT)),
+        by(2, Act::Check(0, WEAK_CELL)),
+        by(2, Act::Wadd(SLOT)),
+        by(2, Act::Release(0)),
+        by(1, Act::Drop(SLOT)),
+        by(2, Act::Add(SLOT)),
+        by(2, Act::Drop(SLOT)),
+        by(0, Act::Count(SLOT)),
+        by(0, Act::Mark),
+        by(1, Act::Finish),
+        by(2, Act::Finish),
+        by(2, Act::Take),
+        by(1, Act::Take),
+    ];
+    let answers = [
+        Outcome::Claimed,
+        Outcome::Plain,
+        Outcome::Plain,
+        Outcome::Found(None),
+        Outcome::Plain,
+        Outcome::Valid,
+        Outcome::Plain,
+        Outcome::Plain,
+        Outcome::Plain,
+        Outcome::Valid,
+        Outcome::Plain,
+        Outcome::Plain,
+        Outcome::Zeroed,
+        Outcome::Up,
+        Outcome::Zeroed,
+        Outcome::Again,
+        Outcome::Number(0),
+        Outcome::Help,
+        Outcome::Help,
+        Outcome::Ended,
+        Outcome::NoHelp,
+    ];
+    row(
+        &rt,
+        rt.alloc(),
+        sizes(3, 1, 0, 1, 12),
+        &events,
+        &answers,
+        (ZERO, 4),
+    )
+}
+
+// Of two retired copies under one announcement one stays and one goes.
+#[test]
+fn two_copies(rt: HostRuntime) -> Result<(), Fail> {
+    let events = [
+        by(0, Act::Claim(SLOT)),
+        by(0, Act::Start),
+        by(0, Act::Add(SLOT)),
+        by(0, Act::Swap(EventPlace::Cell(0), Some(SLOT))),
+        by(0, Act::Swap(EventPlace::Cell(1), Some(SLOT))),
+        by(0, Act::Announce(1, Kind::Strong, SLOT)),
+        by(0, Act::Check(1, EventPlace::Cell(0))),
+        by(0, Act::Swap(EventPlace::Cell(0), None)),
+        by(0, Act::Swap(EventPlace::Cell(1), None)),
+        by(0, Act::Scan),
+        by(0, Act::Scan),
+        by(0, Act::Scan),
+        by(0, Act::Scan),
+        by(0, Act::Pay),
+    ];
+    let answers = [
+        Outcome::Claimed,
+        Outcome::Plain,
+        Outcome::Up,
+        Outcome::Found(None),
+        Outcome::Found(None),
+        Outcome::Plain,
+        Outcome::Valid,
+        Outcome::Found(Some(SLOT)),
+        Outcome::Found(Some(SLOT)),
+        Outcome::Word(0),
+        Outcome::Word(4),
+        Outcome::Word(0),
+        Outcome::Split(0, 1, 1),
+        Outcome::Left,
+    ];
+    row(
+        &rt,
+        rt.alloc(),
+        sizes(1, 1, 2, 0, 4),
+        &events,
+        &answers,
+        (1, 1),
+    )
+}
+
+// An announcement that comes after the place has changed gives no right to add.
+#[test]
+fn late_announcement(rt: HostRuntime) -> Result<(), Fail> {
+    let events = [
+        by(0, Act::Claim(SLOT)),
+        by(0, Act::Start),
+        by(0, Act::Swap(EventPlace::Cell(0), Some(SLOT))),
+        by(0, Act::Swap(EventPlace::Cell(0), None)),
+        by(0, Act::Announce(1, Kind::Strong, SLOT)),
+        by(0, Act::Check(1, EventPlace::Cell(0))),
+        by(0, Act::Add(SLOT)),
+    ];
+    let answers = [
+        Outcome::Claimed,
+        Outcome::Plain,
+        Outcome::Found(None),
+        Outcome::Found(Some(SLOT)),
+        Outcome::Plain,
+        Outcome::Moved(None),
+    ];
+    let shape = sizes(1, 1, 1, 0, 4);
+    row(&rt, rt.alloc(), shape, &events[..6], &answers, (1, 1))?;
+    match Core::replay(rt.alloc(), shape, &[WIDE], &events) {
+        Ok(_) => panic!(rt; "the add was made"),
+        Err(error) => assert_eq!(rt; error, ReplayError::At(6, StepError::NotEnabled)),
+    }
+    Ok(())
+}
+
+// The first field that is out of its range is named, in the order of the fields.
+#[test]
+fn bad_shapes(rt: HostRuntime) {
+    let over = Quota {
+        makes: 0,
+        adds: (1 << 40) + 1,
+    };
+    let good = [WIDE];
+    let none: [Quota; 0] = [];
+    for (shape, quotas, field) in [
+        (sizes(33, 0, 0, 0, 0), good.as_slice(), ShapeField::Seats),
+        (sizes(0, 1, 0, 0, 4), none.as_slice(), ShapeField::Seats),
+        (
+            sizes(1, 0, 65_537, 0, 4),
+            good.as_slice(),
+            ShapeField::Slots,
+        ),
+        (
+            sizes(1, 4_194_305, 0, 0, 4),
+            good.as_slice(),
+            ShapeField::Slots,
+        ),
+        (
+            sizes(1, 1, 65_537, 0, 0),
+            good.as_slice(),
+            ShapeField::Cells,
+        ),
+        (
+            sizes(1, 1, 0, 4_194_305, 0),
+            good.as_slice(),
+            ShapeField::WeakCells,
+        ),
+        (sizes(1, 1, 0, 0, 0), none.as_slice(), ShapeField::Batch),
+        (sizes(1, 1, 0, 0, 1_025), good.as_slice(), ShapeField::Batch),
+        (sizes(1, 1, 0, 0, 4), none.as_slice(), ShapeField::Quotas),
+        (sizes(2, 1, 0, 0, 4), good.as_slice(), ShapeField::Quotas),
+        (sizes(1, 1, 0, 0, 4), [over].as_slice(), ShapeField::Quotas),
+    ] {
+        match Core::replay(rt.alloc(), shape, quotas, &[]) {
+            Ok(_) => panic!(rt; "a core of this shape"),
+            Err(error) => {
+                assert_eq!(rt; error, ReplayError::Start(StartError::BadShape(field)));
+            }
+        }
+    }
+}

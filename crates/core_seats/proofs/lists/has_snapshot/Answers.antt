@@ -1,4 +1,0 @@
-use Rattle.core_seats.proofs.lists.has_snapshot.Goals as goal
-
-pub returns : goal.returns
-returns c = let h = c.contains.ensures.value in ?
