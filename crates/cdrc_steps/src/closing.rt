@@ -1,5 +1,5 @@
 //! What the end of a text of steps writes.
-ghost use Rattle.std.specs.Prelude.{◌≡◌, ◌++◌, OnOk};
+ghost use Rattle.std.specs.Prelude.{◌≡◌, ◌<◌, ◌++◌, OnOk};
 ghost use Rattle.cdrc_steps.specs.Meaning.{closing, slot_line};
 
 use crate::running::Running;

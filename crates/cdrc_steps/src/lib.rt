@@ -21,9 +21,9 @@ mod machine;
 mod opening;
 mod ranges;
 mod running;
-mod steps;
 #[cfg(test)]
 mod tests;
+mod text;
 
 pub use line_machine::Written;
-pub use steps::steps;
+pub use text::steps;

@@ -1,5 +1,5 @@
 //! The lines of a text of steps, taken one by one.
-ghost use Rattle.std.specs.Prelude.{◌≡◌, ◌++◌, ℕ, Bool, List, Ok, None, Some, OnOk};
+ghost use Rattle.std.specs.Prelude.{◌≡◌, ◌++◌, [], ℕ, List, Ok, None, Some};
 ghost use Rattle.line_words.specs.declared.reason.Reason.{Reason};
 ghost use Rattle.line_words.specs.Words.{texts_of};
 ghost use Rattle.cdrc_steps.specs.Meaning.{Ends, Refuses, Takes};
@@ -22,12 +22,13 @@ impl Running {
         ensures refused { (reason : Reason) → result ≡ Ok (Some reason) →
             (text.new.items ≡ text.old.items) × Refuses (Some self.old) (texts_of words.now) reason }
     {
+        let shape = self.core.shape();
         let event = match event_line(words) {
             Ok(event) => event,
             Err(LineRefused::Syntax) => return Ok(Some(Reason::Syntax)),
             Err(LineRefused::Range) => return Ok(Some(Reason::Range)),
         };
-        if !is_in_range(&self.core.shape(), event) {
+        if !is_in_range(&shape, event) {
             return Ok(Some(Reason::Range));
         }
         let events = self.events.checked_add(1).ok_or(OutOfMemory)?;
