@@ -1,0 +1,3 @@
+-- The lemmas that the contracts stand on.
+pub mod Cutting
+pub mod Decimal
