@@ -1,6 +1,7 @@
 -- What the seat has for each handle, and that it has no more than its names are bound to.
 use Rattle.std.specs.Prelude.{ℕ, ◌≡◌, ◌+◌, true, false, List, length, Some}
 use Rattle.std.specs.List.{sum_by}
+use Rattle.std.specs.Map.{values_of}
 use Rattle.plain_state.specs.declared.act.PlainAct.{PlainAct}
 use Rattle.plain_state.specs.declared.act.PlainAct.TheVariants as act
 use Rattle.plain_state.specs.declared.slot.Kind.TheVariants as kind
@@ -10,6 +11,7 @@ use Rattle.plain_state.specs.State.{Plain, seat_at}
 use Rattle.plain_state.specs.References.{held_in}
 use Rattle.plain_store.specs.Heaps.{Owns, OwnsWeakly}
 use Rattle.plain_store.specs.Calls.{HasSnapshot, ending}
+use Rattle.script_desk.specs.Desks.{Maker, Names}
 use Rattle.script_desk.specs.declared.handle.Handle.{Handle}
 use Rattle.script_desk.specs.declared.handle.Handle.TheVariants.{Strong, Weak, Snapshot}
 
@@ -83,3 +85,11 @@ pub record HasSame (p q : Plain) : Type 0 where
 -- whatever a handle counts for, the second list counts for the handle more
 abbrev pub CountsMore : List Handle → Handle → List Handle → Type 0
 CountsMore old handle new = (f : Handle → ℕ) → sum_by f new ≡ sum_by f old + f handle
+
+-- What a desk keeps: the seat has just what the bound handles need, each slot has a maker, and the numbers of cells are
+-- those of the heap.
+pub record Kept (p : Plain) (names : Names) (made : List Maker) (strong weak : ℕ) : Type 0 where
+  pub holds : HoldsFor p (values_of names)
+  pub makers : length made ≡ length p.slots
+  pub cells : strong ≡ length p.cells
+  pub weak_cells : weak ≡ length p.weak_cells

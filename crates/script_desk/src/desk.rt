@@ -1,8 +1,6 @@
 //! What a script has between two commands.
-ghost use Rattle.std.specs.Prelude.{◌≡◌, length};
-ghost use Rattle.std.specs.Map.{values_of};
 ghost use Rattle.script_desk.specs.Desks.{Desk as DeskState};
-ghost use Rattle.script_desk.specs.Holding.{HoldsFor};
+ghost use Rattle.script_desk.specs.Holding.{Kept};
 
 use crate::kind::ScriptKind;
 use crate::maker::Make;
@@ -34,8 +32,5 @@ impl Model for Desk {
         makes = d.makes;
     } };
 
-    ghost invariant = { λ d. HoldsFor d.heap (values_of d.names)
-        × (length d.makers.items ≡ length d.heap.slots)
-        × (d.cells ≡ length d.heap.cells)
-        × (d.weak_cells ≡ length d.heap.weak_cells) };
+    ghost invariant = { λ d. Kept d.heap d.names d.makers.items d.cells d.weak_cells };
 }
