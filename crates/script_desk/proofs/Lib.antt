@@ -4,3 +4,6 @@ pub mod Grows
 pub mod Steps
 pub mod Gaining
 pub mod Naming
+pub mod Told
+pub mod Needs
+pub mod Placing

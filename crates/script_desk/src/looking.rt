@@ -1,5 +1,5 @@
 //! What a name stands for, and which place of the heap the words of a command name.
-ghost use Rattle.std.specs.Prelude.{◌≡◌, IfSome, Some, None};
+ghost use Rattle.std.specs.Prelude.{◌≡◌, ◌<◌, IfSome, Some, None};
 ghost use Rattle.plain_state.specs.Places.{IsOpen};
 ghost use Rattle.script_desk.specs.declared.handle.Handle.{Handle as Bound};
 ghost use Rattle.script_desk.specs.declared.handle.Handle.TheVariants.{Strong, Weak};
@@ -7,6 +7,7 @@ ghost use Rattle.script_desk.specs.Desks.{bound};
 ghost use Rattle.script_desk.specs.Effects.{IsPlace, IsSlotOf};
 ghost use Rattle.script_desk.specs.Faults.{IsPlaceInRange, is_weak_place, place_needs, need_of};
 ghost use Rattle.script_desk.specs.Handles.{is_strong, is_weak, is_any, is_firm, slot_of};
+ghost use Rattle.script_desk.specs.Holding.{HasHandle};
 ghost use Rattle.script_desk.specs.Places.{AreMet, IsBoundTo, event_place, is_weak_one};
 
 use crate::desk::Desk;
@@ -16,11 +17,20 @@ use plain_state::SlotId;
 use plain_store::{PlainPlace, PlainWeakPlace};
 use script_lines::{Name, TextPlace};
 
+/// A number that is below this one.
+fn below(number: u128, limit: u32) -> u32
+    requires { number < limit }
+    ensures { result ≡ number }
+{
+    number as u32
+}
+
 impl Desk {
-    /// The slot of what the name is bound to.
+    /// The slot of what the name is bound to, which the heap's seat has.
     pub(crate) fn slot(&self, name: &Name) -> SlotId
         requires { IsBoundTo self.now name.now is_any }
-        ensures { (h : Bound) × (bound self.now.names name.now ≡ Some h) × (result ≡ slot_of h) }
+        ensures { (h : Bound) × (bound self.now.names name.now ≡ Some h) × (result ≡ slot_of h)
+            × HasHandle self.now.plain h }
     {
         match self.names.get(name) {
             Some(handle) => handle.slot(),
@@ -70,8 +80,12 @@ impl Desk {
         ensures kind { is_weak_one result ≡ is_weak_place place.now }
     {
         match place {
-            TextPlace::Cell(cell) => HeapPlace::Strong(PlainPlace::Cell(*cell as u32)),
-            TextPlace::WeakCell(cell) => HeapPlace::Weak(PlainWeakPlace::Cell(*cell as u32)),
+            TextPlace::Cell(cell) => {
+                HeapPlace::Strong(PlainPlace::Cell(below(*cell, self.cells)))
+            }
+            TextPlace::WeakCell(cell) => {
+                HeapPlace::Weak(PlainWeakPlace::Cell(below(*cell, self.weak_cells)))
+            }
             TextPlace::Field(name, field) => {
                 HeapPlace::Strong(PlainPlace::Field(self.slot(name), *field))
             }
