@@ -1,6 +1,7 @@
 -- A handle that is put into a place of its kind.
-use Rattle.std.proofs.Common.{◌≡◌, ◌≢◌, ◌⊎◌, ⊎_elim, ℕ, ◌<◌, Bool, true, false, List, length, refl, ap, sym, ◌∙◌, subst, arith, Option, Some, None, IfSome}
+use Rattle.std.proofs.Common.{[], MatchOption, ◌≡◌, ◌≢◌, ◌⊎◌, ⊎_elim, ℕ, ◌<◌, Bool, true, false, List, length, refl, ap, sym, ◌∙◌, subst, arith, Option, Some, None, IfSome}
 use Rattle.std.specs.Map.{values_of}
+use Rattle.std.specs.Option.{option_and_then}
 use Rattle.plain_state.specs.declared.act.EventPlace.{EventPlace}
 use Rattle.plain_state.specs.declared.slot.Kind.{Kind}
 use Rattle.plain_state.specs.declared.slot.Kind.TheVariants as kind
@@ -9,23 +10,25 @@ use Rattle.plain_state.specs.Places.{place_kind}
 use Rattle.plain_state.specs.State.{Plain}
 use Rattle.plain_state.specs.Steps.{Replaces}
 use Rattle.plain_store.specs.Calls.{Puts, Tries, strong_place, weak_place}
+use Rattle.plain_store.specs.declared.place.PlainPlace.{PlainPlace}
 use Rattle.plain_store.specs.declared.place.PlainWeakPlace.{PlainWeakPlace}
 use Rattle.plain_store.specs.declared.place.PlainWeakPlace.TheVariants as weak
 use Rattle.script_desk.specs.declared.handle.Handle.{Handle}
 use Rattle.script_desk.specs.declared.handle.Handle.TheVariants.{Strong, Weak, Snapshot}
 use Rattle.script_desk.specs.declared.place.HeapPlace.{HeapPlace}
 use Rattle.script_desk.specs.declared.place.HeapPlace.TheVariants as heap
-use Rattle.script_desk.specs.Desks.{Desk, Names, Maker, bound}
-use Rattle.script_desk.specs.Faults.{is_weak_place, taken_by}
+use Rattle.script_desk.specs.Desks.{Desk, Names, Maker, bound, Binds}
+use Rattle.script_desk.specs.Effects.{IsSlotOf}
+use Rattle.script_desk.specs.Faults.{is_weak_place, need_of, taken_by}
 use Rattle.script_desk.specs.Handles.{slot_of, is_strong, is_weak}
 use Rattle.script_desk.specs.Holding.{HasHandle, HasMore, CountsMore, Kept}
-use Rattle.script_desk.specs.Places.{IsBoundTo, event_place, is_weak_one}
+use Rattle.script_desk.specs.Places.{AreMet, IsBoundTo, event_place, is_weak_one}
 use Rattle.script_lines.specs.declared.command.TextPlace.{TextPlace}
 use Rattle.script_lines.specs.declared.command.TextPlace.TheVariants as text
-use Rattle.script_desk.proofs.Naming.{desk_of}
-use Rattle.script_desk.proofs.Needs.{bound_so, kind_of}
-use Rattle.script_desk.proofs.Gaining.{handle_of, is_strong_kind, replaces_fewer}
-use Rattle.script_desk.proofs.Sums.{kept_fewer}
+use Rattle.script_desk.proofs.Naming.{desk_of, has_there}
+use Rattle.script_desk.proofs.Needs.{bound_so, first_met, kind_of}
+use Rattle.script_desk.proofs.Gaining.{handle_of, is_strong_kind, replaces_fewer, replaces_same}
+use Rattle.script_desk.proofs.Sums.{kept_fewer, kept_same}
 
 -- what a place of the heap takes
 abbrev pub taken : HeapPlace → Handle → Bool
@@ -56,6 +59,13 @@ same_taken (heap.Weak at) (text.WeakCell i) e h = refl
 same_taken (heap.Weak at) (text.Field name i) e h = cc
 same_taken (heap.Weak at) (text.WeakField name) e h = refl
 
+-- a replacement that was done
+pub tries_done : (p q : Plain) (place : EventPlace) (old new : Option SlotId) → Tries p place old new true q → (0 < length p.seats) × Replaces p 0 place new q
+tries_done p q place old new (exactly, (here, (opened, z, cases))) = (
+  here.0,
+  ⊎_elim (λ x. x.1) (λ x. absurd (x.0 (exactly.0 refl))) cases,
+)
+
 -- what a name is bound to, by its slot
 abbrev pub KnownBy : Desk → List ℕ → SlotId → Type 0
 KnownBy d name s = (h : Handle) × (bound d.names name ≡ Some h) × (s ≡ slot_of h) × HasHandle d.plain h
@@ -79,3 +89,18 @@ module _ (p : Plain) (names : Names) (made : List Maker) (makes strong weak : �
       kept_given at name s q after found
       (bound_so (bound d.names name) (taken_by place) (taken at) (λ h. sym (same_taken at place same h)) bound_to)
       known puts.0.0 puts.1.2 was counts
+
+  pub kept_replaced : (at : PlainPlace) (expected slot : Option SlotId) (name : Option (List ℕ)) (q : Plain) (after : Names)
+      → AreMet d (need_of name is_strong) → IsSlotOf d name slot → Tries p (strong_place at) expected slot true q
+      → MatchOption name (after ≡ names) (λ n. Binds names n None after)
+      → IfSome (option_and_then (bound names) name) (λ h. CountsMore (values_of after) h (values_of names)) → Kept q after made strong weak
+  kept_replaced at expected slot None q after met none tries binds counts =
+      let done = tries_done p q (strong_place at) expected slot tries in
+      let r : Replaces p 0 (strong_place at) None q = subst (λ (o : Option SlotId). Replaces p 0 (strong_place at) o q) none done.1 in
+      subst (λ (ns : Names). Kept q ns made strong weak) (sym binds)
+      (kept_same p names made strong weak k q (replaces_same p q (strong_place at) done.0 r))
+  kept_replaced at expected slot (Some name) q after met (h, e, f) tries binds counts =
+      let done = tries_done p q (strong_place at) expected slot tries in
+      kept_given (heap.Strong at) name (slot_of h) q after (bound names name) (first_met d name is_strong [] met)
+      (h, e, refl, has_there p names made makes strong weak k d is name h e) done.0
+      (subst (λ (o : Option SlotId). Replaces p 0 (strong_place at) o q) f done.1) refl counts

@@ -1,6 +1,10 @@
 //! What a name stands for, and which place of the heap the words of a command name.
 ghost use Rattle.std.specs.Prelude.{◌≡◌, ◌<◌, IfSome, Some, None};
 ghost use Rattle.plain_state.specs.Places.{IsOpen};
+ghost use Rattle.plain_state.specs.State.{seat_at};
+ghost use Rattle.plain_state.specs.declared.slot.Kind.TheVariants.{Strong as StrongKind};
+ghost use Rattle.plain_store.specs.Calls.{MayGive};
+ghost use Rattle.plain_store.specs.Heaps.{Owns, OwnsWeakly};
 ghost use Rattle.script_desk.specs.declared.handle.Handle.{Handle as Bound};
 ghost use Rattle.script_desk.specs.declared.handle.Handle.TheVariants.{Strong, Weak};
 ghost use Rattle.script_desk.specs.Desks.{bound};
@@ -14,7 +18,7 @@ use crate::desk::Desk;
 use crate::handle::Handle;
 use crate::place::HeapPlace;
 use plain_state::SlotId;
-use plain_store::{PlainPlace, PlainWeakPlace};
+use plain_store::{Hand, PlainPlace, PlainWeakPlace};
 use script_lines::{Name, TextPlace};
 
 /// A number that is below this one.
@@ -41,7 +45,8 @@ impl Desk {
     /// The slot of a strong handle.
     pub(crate) fn strong_slot(&self, name: &Name) -> SlotId
         requires { IsBoundTo self.now name.now is_strong }
-        ensures { bound self.now.names name.now ≡ Some (Strong result) }
+        ensures is { bound self.now.names name.now ≡ Some (Strong result) }
+        ensures owns { Owns self.now.plain result }
     {
         match self.names.get(name) {
             Some(Handle::Strong(hand)) => hand.slot(),
@@ -52,7 +57,8 @@ impl Desk {
     /// The slot of a weak handle.
     pub(crate) fn weak_slot(&self, name: &Name) -> SlotId
         requires { IsBoundTo self.now name.now is_weak }
-        ensures { bound self.now.names name.now ≡ Some (Weak result) }
+        ensures is { bound self.now.names name.now ≡ Some (Weak result) }
+        ensures owns { OwnsWeakly self.now.plain result }
     {
         match self.names.get(name) {
             Some(Handle::Weak(hand)) => hand.slot(),
@@ -67,6 +73,18 @@ impl Desk {
     {
         match name {
             Some(name) => Some(self.slot(name)),
+            None => None,
+        }
+    }
+
+    /// A strong handle to which a name is bound, or none for `null`.
+    pub(crate) fn hand_if_some(&self, name: &Option<Name>) -> Option<Hand>
+        requires { AreMet self.now (need_of name.now is_strong) }
+        ensures is { IsSlotOf self.now name.now result }
+        ensures given { MayGive StrongKind result (seat_at self.now.plain 0) }
+    {
+        match name {
+            Some(name) => Some(Hand::of(self.strong_slot(name))),
             None => None,
         }
     }

@@ -1,5 +1,5 @@
 //! The names of a script, and what each of them is bound to.
-ghost use Rattle.std.specs.Prelude.{◌≡◌, [], ◌∷◌, IfErr, IfSome, IfNone, OnOk, OnErr, Some, None, option_copied};
+ghost use Rattle.std.specs.Prelude.{◌≡◌, [], ◌∷◌, IfErr, IfSome, MatchOption, IfNone, OnOk, OnErr, Some, None, option_and_then, option_copied};
 ghost use Rattle.std.specs.Map.{values_of};
 ghost use Rattle.script_desk.specs.Desks.{Names, bound, Binds};
 ghost use Rattle.script_desk.specs.Holding.{CountsMore};
@@ -64,6 +64,17 @@ impl NameTable {
         ensures fewer { IfSome result (λ handle. CountsMore (values_of self.new) handle (values_of self.old)) }
     {
         self.map.remove(name.as_str())
+    }
+
+    /// The same for a name, if there is one.
+    pub fn unbind_if_some(&mut self, name: &Option<Name>)
+        ensures binds { MatchOption name.now (self.new ≡ self.old) (λ name. Binds self.old name None self.new) }
+        ensures fewer { IfSome (option_and_then (bound self.old) name.now) (λ handle.
+            CountsMore (values_of self.new) handle (values_of self.old)) }
+    {
+        if let Some(name) = name {
+            self.unbind(name);
+        }
     }
 
     /// One handle that is bound, whose name isn't any more. None exactly where no name is bound.

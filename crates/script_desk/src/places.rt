@@ -15,7 +15,7 @@ use crate::handle::Handle;
 use crate::place::HeapPlace;
 use crate::said::Said;
 use out_of_memory::OutOfMemory;
-use plain_store::{Hand, PlainPlace, PlainWeakPlace};
+use plain_store::{PlainPlace, PlainWeakPlace};
 use script_lines::{Name, TextPlace};
 
 impl Desk {
@@ -104,12 +104,10 @@ impl Desk {
             unreachable!()
         };
         let expected = self.slot_if_some(old);
-        let slot = self.slot_if_some(new);
-        match self.heap.replace(at, expected, slot.map(Hand::of)) {
+        let hand = self.hand_if_some(new);
+        match self.heap.replace(at, expected, hand) {
             Ok(true) => {
-                if let Some(name) = new {
-                    self.names.unbind(name);
-                }
+                self.names.unbind_if_some(new);
                 Ok(Said::Done)
             }
             Ok(false) => Ok(Said::Lost),
