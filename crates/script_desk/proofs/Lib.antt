@@ -7,3 +7,4 @@ pub mod Naming
 pub mod Told
 pub mod Needs
 pub mod Placing
+pub mod Ranking

@@ -74,9 +74,16 @@ impl Desk {
     {
         let mut names = Vec::with_capacity(self.alloc, slots.len())?;
         for slot in slots {
-            let name = self.makers[slot.0 as usize].name();
-            names.push_reserved(String::from_str(self.alloc, name)?);
+            names.push_reserved(String::from_str(self.alloc, self.maker_name(*slot))?);
         }
         Ok(names)
+    }
+
+    /// The name of the make that made the slot.
+    fn maker_name(&self, slot: SlotId) -> &str
+        requires { slot.0 < length self.now.plain.slots }
+        ensures { result.now ≡ (maker_of self.now slot).name }
+    {
+        self.makers[slot.0 as usize].name()
     }
 }
