@@ -8,3 +8,4 @@ pub mod Told
 pub mod Needs
 pub mod Placing
 pub mod Ranking
+pub mod Closing
