@@ -9,3 +9,4 @@ pub mod Needs
 pub mod Placing
 pub mod Ranking
 pub mod Closing
+pub mod Auditing
