@@ -10,3 +10,4 @@ pub mod Placing
 pub mod Ranking
 pub mod Closing
 pub mod Auditing
+pub mod Anys

@@ -1,9 +1,10 @@
 //! Why a command is refused.
-ghost use Rattle.std.specs.Prelude.{◌≡◌, ◌↔◌, true, false, IsTrue, IsSome, IsSomeAnd, None, option_copied};
+ghost use Rattle.std.specs.Prelude.{◌≡◌, ◌↔◌, ◌++◌, Bool, IsTrue, IsSome, IsSomeAnd, None, option_copied};
 ghost use Rattle.std.specs.List.{Any};
 ghost use Rattle.script_desk.specs.Desks.{bound};
 ghost use Rattle.script_desk.specs.Faults.{IsPlaceInRange, IsInRange, is_weak_place, taken_by, place_needs, need_of, needs, binds, IsMissing, IsOther, IsWrongPlace, HasNameFault, HasKindFault, IsFault};
-ghost use Rattle.script_desk.specs.Handles.{is_firm};
+ghost use Rattle.script_desk.specs.declared.handle.Handle.{Handle};
+ghost use Rattle.script_desk.specs.Handles.{is_firm, is_strong};
 ghost use Rattle.script_desk.specs.Places.{admitted};
 
 use crate::desk::Desk;
@@ -91,24 +92,38 @@ impl Desk {
         self.names.get(name).is_some()
     }
 
+    fn is_missing(&self, name: &Name) -> bool
+        ensures { IsTrue result ↔ (bound self.now.names name.now ≡ None) }
+    {
+        self.names.get(name).is_none()
+    }
+
     /// Whether the object of a field has no name that is bound.
     fn lacks_owner(&self, place: &TextPlace) -> bool
         ensures { IsTrue result ↔ Any (IsMissing self.now) (place_needs place.now) }
     {
         match place {
-            TextPlace::Field(name, _) | TextPlace::WeakField(name) => !self.is_bound(name),
+            TextPlace::Field(name, _) | TextPlace::WeakField(name) => self.is_missing(name),
             TextPlace::Cell(_) | TextPlace::WeakCell(_) => false,
         }
     }
 
     /// Whether there is a name, and it isn't bound.
     fn lacks(&self, name: &Option<Name>) -> bool
-        ensures { IsTrue result ↔ Any (IsMissing self.now) (need_of name.now is_firm) }
+        ensures { (kind : Handle → Bool) → IsTrue result ↔ Any (IsMissing self.now) (need_of name.now kind) }
     {
         match name {
-            Some(name) => !self.is_bound(name),
+            Some(name) => self.is_missing(name),
             None => false,
         }
+    }
+
+    /// The same of the two references of a replacement.
+    fn lacks_either(&self, old: &Option<Name>, new: &Option<Name>) -> bool
+        ensures { IsTrue result
+            ↔ Any (IsMissing self.now) (need_of old.now is_firm ++ need_of new.now is_strong) }
+    {
+        self.lacks(old) || self.lacks(new)
     }
 
     /// Whether a name that must be bound isn't.
@@ -126,13 +141,13 @@ impl Desk {
             | Command::EndSnapshot(name)
             | Command::Keep(name, _)
             | Command::Read(name, _)
-            | Command::Counts(name) => !self.is_bound(name),
-            Command::Put(place, name) => self.lacks_owner(place) || !self.is_bound(name),
+            | Command::Counts(name) => self.is_missing(name),
+            Command::Put(place, name) => self.lacks_owner(place) || self.is_missing(name),
             Command::Clear(place) | Command::Load(place, _) | Command::Snap(place, _) => {
                 self.lacks_owner(place)
             }
             Command::Replace(place, old, new) => {
-                self.lacks_owner(place) || self.lacks(old) || self.lacks(new)
+                self.lacks_owner(place) || self.lacks_either(old, new)
             }
         }
     }
@@ -165,6 +180,14 @@ impl Desk {
             Some(name) => self.is_other(name, wanted),
             None => false,
         }
+    }
+
+    /// The same of the two references of a replacement.
+    fn has_other_pair(&self, old: &Option<Name>, new: &Option<Name>) -> bool
+        ensures { IsTrue result
+            ↔ Any (IsOther self.now) (need_of old.now is_firm ++ need_of new.now is_strong) }
+    {
+        self.is_other_if_some(old, Wanted::Firm) || self.is_other_if_some(new, Wanted::Strong)
     }
 
     /// Whether the object of a field is bound by a name that doesn't keep it alive.
@@ -201,9 +224,7 @@ impl Desk {
                 self.has_weak_owner(place)
             }
             Command::Replace(place, old, new) => {
-                self.has_weak_owner(place)
-                    || self.is_other_if_some(old, Wanted::Firm)
-                    || self.is_other_if_some(new, Wanted::Strong)
+                self.has_weak_owner(place) || self.has_other_pair(old, new)
             }
         }
     }
