@@ -11,3 +11,4 @@ pub mod Ranking
 pub mod Closing
 pub mod Auditing
 pub mod Anys
+pub mod Giving
