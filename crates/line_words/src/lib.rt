@@ -17,14 +17,17 @@
 //! ```
 #![tactic(auto)]
 
+mod fields;
+pub mod laws;
 mod lines;
 mod numbers;
 mod reason;
 mod refusal;
-mod fields;
+#[cfg(test)]
+mod tests;
 
+pub use crate::fields::{is_blank, words};
 pub use crate::lines::{Line, Lines};
 pub use crate::numbers::number;
 pub use crate::reason::Reason;
 pub use crate::refusal::push_refused;
-pub use crate::fields::{is_blank, words};

@@ -25,7 +25,9 @@ fn digits_value(digits: &[u8]) -> Option<u128>
         if !digit.is_ascii_digit() {
             return None;
         }
-        value = value.saturating_mul(10).saturating_add((*digit - b'0') as u128);
+        value = value
+            .saturating_mul(10)
+            .saturating_add((*digit - b'0') as u128);
     }
     Some(value)
 }

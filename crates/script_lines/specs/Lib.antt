@@ -1,2 +1,3 @@
 pub mod Names
 pub mod Spelling
+pub mod Verbs

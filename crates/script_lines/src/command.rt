@@ -3,7 +3,7 @@
 use crate::name::Name;
 
 /// Where a reference stands, as a script names it.
-#[derive(Drop)]
+#[derive(PartialEq, Eq, Debug, Drop)]
 pub enum TextPlace {
     /// `@i`, a strong cell.
     Cell(u128),
@@ -16,7 +16,7 @@ pub enum TextPlace {
 }
 
 /// A line of a script.
-#[derive(Drop)]
+#[derive(PartialEq, Eq, Debug, Drop)]
 pub enum ScriptLine {
     /// `heap SLOTS CELLS WEAKCELLS`
     Heap(u128, u128, u128),
@@ -25,7 +25,7 @@ pub enum ScriptLine {
 }
 
 /// A command of a script.
-#[derive(Drop)]
+#[derive(PartialEq, Eq, Debug, Drop)]
 pub enum Command {
     /// `make N W`: an object with W in its first payload word, bound to N.
     Make(Name, u128),

@@ -16,10 +16,16 @@
 //! ```
 #![tactic(auto)]
 
+mod arguments;
 mod command;
+pub mod laws;
 mod name;
 mod parse;
+mod place;
 mod refused;
+#[cfg(test)]
+mod tests;
+mod verb;
 
 pub use crate::command::{Command, ScriptLine, TextPlace};
 pub use crate::name::Name;

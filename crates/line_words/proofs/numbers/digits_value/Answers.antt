@@ -18,8 +18,8 @@ loop-digit-preserved c =
     record {
       digits = All-more IsAsciiDigit digits i 0 below c.loop-digit.invariant.digits digit;
       value = c.saturating_add-value.ensures
-      ∙ ap (λ tens. min (tens + (get_or digits i 0 - 48)) most) c.saturating_mul.ensures
-      ∙ ap (λ n. min (min (n * 10) most + (get_or digits i 0 - 48)) most) c.loop-digit.invariant.value
-      ∙ min-step (value_of (take i digits)) (get_or digits i 0 - 48) most
-      ∙ ap capped (sym (value_of-more digits i below));
+          ∙ ap (λ tens. min (tens + (get_or digits i 0 - 48)) most) c.saturating_mul.ensures
+          ∙ ap (λ n. min (min (n * 10) most + (get_or digits i 0 - 48)) most) c.loop-digit.invariant.value
+          ∙ min-step (value_of (take i digits)) (get_or digits i 0 - 48) most
+          ∙ ap capped (sym (value_of-more digits i below));
     }

@@ -11,8 +11,8 @@ returns-then-is_empty-clause-steps c =
     let none : length c.self.inside.rest.now ≡ 0 = grind (arith, nat_tests) in
     let empty : c.self.inside.rest.now ≡ [] = nil_from_length c.self.inside.rest.now none in
     let all : c.args.self.now ≡ []
-        = sym c.self.view_is ∙ ap (λ text. enumerate_from (c.self.inside.given + 1) (lines_of text)) empty
-        ∙ ap (λ lines. enumerate_from (c.self.inside.given + 1) lines) lines_of-nil in
+    = sym c.self.view_is ∙ ap (λ text. enumerate_from (c.self.inside.given + 1) (lines_of text)) empty
+    ∙ ap (λ lines. enumerate_from (c.self.inside.given + 1) lines) lines_of-nil in
     (all, all)
 
 pub split_at-requires : goal.split_at-requires
@@ -31,7 +31,7 @@ next_is c =
     let len = c.first_length.ensures in
     let first : take (first_line_len text) text ≡ c.split_at.result.0.now = sym (front ∙ ap (λ k. take k text) len) in
     let rest : drop 1 (drop (first_line_len text) text) ≡ c.after_first-self-inside.result.now
-        = sym (after ∙ ap (λ xs. drop 1 xs) (back ∙ ap (λ k. drop k text) len)) in
+    = sym (after ∙ ap (λ xs. drop 1 xs) (back ∙ ap (λ k. drop k text) len)) in
     sym c.self.view_is ∙ ap (λ lines. enumerate_from (c.self.inside.given + 1) lines) is
     ∙ ap (λ line. (c.self.inside.given + 1, line) ∷ enumerate_from (c.self.inside.given + 1 + 1) (lines_of (drop 1 (drop (first_line_len text) text)))) first
     ∙ ap (λ xs. (c.self.inside.given + 1, c.split_at.result.0.now) ∷ enumerate_from (c.self.inside.given + 1 + 1) (lines_of xs)) rest
