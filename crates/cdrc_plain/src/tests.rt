@@ -1,90 +1,15 @@
 //! What no clause says: that the calls succeed with ample memory, and scripts with the counts that
 //! follow from them.
-ghost use Rattle.std.specs.Prelude.{◌≡◌, ◌<◌, IsTrue, length};
-ghost use Rattle.plain_state.specs.declared.slot.Kind.TheVariants.{Strong};
-ghost use Rattle.plain_state.specs.Lists.{times, entry_times};
-ghost use Rattle.plain_state.specs.State.{seat_at};
-ghost use Rattle.plain_state.specs.Places.{Holds};
-ghost use Rattle.plain_store.specs.Heaps.{Owns, OwnsWeakly};
-ghost use Rattle.plain_store.specs.Calls.{HasSnapshot};
 
 use crate::heap::PlainHeap;
+use crate::tests_asks::{cells, has_snapshot, holds, owns_weakly, weak_cells};
 use crate::{
     Hand, PlainPlace, PlainWeakPlace, RecordKind, SlotId, SnapHand, WeakHand, counted, record_of,
 };
-use plain_state::Kind;
-use plain_store::is_of;
 use std::process::Abort;
 use std::test::Fail;
 
 type Records = PlainHeap<RecordKind>;
-
-// Whether the slot stands in the list.
-fn has(list: &[SlotId], slot: SlotId) -> bool
-    ensures { IsTrue result → 0 < times slot list.now }
-{
-    for x in list {
-        if x.0 == slot.0 {
-            return true;
-        }
-    }
-    false
-}
-
-// Whether the entry stands in the list.
-fn has_entry(list: &[(Kind, SlotId)], slot: SlotId) -> bool
-    ensures { IsTrue result → 0 < entry_times Strong slot list.now }
-{
-    for entry in list {
-        if is_of(entry, Kind::Strong, slot) {
-            return true;
-        }
-    }
-    false
-}
-
-// What a call asks of the heap, tested.
-fn owns(heap: &Records, slot: SlotId) -> bool
-    ensures { IsTrue result → Owns heap.now slot }
-{
-    has(&heap.store.owned, slot)
-}
-
-fn owns_weakly(heap: &Records, slot: SlotId) -> bool
-    ensures { IsTrue result → OwnsWeakly heap.now slot }
-{
-    has(&heap.store.weaks, slot)
-}
-
-fn has_snapshot(heap: &Records, s: &SnapHand) -> bool
-    ensures { IsTrue result → HasSnapshot heap.now s.now.0 s.now.1 }
-{
-    if counted(s) {
-        owns(heap, s.slot())
-    } else {
-        has_entry(&heap.store.snapshots, s.slot())
-    }
-}
-
-fn holds(heap: &Records, slot: SlotId) -> bool
-    ensures { IsTrue result → Holds (seat_at heap.now 0) slot }
-{
-    has(&heap.store.owned, slot)
-        || has(&heap.store.weaks, slot)
-        || has_entry(&heap.store.snapshots, slot)
-}
-
-fn cells(heap: &Records) -> usize
-    ensures { result ≡ length heap.now.cells }
-{
-    heap.store.cells.len()
-}
-
-fn weak_cells(heap: &Records) -> usize
-    ensures { result ≡ length heap.now.weak_cells }
-{
-    heap.store.weak_cells.len()
-}
 
 // An object whose payload word 0 is the text's length.
 fn make(rt: &impl Abort, heap: &mut Records, text: &[u8]) -> Hand {
@@ -96,12 +21,12 @@ fn make(rt: &impl Abort, heap: &mut Records, text: &[u8]) -> Hand {
 }
 
 fn copy(rt: &impl Abort, heap: &mut Records, h: &Hand) -> Hand {
-    assert!(rt; owns(heap, h.slot()));
+    assert!(rt; heap.owns(h.slot()));
     heap.copy(h).expect(rt, "a copy")
 }
 
 fn weaken(rt: &impl Abort, heap: &mut Records, h: &Hand) -> WeakHand {
-    assert!(rt; owns(heap, h.slot()));
+    assert!(rt; heap.owns(h.slot()));
     heap.weaken(h).expect(rt, "a weak reference")
 }
 
@@ -138,7 +63,7 @@ fn read(rt: &impl Abort, heap: &Records, slot: SlotId, word: u32) -> u64 {
 fn put(rt: &impl Abort, heap: &mut Records, cell: u32, h: Option<Hand>) {
     assert!(rt; (cell as usize) < cells(heap));
     if let Some(hand) = &h {
-        assert!(rt; owns(heap, hand.slot()));
+        assert!(rt; heap.owns(hand.slot()));
     }
     assert!(rt; heap.put(PlainPlace::Cell(cell), h).is_ok());
 }
@@ -161,25 +86,25 @@ fn load_weak(rt: &impl Abort, heap: &mut Records, cell: u32) -> Option<WeakHand>
 }
 
 fn put_field(rt: &impl Abort, heap: &mut Records, (of, field): (SlotId, u32), h: Hand) {
-    assert!(rt; owns(heap, of) && field < 2);
-    assert!(rt; owns(heap, h.slot()));
+    assert!(rt; heap.owns(of) && field < 2);
+    assert!(rt; heap.owns(h.slot()));
     assert!(rt; heap.put(PlainPlace::Field(of, field), Some(h)).is_ok());
 }
 
 fn load_field(rt: &impl Abort, heap: &mut Records, (of, field): (SlotId, u32)) -> Option<Hand> {
-    assert!(rt; owns(heap, of) && field < 2);
+    assert!(rt; heap.owns(of) && field < 2);
     heap.load(PlainPlace::Field(of, field)).expect(rt, "a load")
 }
 
 fn link_weakly(rt: &impl Abort, heap: &mut Records, of: SlotId, w: WeakHand) {
-    assert!(rt; owns(heap, of));
+    assert!(rt; heap.owns(of));
     assert!(rt; owns_weakly(heap, w.slot()));
     assert!(rt; heap.put_weak(PlainWeakPlace::Field(of), Some(w)).is_ok());
 }
 
 fn replace(rt: &impl Abort, heap: &mut Records, expected: Option<SlotId>, h: Hand) -> bool {
     assert!(rt; 0 < cells(heap));
-    assert!(rt; owns(heap, h.slot()));
+    assert!(rt; heap.owns(h.slot()));
     match heap.replace(PlainPlace::Cell(0), expected, Some(h)) {
         Ok(done) => done,
         Err(_) => panic!(rt; "no memory for a replace"),

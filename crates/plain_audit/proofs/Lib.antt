@@ -1,0 +1,6 @@
+pub mod Numbers
+pub mod Within
+pub mod ImageNumbers
+pub mod ImageLaws
+pub mod Auditing
+pub mod Fieldless

@@ -1,5 +1,5 @@
 //! References that the seat of a store owns: made, counted, given up.
-ghost use Rattle.std.specs.Prelude.{◌≡◌, ◌≢◌, ◌+◌, ◌<◌, ◌≤◌, ◌^◌, ◌↔◌, IfOk, IfSome, OnErr, IfErr, IfNone, IsSome, List, All, ℕ, length, vec_len, slice_index_or, slice_set};
+ghost use Rattle.std.specs.Prelude.{◌≡◌, ◌≢◌, ◌+◌, ◌<◌, ◌≤◌, ◌^◌, ◌↔◌, IfOk, IfSome, OnErr, IfErr, IfNone, IsTrue, List, All, ℕ, length, vec_len, slice_index_or, slice_set};
 ghost use Rattle.plain_state.specs.declared.act.PlainAct.TheVariants as act;
 ghost use Rattle.plain_state.specs.declared.slot.Stage.TheVariants.{Free};
 ghost use Rattle.plain_state.specs.Lists.{times, Loses};
@@ -14,7 +14,10 @@ use crate::refusal::MakeRefused;
 use crate::store::Store;
 use crate::tally::{count_less, count_of};
 use out_of_memory::OutOfMemory;
-use plain_state::{PlainSlot, SlotId, Stage};
+use plain_state::{PlainSlot, SlotId, Stage, ZERO};
+
+/// So many adds are counted: no count of references reaches the zero flag of its word.
+const MOST_ADDS: u64 = ZERO - 2;
 
 /// The first free slot from `from` on.
 fn free_from(slots: &[PlainSlot], from: usize) -> Option<usize>
@@ -31,10 +34,9 @@ fn free_from(slots: &[PlainSlot], from: usize) -> Option<usize>
     None
 }
 
-/// Where `slot` stands last in the list: what was gained last is mostly given up first.
+/// Where `slot` stands last in the list, if it stands there: what was gained last is mostly given up first.
 fn index_of(list: &[SlotId], slot: SlotId) -> Option<usize>
-    requires { 0 < times slot list.now }
-    ensures there { IsSome result }
+    ensures none { IfNone result (times slot list.now ≡ 0) }
     ensures found { IfSome result (λ i. (i < length list.now) × (slice_index_or list.now i slot ≡ slot)) }
 {
     for i in (0..list.len()).rev() {
@@ -86,9 +88,9 @@ impl Store {
 
     /// The adds after one more.
     pub fn next_add(&self) -> Result<u64, OutOfMemory>
-        ensures { IfOk result (λ n. (n ≡ self.now.adds + 1) × (n + 1 < 2 ^ 64)) }
+        ensures { IfOk result (λ n. (n ≡ self.now.adds + 1) × (n + 1 < 2 ^ 63)) }
     {
-        if self.adds < u64::MAX - 1 {
+        if self.adds < MOST_ADDS {
             Ok(self.adds + 1)
         } else {
             Err(OutOfMemory)
@@ -130,6 +132,21 @@ impl Store {
     {
         take_one(&mut self.owned, slot);
         count_less(&mut self.strong, slot);
+    }
+
+    /// Whether the seat owns a reference to the slot.
+    pub fn owns(&self, slot: SlotId) -> bool
+        ensures { IsTrue result ↔ Owns (plain_of self.now) slot }
+    {
+        index_of(&self.owned, slot).is_some()
+    }
+
+    /// How many slots there are.
+    pub fn slot_count(&self) -> u32
+        requires { Kept self.now }
+        ensures { result ≡ length self.now.slots.items }
+    {
+        self.slots.len() as u32
     }
 
     /// The references to a slot, strong and weak.
