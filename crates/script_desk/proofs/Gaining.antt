@@ -31,11 +31,11 @@ module _ (p q : Plain) (w : PlainSeat) (sizes : SameSizes p q) (is : seat_at q 0
       → ((s : SlotId) → entry_times kind.Weak s w.snapshots ≡ entry_times kind.Weak s (seat_at p 0).snapshots)
       → HasMore p h q
   has_more h owned weaks snapshots weak_snapshots = record {
-        sizes = sizes;
-        owned = λ s. ap (λ (v : PlainSeat). times s v.owned) is ∙ owned s;
-        weaks = λ s. ap (λ (v : PlainSeat). times s v.weaks) is ∙ weaks s;
-        snapshots = λ s. ap (λ (v : PlainSeat). entry_times kind.Strong s v.snapshots) is ∙ snapshots s;
-        weak_snapshots = λ s. ap (λ (v : PlainSeat). entry_times kind.Weak s v.snapshots) is ∙ weak_snapshots s;
+    sizes = sizes;
+    owned = λ s. ap (λ (v : PlainSeat). times s v.owned) is ∙ owned s;
+    weaks = λ s. ap (λ (v : PlainSeat). times s v.weaks) is ∙ weaks s;
+    snapshots = λ s. ap (λ (v : PlainSeat). entry_times kind.Strong s v.snapshots) is ∙ snapshots s;
+    weak_snapshots = λ s. ap (λ (v : PlainSeat). entry_times kind.Weak s v.snapshots) is ∙ weak_snapshots s;
   }
 
   -- or a handle fewer
@@ -46,11 +46,11 @@ module _ (p q : Plain) (w : PlainSeat) (sizes : SameSizes p q) (is : seat_at q 0
       → ((s : SlotId) → entry_times kind.Weak s w.snapshots ≡ entry_times kind.Weak s (seat_at p 0).snapshots)
       → HasMore q h p
   has_fewer h owned weaks snapshots weak_snapshots = record {
-        sizes = record { slots = sym sizes.slots; cells = sym sizes.cells; weak_cells = sym sizes.weak_cells };
-        owned = λ s. let a = ap (λ (v : PlainSeat). times s v.owned) is in omega (arith, owned s);
-        weaks = λ s. let a = ap (λ (v : PlainSeat). times s v.weaks) is in omega (arith, weaks s);
-        snapshots = λ s. let a = ap (λ (v : PlainSeat). entry_times kind.Strong s v.snapshots) is in omega (arith, snapshots s);
-        weak_snapshots = λ s. let a = ap (λ (v : PlainSeat). entry_times kind.Weak s v.snapshots) is in omega (arith, weak_snapshots s);
+    sizes = record { slots = sym sizes.slots; cells = sym sizes.cells; weak_cells = sym sizes.weak_cells };
+    owned = λ s. let a = ap (λ (v : PlainSeat). times s v.owned) is in omega (arith, owned s);
+    weaks = λ s. let a = ap (λ (v : PlainSeat). times s v.weaks) is in omega (arith, weaks s);
+    snapshots = λ s. let a = ap (λ (v : PlainSeat). entry_times kind.Strong s v.snapshots) is in omega (arith, snapshots s);
+    weak_snapshots = λ s. let a = ap (λ (v : PlainSeat). entry_times kind.Weak s v.snapshots) is in omega (arith, weak_snapshots s);
   }
 
 -- one owned reference more, for a strong handle or a counted snapshot

@@ -25,6 +25,7 @@ mapped_all f xs i ys le e = e ∙ ap (map f) (take_all i xs le)
 module _ (p : Plain) (names : Names) (made : List Maker) (makes strong weak : ℕ) (k : Kept p names made strong weak) (d : Desk) (is : desk_of p names made makes ≡ d) where
   pub are_ranks : (ranks : List ℕ) → ranks ≡ map number_of made → AreRanks d ranks
   are_ranks ranks e =
-      subst (λ (x : Desk). AreRanks x ranks) is
-      (ap length e ∙ length-map made number_of ∙ k.makers,
-      λ s lt. ap (λ (l : List ℕ). slice_index l s.0) e ∙ get_or-map number_of made s.0 nobody 0 (omega (arith, k.makers)))
+      subst (λ (x : Desk). AreRanks x ranks) is (
+        ap length e ∙ length-map made number_of ∙ k.makers,
+        λ s lt. ap (λ (l : List ℕ). slice_index l s.0) e ∙ get_or-map number_of made s.0 nobody 0 (omega (arith, k.makers)),
+      )

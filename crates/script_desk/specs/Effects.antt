@@ -26,13 +26,16 @@ use Rattle.script_desk.specs.Audits.{AnswersAudit}
 abbrev pub IsPlace : Desk → TextPlace → EventPlace → Type 0
 IsPlace d (text.Cell i) place = place ≡ Cell i
 IsPlace d (text.WeakCell i) place = place ≡ WeakCell i
-IsPlace d (text.Field name i) place = (h : Handle) × (bound d.names name ≡ Some h) × (place ≡ Field (slot_of h) i)
-IsPlace d (text.WeakField name) place = (h : Handle) × (bound d.names name ≡ Some h) × (place ≡ WeakField (slot_of h))
+IsPlace d (text.Field name i) place =
+    (h : Handle) × (bound d.names name ≡ Some h) × (place ≡ Field (slot_of h) i)
+IsPlace d (text.WeakField name) place =
+    (h : Handle) × (bound d.names name ≡ Some h) × (place ≡ WeakField (slot_of h))
 
 -- the slot that a name or `null` stands for
 abbrev pub IsSlotOf : Desk → Option (List ℕ) → Option SlotId → Type 0
 IsSlotOf d None slot = slot ≡ None
-IsSlotOf d (Some name) slot = (h : Handle) × (bound d.names name ≡ Some h) × (slot ≡ Some (slot_of h))
+IsSlotOf d (Some name) slot =
+    (h : Handle) × (bound d.names name ≡ Some h) × (slot ≡ Some (slot_of h))
 
 -- the name is bound to h now; no slot was made
 abbrev pub Gets : Desk → List ℕ → Handle → Desk → Type 0
@@ -84,7 +87,8 @@ GivesNew d None e = Keeps d e
 GivesNew d (Some name) e = Gives d name e
 
 -- a place is replaced where it holds what is expected
-abbrev pub ReplacesOne : Desk → EventPlace → Option SlotId → Option SlotId → Option (List ℕ) → Said → Desk → Type 0
+abbrev pub ReplacesOne : Desk → EventPlace → Option SlotId → Option SlotId → Option (List ℕ) → Said → Desk
+    → Type 0
 ReplacesOne d place old slot new answer e =
     ((answer ≡ said.Done) × Tries d.plain place old slot true e.plain × GivesNew d new e)
     ⊎ ((answer ≡ said.Lost) × Tries d.plain place old slot false e.plain × Keeps d e)
@@ -105,19 +109,24 @@ abbrev pub Acts : Desk → Command → Said → Desk → Type 0
 Acts d (command.Make name weight) answer e = MakesOne d name weight answer e
 Acts d (command.Copy name new) answer e =
     (answer ≡ said.Nothing)
-    × ((s : SlotId) × (bound d.names name ≡ Some (Strong s)) × Gains d.plain s s e.plain × Gets d new (Strong s) e)
+    × ((s : SlotId) × (bound d.names name ≡ Some (Strong s))
+    × Gains d.plain s s e.plain × Gets d new (Strong s) e)
 Acts d (command.Drop name) answer e =
     (answer ≡ said.Nothing)
-    × ((s : SlotId) × (bound d.names name ≡ Some (Strong s)) × Does d.plain 0 (act.Drop s) 0 e.plain × Gives d name e)
+    × ((s : SlotId) × (bound d.names name ≡ Some (Strong s))
+    × Does d.plain 0 (act.Drop s) 0 e.plain × Gives d name e)
 Acts d (command.Weaken name new) answer e =
     (answer ≡ said.Nothing)
-    × ((s : SlotId) × (bound d.names name ≡ Some (Strong s)) × WeaklyGains d.plain s s e.plain × Gets d new (Weak s) e)
+    × ((s : SlotId) × (bound d.names name ≡ Some (Strong s))
+    × WeaklyGains d.plain s s e.plain × Gets d new (Weak s) e)
 Acts d (command.CopyWeak name new) answer e =
     (answer ≡ said.Nothing)
-    × ((s : SlotId) × (bound d.names name ≡ Some (Weak s)) × WeaklyGains d.plain s s e.plain × Gets d new (Weak s) e)
+    × ((s : SlotId) × (bound d.names name ≡ Some (Weak s))
+    × WeaklyGains d.plain s s e.plain × Gets d new (Weak s) e)
 Acts d (command.DropWeak name) answer e =
     (answer ≡ said.Nothing)
-    × ((s : SlotId) × (bound d.names name ≡ Some (Weak s)) × Does d.plain 0 (act.WeakDrop s) 0 e.plain × Gives d name e)
+    × ((s : SlotId) × (bound d.names name ≡ Some (Weak s))
+    × Does d.plain 0 (act.WeakDrop s) 0 e.plain × Gives d name e)
 Acts d (command.Upgrade name new) answer e =
     (s : SlotId) × (bound d.names name ≡ Some (Weak s)) × UpgradesOne d s new answer e
 Acts d (command.Put place name) answer e =
@@ -147,7 +156,8 @@ Acts d (command.Read name word) answer e =
     × (answer ≡ said.Word (slice_index (slot_at d.plain (slot_of h)).payload word)) × (e ≡ d)
 Acts d (command.Counts name) answer e =
     (h : Handle) × (bound d.names name ≡ Some h)
-    × (answer ≡ said.Counts (strong_refs d.plain (slot_of h)) (weak_refs d.plain (slot_of h))) × (e ≡ d)
+    × (answer ≡ said.Counts (strong_refs d.plain (slot_of h)) (weak_refs d.plain (slot_of h)))
+    × (e ≡ d)
 Acts d command.Audit answer e = AnswersAudit d answer × (e ≡ d)
 
 -- the same, and then the heap settles

@@ -70,7 +70,8 @@ needs (command.Upgrade name new) = (name, is_weak) ∷ []
 needs (command.Put place name) = place_needs place ++ (name, taken_by place) ∷ []
 needs (command.Clear place) = place_needs place
 needs (command.Load place new) = place_needs place
-needs (command.Replace place old new) = place_needs place ++ (need_of old is_firm ++ need_of new is_strong)
+needs (command.Replace place old new) =
+    place_needs place ++ (need_of old is_firm ++ need_of new is_strong)
 needs (command.Snap place new) = place_needs place
 needs (command.EndSnapshot name) = (name, is_snapshot) ∷ []
 needs (command.Keep name new) = (name, is_snapshot) ∷ []

@@ -15,7 +15,8 @@ use Rattle.script_desk.specs.Desks.{Maker, Names}
 use Rattle.script_desk.specs.declared.handle.Handle.{Handle}
 use Rattle.script_desk.specs.declared.handle.Handle.TheVariants.{Strong, Weak, Snapshot}
 
--- how often s stands in the owned list for the handle: once for a strong one of s, and for a counted snapshot
+-- how often s stands in the owned list for the handle: once for a strong one of s, and once for a
+-- counted snapshot
 abbrev pub owned_by : SlotId → Handle → ℕ
 owned_by s (Strong t) = held_in s (Some t)
 owned_by s (Weak t) = 0
@@ -64,13 +65,16 @@ pub record SameSizes (p q : Plain) : Type 0 where
 -- in q the seat has what it has in p, and what this handle needs
 pub record HasMore (p : Plain) (h : Handle) (q : Plain) : Type 0 where
   pub sizes : SameSizes p q
-  pub owned : (s : SlotId) → times s (seat_at q 0).owned ≡ times s (seat_at p 0).owned + owned_by s h
-  pub weaks : (s : SlotId) → times s (seat_at q 0).weaks ≡ times s (seat_at p 0).weaks + weakly_owned_by s h
+  pub owned : (s : SlotId) →
+      times s (seat_at q 0).owned ≡ times s (seat_at p 0).owned + owned_by s h
+  pub weaks : (s : SlotId) →
+      times s (seat_at q 0).weaks ≡ times s (seat_at p 0).weaks + weakly_owned_by s h
   pub snapshots : (s : SlotId) →
       entry_times kind.Strong s (seat_at q 0).snapshots
       ≡ entry_times kind.Strong s (seat_at p 0).snapshots + announced_by s h
   pub weak_snapshots : (s : SlotId) →
-      entry_times kind.Weak s (seat_at q 0).snapshots ≡ entry_times kind.Weak s (seat_at p 0).snapshots
+      entry_times kind.Weak s (seat_at q 0).snapshots
+      ≡ entry_times kind.Weak s (seat_at p 0).snapshots
 
 -- in q the seat has what it has in p
 pub record HasSame (p q : Plain) : Type 0 where
@@ -78,16 +82,18 @@ pub record HasSame (p q : Plain) : Type 0 where
   pub owned : (s : SlotId) → times s (seat_at q 0).owned ≡ times s (seat_at p 0).owned
   pub weaks : (s : SlotId) → times s (seat_at q 0).weaks ≡ times s (seat_at p 0).weaks
   pub snapshots : (s : SlotId) →
-      entry_times kind.Strong s (seat_at q 0).snapshots ≡ entry_times kind.Strong s (seat_at p 0).snapshots
+      entry_times kind.Strong s (seat_at q 0).snapshots
+      ≡ entry_times kind.Strong s (seat_at p 0).snapshots
   pub weak_snapshots : (s : SlotId) →
-      entry_times kind.Weak s (seat_at q 0).snapshots ≡ entry_times kind.Weak s (seat_at p 0).snapshots
+      entry_times kind.Weak s (seat_at q 0).snapshots
+      ≡ entry_times kind.Weak s (seat_at p 0).snapshots
 
 -- whatever a handle counts for, the second list counts for the handle more
 abbrev pub CountsMore : List Handle → Handle → List Handle → Type 0
 CountsMore old handle new = (f : Handle → ℕ) → sum_by f new ≡ sum_by f old + f handle
 
--- What a desk keeps: the seat has just what the bound handles need, each slot has a maker, and the numbers of cells are
--- those of the heap.
+-- What a desk keeps: the seat has just what the bound handles need, each slot has a maker, and the
+-- numbers of cells are those of the heap.
 pub record Kept (p : Plain) (names : Names) (made : List Maker) (strong weak : ℕ) : Type 0 where
   pub holds : HoldsFor p (values_of names)
   pub makers : length made ≡ length p.slots

@@ -65,7 +65,8 @@ pub(crate) fn keep_snapshot(
     requires snapshot { IsSomeAnd (bound names.now name.now) (λ h. is_snapshot h ≡ true) }
     requires has { IfSome (bound names.now name.now) (HasHandle heap.old) }
     ensures gains { IfOk result (λ hand. (s : SlotId) × (counted : Bool)
-        × (bound names.now name.now ≡ Some (Snapshot (s, counted))) × Gains heap.old s hand heap.new) }
+        × (bound names.now name.now ≡ Some (Snapshot (s, counted)))
+        × Gains heap.old s hand heap.new) }
     ensures err { OnErr result (heap.new ≡ heap.old) }
 {
     match names.get(name) {

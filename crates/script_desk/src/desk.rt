@@ -26,10 +26,10 @@ impl Model for Desk {
     ghost Value = { DeskState };
 
     ghost view = { λ d. record {
-        plain = d.heap;
-        names = d.names;
-        makers = d.makers.items;
-        makes = d.makes;
+      plain = d.heap;
+      names = d.names;
+      makers = d.makers.items;
+      makes = d.makes;
     } };
 
     ghost invariant = { λ d. Kept d.heap d.names d.makers.items d.cells d.weak_cells };

@@ -23,7 +23,11 @@ fn is_weak_place(place: &TextPlace) -> bool
 fn taken_by(place: &TextPlace) -> Wanted
     ensures { admitted result ≡ taken_by place.now }
 {
-    if is_weak_place(place) { Wanted::Weak } else { Wanted::Strong }
+    if is_weak_place(place) {
+        Wanted::Weak
+    } else {
+        Wanted::Strong
+    }
 }
 
 /// The name that the command binds, if it binds one.
@@ -110,7 +114,8 @@ impl Desk {
 
     /// Whether there is a name, and it isn't bound.
     fn lacks(&self, name: &Option<Name>) -> bool
-        ensures { (kind : Handle → Bool) → IsTrue result ↔ Any (IsMissing self.now) (need_of name.now kind) }
+        ensures { (kind : Handle → Bool) →
+            IsTrue result ↔ Any (IsMissing self.now) (need_of name.now kind) }
     {
         match name {
             Some(name) => self.is_missing(name),
@@ -207,7 +212,8 @@ impl Desk {
         ensures { IsTrue result ↔ Any (IsOther self.now) (needs command.now) }
     {
         match command {
-            Command::Make(_, _) | Command::Read(_, _) | Command::Counts(_) | Command::Audit => false,
+            Command::Make(_, _) | Command::Read(_, _) | Command::Counts(_) | Command::Audit =>
+                false,
             Command::Copy(name, _) | Command::Drop(name) | Command::Weaken(name, _) => {
                 self.is_other(name, Wanted::Strong)
             }

@@ -34,7 +34,13 @@ impl Desk {
             Err(MakeRefused::OutOfMemory) => return Err(OutOfMemory),
         };
         let slot = hand.slot();
-        bind(self.alloc, &mut self.heap, &mut self.names, name, Handle::Strong(hand))?;
+        bind(
+            self.alloc,
+            &mut self.heap,
+            &mut self.names,
+            name,
+            Handle::Strong(hand),
+        )?;
         self.makers[slot.0 as usize] = maker;
         self.makes = makes;
         Ok(Said::Made)

@@ -53,7 +53,11 @@ impl NameTable {
         };
         match self.map.insert(key, handle) {
             Ok(_none) => Ok(()),
-            Err(AllocFailed { value: (_key, back) }) => Err(Back { back }),
+            Err(
+                AllocFailed {
+                    value: (_key, back),
+                },
+            ) => Err(Back { back }),
         }
     }
 
@@ -61,14 +65,16 @@ impl NameTable {
     pub fn unbind(&mut self, name: &Name) -> Option<Handle>
         ensures was { result ≡ bound self.old name.now }
         ensures binds { Binds self.old name.now None self.new }
-        ensures fewer { IfSome result (λ handle. CountsMore (values_of self.new) handle (values_of self.old)) }
+        ensures fewer { IfSome result (λ handle.
+            CountsMore (values_of self.new) handle (values_of self.old)) }
     {
         self.map.remove(name.as_str())
     }
 
     /// The same for a name, if there is one.
     pub fn unbind_if_some(&mut self, name: &Option<Name>)
-        ensures binds { MatchOption name.now (self.new ≡ self.old) (λ name. Binds self.old name None self.new) }
+        ensures binds { MatchOption name.now (self.new ≡ self.old)
+            (λ name. Binds self.old name None self.new) }
         ensures fewer { IfSome (option_and_then (bound self.old) name.now) (λ handle.
             CountsMore (values_of self.new) handle (values_of self.old)) }
     {

@@ -5,11 +5,11 @@ ghost use Rattle.plain_state.specs.State.{empty};
 ghost use Rattle.plain_store.specs.Settling.{IsSettled};
 ghost use Rattle.script_desk.specs.Desks.{nobody, maker_of, without_handles};
 
+use crate::binding::give_up;
 use crate::desk::Desk;
 use crate::kind::ScriptKind;
 use crate::maker::Make;
 use crate::names::NameTable;
-use crate::binding::give_up;
 use cdrc_plain::PlainHeap;
 use out_of_memory::OutOfMemory;
 use std::alloc::Global;
@@ -32,12 +32,7 @@ fn no_makers(alloc: Global, slots: u32) -> Result<Vec<Make>, OutOfMemory>
 impl Desk {
     /// A desk with an empty heap and no names: 1 to 4,194,304 slots, at most 65,536 strong cells and 4,194,304 weak
     /// ones. Linear in them.
-    pub fn open(
-        alloc: Global,
-        slots: u32,
-        cells: u32,
-        weak_cells: u32,
-    ) -> Result<Desk, OutOfMemory>
+    pub fn open(alloc: Global, slots: u32, cells: u32, weak_cells: u32) -> Result<Desk, OutOfMemory>
         requires slots { (1 ≤ slots) × (slots ≤ 4194304) }
         requires cells { cells ≤ 65536 }
         requires weak_cells { weak_cells ≤ 4194304 }

@@ -1,6 +1,6 @@
 //! The places of the heap that a script names.
-use cdrc_plain::PlainHeap;
 use crate::kind::ScriptKind;
+use cdrc_plain::PlainHeap;
 use out_of_memory::OutOfMemory;
 use plain_state::SlotId;
 use plain_store::{Hand, PlainPlace, PlainWeakPlace, WeakHand};

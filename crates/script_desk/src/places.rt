@@ -68,7 +68,13 @@ impl Desk {
         let Some(hand) = self.heap.load(at)? else {
             return Ok(Said::Null);
         };
-        bind(self.alloc, &mut self.heap, &mut self.names, new, Handle::Strong(hand))?;
+        bind(
+            self.alloc,
+            &mut self.heap,
+            &mut self.names,
+            new,
+            Handle::Strong(hand),
+        )?;
         Ok(Said::Loaded)
     }
 
@@ -81,7 +87,13 @@ impl Desk {
         let Some(hand) = self.heap.load_weak(at)? else {
             return Ok(Said::Null);
         };
-        bind(self.alloc, &mut self.heap, &mut self.names, new, Handle::Weak(hand))?;
+        bind(
+            self.alloc,
+            &mut self.heap,
+            &mut self.names,
+            new,
+            Handle::Weak(hand),
+        )?;
         Ok(Said::Loaded)
     }
 

@@ -27,7 +27,13 @@ impl Desk {
     {
         let slot = self.strong_slot(name);
         let hand = self.heap.copy(&Hand::of(slot))?;
-        bind(self.alloc, &mut self.heap, &mut self.names, new, Handle::Strong(hand))?;
+        bind(
+            self.alloc,
+            &mut self.heap,
+            &mut self.names,
+            new,
+            Handle::Strong(hand),
+        )?;
         Ok(Said::Nothing)
     }
 
@@ -40,7 +46,13 @@ impl Desk {
     {
         let slot = self.strong_slot(name);
         let hand = self.heap.weaken(&Hand::of(slot))?;
-        bind(self.alloc, &mut self.heap, &mut self.names, new, Handle::Weak(hand))?;
+        bind(
+            self.alloc,
+            &mut self.heap,
+            &mut self.names,
+            new,
+            Handle::Weak(hand),
+        )?;
         Ok(Said::Nothing)
     }
 
@@ -53,7 +65,13 @@ impl Desk {
     {
         let slot = self.weak_slot(name);
         let hand = self.heap.copy_weak(&WeakHand::of(slot))?;
-        bind(self.alloc, &mut self.heap, &mut self.names, new, Handle::Weak(hand))?;
+        bind(
+            self.alloc,
+            &mut self.heap,
+            &mut self.names,
+            new,
+            Handle::Weak(hand),
+        )?;
         Ok(Said::Nothing)
     }
 
@@ -68,7 +86,13 @@ impl Desk {
         let Some(hand) = self.heap.upgrade(&WeakHand::of(slot))? else {
             return Ok(Said::Dead);
         };
-        bind(self.alloc, &mut self.heap, &mut self.names, new, Handle::Strong(hand))?;
+        bind(
+            self.alloc,
+            &mut self.heap,
+            &mut self.names,
+            new,
+            Handle::Strong(hand),
+        )?;
         Ok(Said::Up)
     }
 

@@ -37,7 +37,13 @@ impl Desk {
         } else {
             Said::Snapped
         };
-        bind(self.alloc, &mut self.heap, &mut self.names, new, Handle::Snapshot(hand))?;
+        bind(
+            self.alloc,
+            &mut self.heap,
+            &mut self.names,
+            new,
+            Handle::Snapshot(hand),
+        )?;
         Ok(said)
     }
 
@@ -49,7 +55,13 @@ impl Desk {
             Acts self.old (command.Keep name.now new.now) answer self.new) }
     {
         let hand = keep_snapshot(&mut self.heap, &self.names, name)?;
-        bind(self.alloc, &mut self.heap, &mut self.names, new, Handle::Strong(hand))?;
+        bind(
+            self.alloc,
+            &mut self.heap,
+            &mut self.names,
+            new,
+            Handle::Strong(hand),
+        )?;
         Ok(Said::Nothing)
     }
 }

@@ -6,8 +6,7 @@ use Rattle.script_desk.proofs.desk.Desk.slot.Goals as goal
 pub returns : goal.returns
 returns c =
     let known : bound c.args.self.now.names c.args.name.now ≡ Some c.in-Some.handle.now
-    = ap (λ (d : Desk). bound d.names c.args.name.now) (sym c.self.view_is) ∙ sym c.get.ensures ∙ ap option_copied c.in-Some.is in
-    (
+    = ap (λ (d : Desk). bound d.names c.args.name.now) (sym c.self.view_is) ∙ sym c.get.ensures ∙ ap option_copied c.in-Some.is in (
       c.in-Some.handle.now,
       known,
       c.slot.ensures,
