@@ -4,13 +4,8 @@ use Rattle.plain_store.specs.Heaps.{Owns}
 use Rattle.script_desk.specs.declared.handle.Handle.TheVariants.{Strong}
 use Rattle.script_desk.proofs.Sums.{has_more}
 use Rattle.script_desk.proofs.Gaining.{gains_more}
-use Rattle.script_desk.proofs.Naming.{has_known, kept_bound, kept_undone}
+use Rattle.script_desk.proofs.Naming.{kept_bound, kept_undone}
 use Rattle.script_desk.proofs.desk.Desk.copy.Goals as goal
-
-pub copy-requires : goal.copy-requires
-copy-requires c =
-    subst (λ (s : SlotId). Owns c.self.inside.heap s) (sym c.of.ensures)
-    (has_known _ _ _ _ _ _ c.self.invariant _ c.self.view_is c.args.name.now (Strong c.strong_slot-slot.result) c.strong_slot-slot.ensures.is)
 
 pub bind-requires-clause-has : goal.bind-requires-clause-has
 bind-requires-clause-has c = has_more _ c.copy.new.self (Strong c.in_ok-hand.hand) (gains_more _ _ _ _ c.in_ok-hand.ensures.gains)

@@ -4,13 +4,8 @@ use Rattle.plain_store.specs.Heaps.{Owns}
 use Rattle.script_desk.specs.declared.handle.Handle.TheVariants.{Strong, Weak}
 use Rattle.script_desk.proofs.Sums.{has_more}
 use Rattle.script_desk.proofs.Gaining.{weakly_gains_more}
-use Rattle.script_desk.proofs.Naming.{has_known, kept_bound, kept_undone}
+use Rattle.script_desk.proofs.Naming.{kept_bound, kept_undone}
 use Rattle.script_desk.proofs.desk.Desk.weaken.Goals as goal
-
-pub weaken-requires : goal.weaken-requires
-weaken-requires c =
-    subst (λ (s : SlotId). Owns c.self.inside.heap s) (sym c.of.ensures)
-    (has_known _ _ _ _ _ _ c.self.invariant _ c.self.view_is c.args.name.now (Strong c.strong_slot-slot.result) c.strong_slot-slot.ensures.is)
 
 pub bind-requires-clause-has : goal.bind-requires-clause-has
 bind-requires-clause-has c = has_more _ c.weaken.new.self (Weak c.in_ok-hand.hand) (weakly_gains_more _ _ _ _ c.in_ok-hand.ensures.gains)
