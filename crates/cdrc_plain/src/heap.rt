@@ -1,5 +1,5 @@
 //! The slow heap of one seat: every call is the plain steps of its row, and nothing else.
-ghost use Rattle.std.specs.Prelude.{◌≡◌, ◌+◌, ◌<◌, ◌≤◌, ◌↔◌, IfOk, OnErr, length};
+ghost use Rattle.std.specs.Prelude.{◌≡◌, ◌+◌, ◌<◌, ◌≤◌, ◌↔◌, IfOk, OnErr, IsTrue, length};
 ghost use Rattle.plain_state.specs.declared.act.PlainAct.TheVariants as act;
 ghost use Rattle.plain_state.specs.declared.slot.SlotId.{SlotId};
 ghost use Rattle.plain_state.specs.State.{Plain, empty, seat_at};
@@ -76,6 +76,20 @@ impl<W: PayloadKind> PlainHeap<W> {
         let slot = hand.slot();
         self.store.drop_owned(slot);
         self.restless = self.restless.also(slot);
+    }
+
+    /// Whether the seat owns a reference to the slot. Linear in the references that are owned.
+    pub fn owns(&self, slot: SlotId) -> bool
+        ensures { IsTrue result ↔ Owns self.now slot }
+    {
+        self.store.owns(slot)
+    }
+
+    /// How many slots there are, 1 to 4,194,304. Constant.
+    pub fn slots(&self) -> u32
+        ensures { result ≡ length self.now.slots }
+    {
+        self.store.slot_count()
     }
 
     /// The strong and the weak references to the slot: what seats own, what places hold and what is deferred.

@@ -2,7 +2,7 @@
 //! follow from them.
 
 use crate::heap::PlainHeap;
-use crate::tests_asks::{cells, has_snapshot, holds, owns, owns_weakly, weak_cells};
+use crate::tests_asks::{cells, has_snapshot, holds, owns_weakly, weak_cells};
 use crate::{
     Hand, PlainPlace, PlainWeakPlace, RecordKind, SlotId, SnapHand, WeakHand, counted, record_of,
 };
@@ -21,12 +21,12 @@ fn make(rt: &impl Abort, heap: &mut Records, text: &[u8]) -> Hand {
 }
 
 fn copy(rt: &impl Abort, heap: &mut Records, h: &Hand) -> Hand {
-    assert!(rt; owns(heap, h.slot()));
+    assert!(rt; heap.owns(h.slot()));
     heap.copy(h).expect(rt, "a copy")
 }
 
 fn weaken(rt: &impl Abort, heap: &mut Records, h: &Hand) -> WeakHand {
-    assert!(rt; owns(heap, h.slot()));
+    assert!(rt; heap.owns(h.slot()));
     heap.weaken(h).expect(rt, "a weak reference")
 }
 
@@ -63,7 +63,7 @@ fn read(rt: &impl Abort, heap: &Records, slot: SlotId, word: u32) -> u64 {
 fn put(rt: &impl Abort, heap: &mut Records, cell: u32, h: Option<Hand>) {
     assert!(rt; (cell as usize) < cells(heap));
     if let Some(hand) = &h {
-        assert!(rt; owns(heap, hand.slot()));
+        assert!(rt; heap.owns(hand.slot()));
     }
     assert!(rt; heap.put(PlainPlace::Cell(cell), h).is_ok());
 }
@@ -86,25 +86,25 @@ fn load_weak(rt: &impl Abort, heap: &mut Records, cell: u32) -> Option<WeakHand>
 }
 
 fn put_field(rt: &impl Abort, heap: &mut Records, (of, field): (SlotId, u32), h: Hand) {
-    assert!(rt; owns(heap, of) && field < 2);
-    assert!(rt; owns(heap, h.slot()));
+    assert!(rt; heap.owns(of) && field < 2);
+    assert!(rt; heap.owns(h.slot()));
     assert!(rt; heap.put(PlainPlace::Field(of, field), Some(h)).is_ok());
 }
 
 fn load_field(rt: &impl Abort, heap: &mut Records, (of, field): (SlotId, u32)) -> Option<Hand> {
-    assert!(rt; owns(heap, of) && field < 2);
+    assert!(rt; heap.owns(of) && field < 2);
     heap.load(PlainPlace::Field(of, field)).expect(rt, "a load")
 }
 
 fn link_weakly(rt: &impl Abort, heap: &mut Records, of: SlotId, w: WeakHand) {
-    assert!(rt; owns(heap, of));
+    assert!(rt; heap.owns(of));
     assert!(rt; owns_weakly(heap, w.slot()));
     assert!(rt; heap.put_weak(PlainWeakPlace::Field(of), Some(w)).is_ok());
 }
 
 fn replace(rt: &impl Abort, heap: &mut Records, expected: Option<SlotId>, h: Hand) -> bool {
     assert!(rt; 0 < cells(heap));
-    assert!(rt; owns(heap, h.slot()));
+    assert!(rt; heap.owns(h.slot()));
     match heap.replace(PlainPlace::Cell(0), expected, Some(h)) {
         Ok(done) => done,
         Err(_) => panic!(rt; "no memory for a replace"),

@@ -4,7 +4,7 @@ ghost use Rattle.plain_state.specs.declared.slot.Kind.TheVariants.{Strong};
 ghost use Rattle.plain_state.specs.Lists.{times, entry_times};
 ghost use Rattle.plain_state.specs.State.{seat_at};
 ghost use Rattle.plain_state.specs.Places.{Holds};
-ghost use Rattle.plain_store.specs.Heaps.{Owns, OwnsWeakly};
+ghost use Rattle.plain_store.specs.Heaps.{OwnsWeakly};
 ghost use Rattle.plain_store.specs.Calls.{HasSnapshot};
 
 use crate::heap::PlainHeap;
@@ -36,12 +36,6 @@ fn has_entry(list: &[(Kind, SlotId)], slot: SlotId) -> bool
     false
 }
 
-pub(crate) fn owns<W: PayloadKind>(heap: &PlainHeap<W>, slot: SlotId) -> bool
-    ensures { IsTrue result → Owns heap.now slot }
-{
-    has(&heap.store.owned, slot)
-}
-
 pub(crate) fn owns_weakly<W: PayloadKind>(heap: &PlainHeap<W>, slot: SlotId) -> bool
     ensures { IsTrue result → OwnsWeakly heap.now slot }
 {
@@ -52,7 +46,7 @@ pub(crate) fn has_snapshot<W: PayloadKind>(heap: &PlainHeap<W>, s: &SnapHand) ->
     ensures { IsTrue result → HasSnapshot heap.now s.now.0 s.now.1 }
 {
     if counted(s) {
-        owns(heap, s.slot())
+        heap.owns(s.slot())
     } else {
         has_entry(&heap.store.snapshots, s.slot())
     }

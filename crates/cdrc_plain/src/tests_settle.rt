@@ -3,7 +3,7 @@
 ghost use Rattle.std.specs.Prelude.{◌≡◌, ◌≤◌, ◌^◌, slice_index};
 
 use crate::heap::PlainHeap;
-use crate::tests_asks::{cells, owns};
+use crate::tests_asks::cells;
 use crate::{Hand, PlainPlace, SlotId};
 use plain_state::PayloadKind;
 use plain_store::MakeRefused;
@@ -78,21 +78,21 @@ fn make(rt: &impl Abort, heap: &mut PlainHeap<Weighed>, weight: u64) -> Hand {
 }
 
 fn drop_hand(rt: &impl Abort, heap: &mut PlainHeap<Weighed>, hand: Hand) {
-    assert!(rt; owns(heap, hand.slot()));
+    assert!(rt; heap.owns(hand.slot()));
     heap.drop_hand(hand);
 }
 
 /// The first field of a slot holds the reference.
 fn link(rt: &impl Abort, heap: &mut PlainHeap<Weighed>, of: SlotId, hand: Hand) {
-    assert!(rt; owns(heap, of));
-    assert!(rt; owns(heap, hand.slot()));
+    assert!(rt; heap.owns(of));
+    assert!(rt; heap.owns(hand.slot()));
     assert!(rt; heap.put(PlainPlace::Field(of, 0), Some(hand)).is_ok());
 }
 
 /// The first cell holds the reference.
 fn put(rt: &impl Abort, heap: &mut PlainHeap<Weighed>, hand: Hand) {
     assert!(rt; 0 < cells(heap));
-    assert!(rt; owns(heap, hand.slot()));
+    assert!(rt; heap.owns(hand.slot()));
     assert!(rt; heap.put(PlainPlace::Cell(0), Some(hand)).is_ok());
 }
 

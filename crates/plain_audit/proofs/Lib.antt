@@ -3,3 +3,4 @@ pub mod Within
 pub mod ImageNumbers
 pub mod ImageLaws
 pub mod Auditing
+pub mod Fieldless

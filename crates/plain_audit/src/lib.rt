@@ -17,6 +17,10 @@
 #![tactic(auto)]
 
 mod audits;
+mod laws;
+#[cfg(test)]
+mod tests;
 
 pub use audits::audit_heap;
 pub use heap_audit::Audit;
+pub use laws::only_fields_make_cycles;

@@ -1,5 +1,5 @@
 //! References that the seat of a store owns: made, counted, given up.
-ghost use Rattle.std.specs.Prelude.{◌≡◌, ◌≢◌, ◌+◌, ◌<◌, ◌≤◌, ◌^◌, ◌↔◌, IfOk, IfSome, OnErr, IfErr, IfNone, IsSome, List, All, ℕ, length, vec_len, slice_index_or, slice_set};
+ghost use Rattle.std.specs.Prelude.{◌≡◌, ◌≢◌, ◌+◌, ◌<◌, ◌≤◌, ◌^◌, ◌↔◌, IfOk, IfSome, OnErr, IfErr, IfNone, IsTrue, List, All, ℕ, length, vec_len, slice_index_or, slice_set};
 ghost use Rattle.plain_state.specs.declared.act.PlainAct.TheVariants as act;
 ghost use Rattle.plain_state.specs.declared.slot.Stage.TheVariants.{Free};
 ghost use Rattle.plain_state.specs.Lists.{times, Loses};
@@ -34,10 +34,9 @@ fn free_from(slots: &[PlainSlot], from: usize) -> Option<usize>
     None
 }
 
-/// Where `slot` stands last in the list: what was gained last is mostly given up first.
+/// Where `slot` stands last in the list, if it stands there: what was gained last is mostly given up first.
 fn index_of(list: &[SlotId], slot: SlotId) -> Option<usize>
-    requires { 0 < times slot list.now }
-    ensures there { IsSome result }
+    ensures none { IfNone result (times slot list.now ≡ 0) }
     ensures found { IfSome result (λ i. (i < length list.now) × (slice_index_or list.now i slot ≡ slot)) }
 {
     for i in (0..list.len()).rev() {
@@ -133,6 +132,21 @@ impl Store {
     {
         take_one(&mut self.owned, slot);
         count_less(&mut self.strong, slot);
+    }
+
+    /// Whether the seat owns a reference to the slot.
+    pub fn owns(&self, slot: SlotId) -> bool
+        ensures { IsTrue result ↔ Owns (plain_of self.now) slot }
+    {
+        index_of(&self.owned, slot).is_some()
+    }
+
+    /// How many slots there are.
+    pub fn slot_count(&self) -> u32
+        requires { Kept self.now }
+        ensures { result ≡ length self.now.slots.items }
+    {
+        self.slots.len() as u32
     }
 
     /// The references to a slot, strong and weak.

@@ -10,8 +10,8 @@ pub loop-i-preserved : goal.loop-i-preserved
 loop-i-preserved c =
     none_more c.args.slot (record { 0 = 0 }) c.args.list.now (c.loop-i.i - 1) c.loop-i.i (omega arith) c.loop-i.invariant (omega arith) c.if-list-i.false
 
-pub returns-clause-there : goal.returns-clause-there
-returns-clause-there c =
+pub returns-clause-none : goal.returns-clause-none
+returns-clause-none c =
     let z : c.loop-i.i ≡ 0 = omega arith in
     let all = ap (λ (k : ℕ). times c.args.slot (drop k c.args.list.now)) z in
-    absurd (omega (arith, c.loop-i.invariant, c.requires, all))
+    omega (arith, c.loop-i.invariant, all)

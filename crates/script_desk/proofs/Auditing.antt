@@ -1,0 +1,61 @@
+-- What an audit of the heap tells of the desk.
+use Rattle.std.proofs.Common.{◌≡◌, ◌⊎◌, ⊎_elim, ℕ, ◌<◌, ◌≤◌, List, [], ◌∷◌, length, map, refl, ap, sym, ◌∙◌, subst, arith, All, string_bytes}
+use Rattle.std.proofs.lemmas.Bool.{cases_lt}
+use Rattle.std.proofs.lemmas.List.{get_or_past}
+use Rattle.std.proofs.lemmas.List.Elements.{All-cons}
+use Rattle.heap_audit.specs.declared.finding.Audit.{Audit}
+use Rattle.heap_audit.specs.Paths.{Path}
+use Rattle.heap_audit.specs.Walks.{GoesRound}
+use Rattle.plain_audit.specs.Audits.{IsAudit}
+use Rattle.plain_audit.specs.Reached.{HasField}
+use Rattle.plain_state.specs.declared.slot.SlotId.{SlotId}
+use Rattle.plain_state.specs.declared.slot.PlainSlot.{PlainSlot}
+use Rattle.plain_state.specs.declared.slot.Stage.TheVariants.{Free, Live}
+use Rattle.plain_state.specs.State.{Plain, new_slot, stage_at}
+use Rattle.plain_state.proofs.Kit.{none_or_some}
+use Rattle.script_desk.specs.declared.said.Said.TheVariants.{Audited}
+use Rattle.script_desk.specs.declared.said.Shown.{Shown}
+use Rattle.script_desk.specs.Audits.{AreRanks, Shows, AnswersAudit}
+use Rattle.script_desk.specs.Desks.{Desk, Names, Maker}
+use Rattle.script_desk.specs.Kinds.{script_weight}
+use Rattle.script_desk.proofs.Naming.{desk_of}
+
+abbrev pub IsThere : Plain → SlotId → Type 0
+IsThere p s = s.0 < length p.slots
+
+-- what is alive is there
+live_there : (p : Plain) (s : SlotId) → stage_at p s ≡ Live → IsThere p s
+live_there p s live =
+    ⊎_elim
+    (λ lt. lt)
+    (λ le. let free : stage_at p s ≡ Free = ap (λ (x : PlainSlot). x.stage) (get_or_past p.slots s.0 new_slot le) in cc)
+    (cases_lt s.0 (length p.slots))
+
+path_there : (p : Plain) (x : SlotId) (xs : List SlotId) (z : SlotId) → Path (HasField p) x xs z → All (IsThere p) (x ∷ xs)
+path_there p x [] z holds = All-cons (IsThere p) x [] (live_there p x holds.0) (λ k d lt. absurd (omega arith))
+path_there p x (y ∷ ys) z (holds, path) = All-cons (IsThere p) x (y ∷ ys) (live_there p x holds.0) (path_there p y ys z path)
+
+round_there : (p : Plain) (walk : List SlotId) → GoesRound (HasField p) walk → All (IsThere p) walk
+round_there p [] round = absurd round
+round_there p (x ∷ xs) round = path_there p x xs x round
+
+-- the slots of the walk are there
+pub walk_there : (p : Plain) (ranks : List ℕ) (found : Audit) → IsAudit script_weight ranks p found → All (IsThere p) found.walk.items
+walk_there p ranks found audit =
+    ⊎_elim
+    (λ (z : found.cyclic ≡ 0). subst (All (IsThere p)) (sym (audit.none z)) (λ k d lt. absurd (omega arith)))
+    (λ (some : 0 < found.cyclic). round_there p found.walk.items (audit.round some))
+    (none_or_some found.cyclic)
+
+module _ (p : Plain) (names : Names) (made : List Maker) (makes : ℕ) (d : Desk) (is : desk_of p names made makes ≡ d) where
+  pub walk_of_desk : (ranks : List ℕ) (found : Audit) (walk : List SlotId) → IsAudit script_weight ranks p found → walk ≡ found.walk.items
+      → All (IsThere d.plain) walk
+  walk_of_desk ranks found walk audit e =
+      subst (λ (x : Desk). All (IsThere x.plain) walk) is (subst (All (IsThere p)) (sym e) (walk_there p ranks found audit))
+
+  pub audit_told : (found : Audit) (ranks read : List ℕ) (shown : Shown) → AreRanks d ranks → read ≡ ranks → IsAudit script_weight read p found
+      → Shows d found shown → AnswersAudit d (Audited shown)
+  audit_told found ranks read shown are same audit shows =
+      let known : IsAudit script_weight ranks d.plain found
+      = subst (λ (x : Desk). IsAudit script_weight ranks x.plain found) is (subst (λ (rs : List ℕ). IsAudit script_weight rs p found) same audit) in
+      (found, ranks, shown, are, known, shows, refl)

@@ -1,0 +1,14 @@
+pub mod Tables
+pub mod Sums
+pub mod Grows
+pub mod Steps
+pub mod Gaining
+pub mod Naming
+pub mod Told
+pub mod Needs
+pub mod Placing
+pub mod Ranking
+pub mod Closing
+pub mod Auditing
+pub mod Anys
+pub mod Giving

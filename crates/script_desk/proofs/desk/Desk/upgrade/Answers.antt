@@ -1,0 +1,25 @@
+use Rattle.std.proofs.Common.{◌≡◌, subst, sym}
+use Rattle.plain_state.specs.declared.slot.SlotId.{SlotId}
+use Rattle.plain_store.specs.Heaps.{OwnsWeakly}
+use Rattle.script_desk.specs.declared.handle.Handle.TheVariants.{Strong, Weak}
+use Rattle.script_desk.proofs.Sums.{has_more}
+use Rattle.script_desk.proofs.Gaining.{gains_more}
+use Rattle.script_desk.proofs.Naming.{kept_bound, kept_undone}
+use Rattle.script_desk.proofs.desk.Desk.upgrade.Goals as goal
+
+pub bind-requires-clause-has : goal.bind-requires-clause-has
+bind-requires-clause-has c =
+    has_more c.self.inside.heap c.upgrade.new.self (Strong c.in-Some.hand)
+    (gains_more c.self.inside.heap c.upgrade.new.self c.of.result c.in-Some.hand (rw c.in-Some.is at c.in_ok-hand.ensures.upgrades))
+
+pub invariant_of-self-in_err-bind : goal.invariant_of-self-in_err-bind
+invariant_of-self-in_err-bind c =
+    kept_undone _ _ _ _ _ c.self.invariant c.upgrade.new.self (Strong c.in-Some.hand)
+    (gains_more c.self.inside.heap c.upgrade.new.self c.of.result c.in-Some.hand (rw c.in-Some.is at c.in_ok-hand.ensures.upgrades))
+    c.bind.new.heap c.bind.new.names c.in_err-bind.ensures.err c.in_err-bind.ensures.gave
+
+pub invariant_of-self-2 : goal.invariant_of-self-2
+invariant_of-self-2 c =
+    kept_bound _ _ _ _ _ c.self.invariant c.upgrade.new.self (Strong c.in-Some.hand)
+    (gains_more c.self.inside.heap c.upgrade.new.self c.of.result c.in-Some.hand (rw c.in-Some.is at c.in_ok-hand.ensures.upgrades))
+    c.bind.new.heap c.bind.new.names c.in_ok-bind.ensures.heap c.in_ok-bind.ensures.more

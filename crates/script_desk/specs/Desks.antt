@@ -1,0 +1,64 @@
+-- What a script has between two commands.
+use Rattle.std.specs.Prelude.{ℕ, ◌≡◌, ◌≢◌, ◌+◌, List, [], Option, slice_index_or}
+use Rattle.std.specs.Map.{lookup}
+use Rattle.std.specs.Str.{bytes_eq}
+use Rattle.plain_state.specs.declared.slot.SlotId.{SlotId}
+use Rattle.plain_state.specs.State.{Plain, seat_at, with_seat}
+use Rattle.plain_store.specs.Settling.{SettlesTo, IsSettled}
+use Rattle.script_desk.specs.declared.handle.Handle.{Handle}
+use Rattle.script_desk.specs.Kinds.{script_weight}
+
+-- the names that are bound, each with what it is bound to
+abbrev pub Names : Type 0
+Names = List (List ℕ × Handle)
+
+-- what the name is bound to, if it is bound
+unfoldable pub bound : Names → List ℕ → Option Handle
+bound names name = lookup (bytes_eq name) names
+
+-- a make: its number, and the name that it bound
+pub record Maker : Type 0 where
+  pub number : ℕ
+  pub name : List ℕ
+
+-- the maker of a slot that was never made
+abbrev pub nobody : Maker
+nobody = record { number = 0; name = [] }
+
+-- The plain state of the heap, the names, for each slot the make that made it last, and how many makes there were.
+pub record Desk : Type 0 where
+  pub plain : Plain
+  pub names : Names
+  pub makers : List Maker
+  pub makes : ℕ
+
+abbrev pub maker_of : Desk → SlotId → Maker
+maker_of d s = slice_index_or d.makers s.0 nobody
+
+-- the name has this meaning now, and every other name the one that it had
+abbrev pub Binds : Names → List ℕ → Option Handle → Names → Type 0
+Binds old name handle new =
+    (bound new name ≡ handle) × ((other : List ℕ) → other ≢ name → bound new other ≡ bound old other)
+
+-- no slot was made
+abbrev pub SameMakers : Desk → Desk → Type 0
+SameMakers d e = (e.makes ≡ d.makes) × (e.makers ≡ d.makers)
+
+-- a make of this name made s
+abbrev pub MadeBy : Desk → List ℕ → SlotId → Desk → Type 0
+MadeBy d name s e =
+    (e.makes ≡ d.makes + 1)
+    × (maker_of e s ≡ record { number = d.makes; name = name })
+    × ((t : SlotId) → t ≢ s → maker_of e t ≡ maker_of d t)
+
+-- the heap settles, and nothing else changes
+pub record Settles (d e : Desk) : Type 0 where
+  pub freed : ℕ
+  pub settles : SettlesTo script_weight d.plain freed e.plain
+  pub settled : IsSettled e.plain
+  pub names : e.names ≡ d.names
+  pub makers : SameMakers d e
+
+-- the same plain state, where the seat has no handle any more
+abbrev pub without_handles : Plain → Plain
+without_handles p = with_seat p 0 (record (seat_at p 0) { owned = []; weaks = []; snapshots = [] })

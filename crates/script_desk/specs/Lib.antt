@@ -1,0 +1,9 @@
+pub mod Handles
+pub mod Kinds
+pub mod Holding
+pub mod Desks
+pub mod Faults
+pub mod Audits
+pub mod Effects
+pub mod Tables
+pub mod Places

@@ -1,0 +1,34 @@
+//! Which make made a slot.
+ghost use Rattle.std.specs.Prelude.{◌≡◌, string_bytes};
+ghost use Rattle.script_desk.specs.Desks.{Maker};
+
+use std::marker::Model;
+
+/// A make: its number, and the name that it bound.
+#[derive(Drop)]
+pub(crate) struct Make {
+    pub(crate) number: u64,
+    pub(crate) name: String,
+}
+
+impl Model for Make {
+    ghost Value = { Maker };
+
+    ghost view = { λ m. record { number = m.number; name = string_bytes m.name } };
+}
+
+impl Make {
+    /// The number of the make.
+    pub fn number(&self) -> u64
+        ensures { result ≡ self.now.number }
+    {
+        self.number
+    }
+
+    /// The name that the make bound.
+    pub fn name(&self) -> &str
+        ensures { result.now ≡ self.now.name }
+    {
+        self.name.as_str()
+    }
+}

@@ -1,0 +1,39 @@
+//! The places of the heap that a script names.
+use crate::kind::ScriptKind;
+use cdrc_plain::PlainHeap;
+use out_of_memory::OutOfMemory;
+use plain_state::SlotId;
+use plain_store::{Hand, PlainPlace, PlainWeakPlace, WeakHand};
+
+/// A place for strong references, or one for weak ones.
+#[derive(Clone, Copy, Debug, Drop)]
+pub(crate) enum HeapPlace {
+    Strong(PlainPlace),
+    Weak(PlainWeakPlace),
+}
+
+impl HeapPlace {
+    ghost use Rattle.std.specs.Prelude.{◌≡◌, OnOk, OnErr};
+    ghost use Rattle.plain_state.specs.Places.{IsOpen, place_kind};
+    ghost use Rattle.plain_state.specs.State.{seat_at};
+    ghost use Rattle.plain_store.specs.Calls.{MayGive, Puts};
+    ghost use Rattle.script_desk.specs.Places.{event_place};
+
+    /// The place holds what the slot's handle refers to, or null.
+    pub fn put(
+        self,
+        heap: &mut PlainHeap<ScriptKind>,
+        slot: Option<SlotId>,
+    ) -> Result<(), OutOfMemory>
+        requires opened { IsOpen heap.old 0 (event_place self) }
+        requires given { MayGive (place_kind (event_place self)) slot (seat_at heap.old 0) }
+        ensures puts { OnOk result (Puts heap.old (event_place self) slot heap.new) }
+        ensures err { OnErr result (heap.new ≡ heap.old) }
+    {
+        let put = match self {
+            HeapPlace::Strong(place) => heap.put(place, slot.map(Hand::of)).is_ok(),
+            HeapPlace::Weak(place) => heap.put_weak(place, slot.map(WeakHand::of)).is_ok(),
+        };
+        if put { Ok(()) } else { Err(OutOfMemory) }
+    }
+}

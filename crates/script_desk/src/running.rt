@@ -1,0 +1,59 @@
+//! A command is run.
+ghost use Rattle.std.specs.Prelude.{IfOk, OnOk};
+ghost use Rattle.plain_store.specs.Settling.{IsSettled};
+ghost use Rattle.script_desk.specs.Desks.{Settles};
+ghost use Rattle.script_desk.specs.Effects.{Acts, Runs};
+ghost use Rattle.script_desk.specs.Faults.{IsFaultless};
+
+use crate::desk::Desk;
+use crate::said::Said;
+use out_of_memory::OutOfMemory;
+use script_lines::Command;
+
+impl Desk {
+    /// Does what the command says, lets the heap settle, and answers what the command answers. After a want of memory
+    /// the command may have been done in part, and the heap may not have settled.
+    pub fn run(&mut self, command: &Command) -> Result<Said, OutOfMemory>
+        requires faultless { IsFaultless self.old command.now }
+        requires settled { IsSettled self.old.plain }
+        ensures { IfOk result (λ answer. Runs self.old command.now answer self.new) }
+    {
+        let said = self.act(command)?;
+        self.settle()?;
+        Ok(said)
+    }
+
+    fn act(&mut self, command: &Command) -> Result<Said, OutOfMemory>
+        requires faultless { IsFaultless self.old command.now }
+        requires settled { IsSettled self.old.plain }
+        ensures { IfOk result (λ answer. Acts self.old command.now answer self.new) }
+    {
+        match command {
+            Command::Make(name, weight) => self.make(name, *weight as u64),
+            Command::Copy(name, new) => self.copy(name, new),
+            Command::Weaken(name, new) => self.weaken(name, new),
+            Command::CopyWeak(name, new) => self.copy_weak(name, new),
+            Command::Upgrade(name, new) => self.upgrade(name, new),
+            Command::Drop(name) | Command::DropWeak(name) | Command::EndSnapshot(name) => {
+                self.give(name);
+                Ok(Said::Nothing)
+            }
+            Command::Put(place, name) => self.put(place, name),
+            Command::Clear(place) => self.clear(place),
+            Command::Load(place, new) => self.load(place, new),
+            Command::Replace(place, old, new) => self.replace(place, old, new),
+            Command::Snap(place, new) => self.snap(place, new),
+            Command::Keep(name, new) => self.keep(name, new),
+            Command::Read(name, word) => Ok(self.read(name, *word as u32)),
+            Command::Counts(name) => Ok(self.counts(name)),
+            Command::Audit => self.audit(),
+        }
+    }
+
+    fn settle(&mut self) -> Result<(), OutOfMemory>
+        ensures { OnOk result (Settles self.old self.new) }
+    {
+        self.heap.settle()?;
+        Ok(())
+    }
+}
