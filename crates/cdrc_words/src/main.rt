@@ -11,7 +11,6 @@
 //! ```
 #![tactic(auto)]
 
-mod audit;
 mod command;
 mod counting;
 mod explain;
