@@ -1,5 +1,5 @@
 -- A heap whose references are given up, and which settles.
-use Rattle.std.proofs.Common.{◌≡◌, ◌≢◌, ◌⊎◌, inl, inr, ⊎_elim, ℕ, zero, suc, ◌+◌, ◌<◌, ◌≤◌, Bool, true, false, List, [], ◌∷◌, ◌++◌, length, get_or, set, refl, ap, sym, ◌∙◌, subst, arith, Option, Some, None, All}
+use Rattle.std.proofs.Common.{◌≡◌, ⊎_elim, ℕ, ◌<◌, Bool, true, false, List, [], ◌∷◌, ◌++◌, length, refl, ap, sym, ◌∙◌, subst, arith, Option, None, All}
 use Rattle.std.specs.Prelude.{slice_index_or, slice_set, if◌then◌else◌, ◌==◌}
 use Rattle.std.proofs.lemmas.List.{length-set, get_or-set_same, get_or_past}
 use Rattle.std.proofs.lemmas.List.Elements.{All-set, All-get_or}
@@ -12,31 +12,17 @@ use Rattle.plain_state.specs.declared.slot.Kind.{Kind}
 use Rattle.plain_state.specs.declared.slot.Kind.TheVariants.{Strong, Weak}
 use Rattle.plain_state.specs.declared.slot.SlotId.{SlotId}
 use Rattle.plain_state.specs.declared.slot.PlainSlot.{PlainSlot}
-use Rattle.plain_state.specs.declared.slot.Stage.TheVariants.{Free, Live, Ended, Husk}
+use Rattle.plain_state.specs.declared.slot.Stage.TheVariants.{Free, Ended, Husk}
 use Rattle.plain_state.specs.Lists.{Entry, times, entry_times}
-use Rattle.plain_state.specs.State.{Plain, PlainSeat, new_seat, new_slot, seat_at, slot_at, stage_at, with_seat, with_slot}
-use Rattle.plain_state.specs.Places.{place_kind, content, with_content, with_field, IsDyingField}
+use Rattle.plain_state.specs.State.{Plain, PlainSeat, new_seat, new_slot, seat_at, slot_at, with_seat, with_slot}
+use Rattle.plain_state.specs.Places.{content, with_field}
 use Rattle.plain_state.specs.Lawful.{HasNullFields}
 use Rattle.plain_state.specs.Sound.{Sound}
 use Rattle.plain_state.specs.Steps.{Does, joined}
-use Rattle.plain_store.specs.Settling.{Settles, SettlesBy, SettlesTo}
-use Rattle.plain_state.proofs.Kit.{held_self, times_none, times_push, times_loses, entry_none, entry_cons, entry_self, entry_lost}
+use Rattle.plain_store.specs.Settling.{Settles, SettlesBy}
+use Rattle.plain_state.proofs.Kit.{times_push, times_loses, entry_none, entry_cons, entry_self, entry_lost}
 use Rattle.plain_state.proofs.EveryStep.{step_sound}
-use Rattle.cdrc_words.specs.Records.{HoldsRecords, OwnsOnly}
-
--- the heap of records is such a heap
-pub owns_records : (p : Plain) (hands : List SlotId) (w : ℕ) → HoldsRecords p hands w → OwnsOnly p hands
-owns_records p hands w h =
-    let at : seat_at p 0 ≡ record new_seat { owned = hands; adds = length hands } = ap (λ (vs : List PlainSeat). slice_index_or vs 0 new_seat) h.seat in
-    record {
-      sound = h.sound;
-      one = ap length h.seat;
-      owned = λ s. ap (λ (v : PlainSeat). times s v.owned) at;
-      snapshots = ap (λ (v : PlainSeat). v.snapshots) at;
-      deferred = ap (λ (v : PlainSeat). v.deferred) at;
-      cells = h.cells;
-      fields = λ k d lt. (h.slots k d lt).0;
-    }
+use Rattle.cdrc_words.specs.Records.{OwnsOnly}
 
 -- seat 0 is w, and no place is written
 seat_written : (p q : Plain) (hands more : List SlotId) (w : PlainSeat) → OwnsOnly p hands → Sound q → q.seats ≡ slice_set p.seats 0 w

@@ -1,9 +1,9 @@
 -- What each hand of a heap of records holds.
-use Rattle.std.proofs.Common.{◌≡◌, ◌≢◌, ◌⊎◌, ⊎_elim, ℕ, zero, suc, ◌+◌, ◌<◌, ◌≤◌, Bool, true, false, List, [], ◌∷◌, ◌++◌, length, get_or, refl, ap, sym, ◌∙◌, subst, arith, Option, Some, None, All}
+use Rattle.std.proofs.Common.{◌≡◌, ℕ, zero, suc, ◌<◌, List, [], ◌∷◌, length, get_or, refl, ap, sym, ◌∙◌, subst, arith, All}
 use Rattle.std.specs.Prelude.{slice_index_or}
 use Rattle.std.specs.List.{sum_by}
 use Rattle.std.proofs.lemmas.List.Sums.{sum_by-cons}
-use Rattle.plain_state.specs.declared.slot.Kind.TheVariants.{Strong, Weak}
+use Rattle.plain_state.specs.declared.slot.Kind.TheVariants.{Strong}
 use Rattle.plain_state.specs.declared.slot.SlotId.{SlotId}
 use Rattle.plain_state.specs.declared.slot.PlainSlot.{PlainSlot}
 use Rattle.plain_state.specs.Lists.{times, entry_times, cell_times}
@@ -12,7 +12,7 @@ use Rattle.plain_state.specs.Places.{Holds}
 use Rattle.plain_state.specs.Lawful.{HasNullFields}
 use Rattle.plain_state.specs.References.{held_in, over_seats, over_slots, strong_fields, strong_refs}
 use Rattle.plain_state.proofs.Kit.{held_self, held_none, times_cons, entry_none, cells_none}
-use Rattle.cdrc_words.specs.Records.{IsFreeOrLive, HoldsRecords}
+use Rattle.cdrc_words.specs.Records.{HoldsRecords}
 
 -- what stands in a list stands in it at least once
 pub times_at : (xs : List SlotId) (i : ℕ) (d : SlotId) → i < length xs → 0 < times (get_or xs i d) xs

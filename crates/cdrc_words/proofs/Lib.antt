@@ -1,7 +1,7 @@
 pub mod Holding
 pub mod Hands
 pub mod Freeing
-pub mod Imaging
+pub mod AuditLines
 pub mod Named
 pub mod OneFile
 pub mod OneFileText

@@ -1,14 +1,13 @@
 -- The lines of rows that one file holds.
-use Rattle.std.proofs.Common.{◌≡◌, ℕ, ◌*◌, ◌≤◌, ◌<◌, ◌^◌, List, [], ◌∷◌, ◌++◌, length, map, refl, ap, sym, ◌∙◌, arith, All}
-use Rattle.std.specs.List.{flat_map, sum_by}
+use Rattle.std.proofs.Common.{◌≡◌, ℕ, List, [], ◌∷◌, ◌++◌, length, map, refl, ap, sym, ◌∙◌}
+use Rattle.std.specs.List.{flat_map}
 use Rattle.std.proofs.lemmas.List.{length-map}
 use Rattle.std.proofs.lemmas.List.Concat.{flat_map-cons}
-use Rattle.std.proofs.lemmas.List.Sums.{sum_by-le}
 use Rattle.cdrc_text.specs.declared.row.Row.{Row}
 use Rattle.cdrc_text.specs.declared.row.Totals.{Totals}
 use Rattle.cdrc_text.specs.Report.{closing_lines, report_of, row_line, word_line}
 use Rattle.cdrc_words.specs.declared.counting.Counted.{Counted}
-use Rattle.cdrc_words.specs.Counted.{HasSize, size_of, word_of}
+use Rattle.cdrc_words.specs.Counted.{word_of}
 use Rattle.cdrc_words.specs.Reports.{held_row, one_file_text, one_file_totals}
 
 lines_of : (list : List Counted) → flat_map row_line (map held_row list) ≡ flat_map (λ c. word_line c.occurrences 1 (word_of c)) list
@@ -28,7 +27,3 @@ report_held list pieces rows totals e f =
     ∙ ap (λ (l : List ℕ). l ++ closing_lines (length (map held_row list)) totals) (lines_of list)
     ∙ ap (λ (n : ℕ). flat_map (λ c. word_line c.occurrences 1 (word_of c)) list ++ closing_lines n totals) (length-map list held_row)
     ∙ ap (λ (t : Totals). flat_map (λ c. word_line c.occurrences 1 (word_of c)) list ++ closing_lines (length list) t) f
-
--- words of pieces are light
-pub few_bytes : (list : List Counted) → All HasSize list → length list ≤ 1000000 → sum_by size_of list < 2 ^ 64
-few_bytes list sizes few = omega (arith, sum_by-le size_of 120 list (λ k d lt. (sizes k d lt).1))

@@ -4,4 +4,3 @@ pub mod Counted
 pub mod Reports
 pub mod Outcomes
 pub mod Records
-pub mod Audits

@@ -1,12 +1,24 @@
 -- The report of one file, from its distinct words.
-use Rattle.std.specs.Prelude.{ℕ, List, [], ◌∷◌, ◌++◌, length, map}
+use Rattle.std.specs.Prelude.{ℕ, List, ◌++◌, length}
 use Rattle.std.specs.List.{flat_map, sum_by}
 use Rattle.cdrc_text.specs.declared.row.AuditLine.{AuditLine}
 use Rattle.cdrc_text.specs.declared.row.Row.{Row}
 use Rattle.cdrc_text.specs.declared.row.Totals.{Totals}
 use Rattle.cdrc_text.specs.Report.{closing_lines, word_line}
+use Rattle.plain_state.specs.Records.{record_weight}
+use Rattle.plain_state.specs.State.{Plain}
+use Rattle.plain_audit.specs.Audits.{live_slots, live_bytes, deferred_entries}
 use Rattle.cdrc_words.specs.declared.counting.Counted.{Counted}
 use Rattle.cdrc_words.specs.Counted.{word_of, size_of}
+
+-- the line of an audit of a heap of records, of which none lies in a cycle
+abbrev pub line_of : Plain → AuditLine
+line_of p = record {
+  live = live_slots p;
+  deferred = deferred_entries p;
+  cyclic = 0;
+  bytes = live_bytes record_weight p;
+}
 
 -- the row of a word that one file holds
 abbrev pub held_row : Counted → Row

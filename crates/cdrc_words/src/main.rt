@@ -13,7 +13,6 @@
 //! ```
 #![tactic(auto)]
 
-mod audit;
 mod command;
 mod counting;
 mod explain;

@@ -1,15 +1,20 @@
 //! The heap of records: one for each distinct word.
-ghost use Rattle.std.specs.Prelude.{◌≡◌, ◌≤◌, ◌<◌, IfOk, length, map, []};
+ghost use Rattle.std.specs.Prelude.{◌≡◌, ◌≤◌, ◌<◌, IfOk, OnOk, length, map, []};
 ghost use Rattle.std.specs.List.{All, sum_by};
+ghost use Rattle.deleter.specs.Weighing.{Weighs};
+ghost use Rattle.plain_state.specs.Lawful.{HasNullFields};
+ghost use Rattle.plain_state.specs.Records.{IsRecord, record_weight};
+ghost use Rattle.plain_store.specs.Settling.{IsSettled};
 ghost use Rattle.cdrc_words.specs.Counted.{HasSize, size_of};
 ghost use Rattle.cdrc_words.specs.Records.{HoldsRecords, OwnsOnly};
-ghost use Rattle.cdrc_words.specs.Reports.{held_row, nothing_held, one_file_text};
+ghost use Rattle.cdrc_words.specs.Reports.{held_row, line_of, one_file_text};
 
-use crate::audit::audit_line;
 use crate::counting::Counted;
 use cdrc_plain::{Hand, MakeRefused, PlainHeap, RecordKind, record_of};
 use cdrc_text::{AuditLine, Row, Totals, report};
+use deleter::Deleter;
 use out_of_memory::OutOfMemory;
+use plain_audit::audit_heap;
 use std::alloc::Global;
 
 /// The report of a file with these distinct words: each word becomes a record, whose holders are the references to it.
@@ -19,11 +24,13 @@ pub fn report_of(alloc: Global, list: Vec<Counted>, pieces: u64) -> Result<Vec<u
     requires sizes { All HasSize list.items }
     ensures { IfOk result (λ text. text.items ≡ one_file_text list.items pieces) }
 {
+    let weigh: Deleter<RecordKind, _> = Deleter::keep(|payload: &[u64; 16]| payload[0]);
     let mut heap = PlainHeap::<RecordKind>::new(alloc, 2 * pieces as u32 + 2, 0, 0)?;
     let hands = make_records(alloc, &mut heap, &list)?;
     let rows = rows_of(alloc, &heap, &hands, list)?;
-    let held = audit_line(&heap.image(alloc)?);
-    let freed = free_all(alloc, &mut heap, hands)?;
+    let held = audit_line(alloc, &heap, &weigh)?;
+    free_all(&mut heap, hands)?;
+    let freed = audit_line(alloc, &heap, &weigh)?;
     report(
         alloc,
         &rows,
@@ -84,18 +91,37 @@ fn rows_of(
     Ok(rows)
 }
 
-/// Drops all handles, the last one first, and lets the heap settle; the line of what is left.
-fn free_all(
+/// The line of the audit of a heap of records that has settled. It takes a rank for each slot, but no field of a record
+/// is ever set, so there is no cycle to choose.
+fn audit_line<F: Fn(&[u64; 16]) -> u64>(
     alloc: Global,
-    heap: &mut PlainHeap<RecordKind>,
-    mut hands: Vec<Hand>,
+    heap: &PlainHeap<RecordKind>,
+    weigh: &Deleter<RecordKind, F>,
 ) -> Result<AuditLine, OutOfMemory>
+    requires settled { IsSettled heap.now }
+    requires fields { All HasNullFields heap.now.slots }
+    requires weighs { Weighs IsRecord record_weight F.Fn weigh.now.closure }
+    ensures { IfOk result (λ line. line ≡ line_of heap.now) }
+{
+    let rank = vec![in alloc; 0; heap.slots() as usize]?;
+    let found = audit_heap(alloc, heap, weigh, &rank)?;
+    Ok(AuditLine {
+        live: found.live,
+        deferred: found.deferred,
+        cyclic: found.cyclic,
+        bytes: found.bytes,
+    })
+}
+
+/// Drops all handles, the last one first, and lets the heap settle.
+fn free_all(heap: &mut PlainHeap<RecordKind>, mut hands: Vec<Hand>) -> Result<(), OutOfMemory>
     requires { OwnsOnly heap.old hands.items }
-    ensures { IfOk result (λ line. line ≡ nothing_held) }
+    ensures nothing { OnOk result (OwnsOnly heap.new []) }
+    ensures settled { OnOk result (IsSettled heap.new) }
 {
     while let Some(hand) = hands.pop() {
         heap.drop_hand(hand);
     }
     heap.settle()?;
-    Ok(audit_line(&heap.image(alloc)?))
+    Ok(())
 }

@@ -28,7 +28,7 @@ use Rattle.plain_audit.proofs.ImageNumbers.{fields_at, in_cells_is, in_deferred_
 live_stage : (n : ℕ) (stage : Stage) → stage ≡ Live → if_live n stage ≡ n
 live_stage n stage e = ap (if_live n) e
 
-other_stage : (n : ℕ) (stage : Stage) → stage ≢ Live → if_live n stage ≡ 0
+pub other_stage : (n : ℕ) (stage : Stage) → stage ≢ Live → if_live n stage ≡ 0
 other_stage n Free ne = refl
 other_stage n Blank ne = refl
 other_stage n Live ne = absurd (ne refl)

@@ -1,11 +1,11 @@
-use Rattle.std.proofs.Common.{◌≡◌, ◌+◌, ℕ, List, Err, ap, sym, subst, ◌∙◌, refl, arith, rules, length, take, ◌++◌, ◌∷◌, []}
+use Rattle.std.proofs.Common.{◌≡◌, ◌+◌, ℕ, List, Err, ap, sym, subst, ◌∙◌, arith, length, take, ◌++◌, ◌∷◌, []}
 use Rattle.std.specs.List.{sum_by}
 use Rattle.std.proofs.lemmas.List.{length-append}
 use Rattle.std.proofs.lemmas.List.Sums.{sum_by_more}
 use Rattle.plain_state.specs.declared.slot.SlotId.{SlotId}
 use Rattle.cdrc_words.specs.Counted.{size_of}
 use Rattle.cdrc_words.specs.Records.{HoldsRecords}
-use Rattle.cdrc_words.proofs.Holding.{none_held, one_more, same_size, not_full}
+use Rattle.cdrc_words.proofs.Holding.{one_more, same_size, not_full}
 use Rattle.cdrc_words.proofs.records.make_records.Goals as goal
 
 pub unreachable-requires : goal.unreachable-requires
