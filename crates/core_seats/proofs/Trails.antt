@@ -15,7 +15,7 @@ use Rattle.core_events.specs.declared.shape.Shape.{Shape}
 use Rattle.core_events.specs.declared.view.CoreView.{CoreView}
 use Rattle.core_events.specs.declared.view.Move.{Move}
 use Rattle.core_events.specs.declared.view.Phase.{Phase}
-use Rattle.core_events.specs.Steps.{May, IsIdle, HasRoom, CanGive, IsContent, answer, changed, given_up, paid, ended, exchanged, without_given, scanned, is_last, all_seen, is_valid, with_note, validated}
+use Rattle.core_events.specs.Steps.{May, CanGive, answer, changed, given_up, paid, ended, exchanged, is_last, all_seen, is_valid, with_note, validated}
 use Rattle.core_events.specs.declared.view.Phase.TheVariants as phase
 use Rattle.core_events.specs.Words.{ZERO, has_help}
 use Rattle.core_events.specs.Ejection.{kept, ejected}

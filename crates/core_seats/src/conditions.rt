@@ -253,7 +253,7 @@ impl Holdings {
         self.is_idle() && slot.0 < shape.slots && self.has_make() && self.has_add()
     }
 
-    /// Whether the seat may write a payload word.
+    /// Whether the seat may write this payload word. Any word of 64 bits will do.
     pub(crate) fn can_fill(&self, shape: &Shape, at: u32, word: u64) -> bool
         ensures { IsTrue result ↔ May shape.now (act.Fill at word) self.now }
     {

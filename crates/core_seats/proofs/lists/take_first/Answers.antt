@@ -1,4 +1,4 @@
-use Rattle.std.proofs.Common.{◌≡◌, ◌∙◌, sym, ap, ℕ, ◌<◌, length, get_or, Vec, arith}
+use Rattle.std.proofs.Common.{◌∙◌, sym, ap, ◌<◌, length, Vec, arith}
 use Rattle.std.proofs.lemmas.List.{get_or_default}
 use Rattle.std.specs.declared.alloc.Global.{Global}
 use Rattle.plain_state.specs.declared.slot.SlotId.{SlotId}

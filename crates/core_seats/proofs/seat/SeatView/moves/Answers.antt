@@ -1,4 +1,3 @@
-use Rattle.std.proofs.Common.{◌≡◌, ◌∷◌, [], ◌++◌, ap, sym, ◌∙◌, List}
 use Rattle.core_seats.proofs.Trails.{may_with, answer_with, changed_with}
 use Rattle.core_seats.proofs.seat.SeatView.moves.Goals as goal
 
