@@ -1,5 +1,5 @@
 //! Announcements: written, found valid, taken back, read by a scan.
-ghost use Rattle.std.specs.Prelude.{◌≡◌, ◌<◌, ◌+◌, ◌^◌, ◌≤◌, ◌==◌, ◌++◌, ◌∷◌, [], IfOk, OnOk, OnErr, length, vec_len, if◌then◌else◌};
+ghost use Rattle.std.specs.Prelude.{◌≡◌, ◌<◌, ◌+◌, ◌^◌, ◌≤◌, [], IfOk, OnOk, OnErr, length, vec_len, if◌then◌else◌};
 ghost use Rattle.std.specs.VecDeque.{deque_len};
 ghost use Rattle.core_events.specs.declared.outcome.Outcome.TheVariants as outcome;
 ghost use Rattle.core_events.specs.declared.view.Note.TheVariants as note;

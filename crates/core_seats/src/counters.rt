@@ -1,5 +1,5 @@
 //! References that a seat gains, and those that it gives up.
-ghost use Rattle.std.specs.Prelude.{◌≡◌, ◌<◌, ◌+◌, ◌++◌, ◌∷◌, [], nat_lt, IfOk, OnOk, OnErr, if◌then◌else◌};
+ghost use Rattle.std.specs.Prelude.{◌≡◌, ◌+◌, ◌++◌, ◌∷◌, [], nat_lt, IfOk, OnOk, OnErr, if◌then◌else◌};
 ghost use Rattle.plain_state.specs.declared.slot.Kind.TheVariants.{Strong, Weak};
 ghost use Rattle.core_events.specs.declared.outcome.Outcome.TheVariants as outcome;
 ghost use Rattle.core_events.specs.Words.{ZERO};

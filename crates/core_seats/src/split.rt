@@ -2,7 +2,7 @@
 ghost use Rattle.std.specs.Prelude.{◌≡◌, ◌+◌, ◌++◌, ◌∷◌, [], IsTrue, IfOk, false, length, vec_len};
 ghost use Rattle.std.specs.VecDeque.{deque_len};
 ghost use Rattle.std.specs.List.{filter};
-ghost use Rattle.core_events.specs.Ejection.{code_of, without_word, is_seen, kept, ejected};
+ghost use Rattle.core_events.specs.Ejection.{without_word, is_seen, kept, ejected};
 ghost use Rattle.core_seats.specs.Scans.{announces};
 
 use crate::words::announced_as;
