@@ -17,7 +17,7 @@ mod shape;
 mod view;
 
 pub use act::{Act, Event};
-pub use plain_state::{EventPlace, Kind, SlotId};
 pub use outcome::Outcome;
+pub use plain_state::{EventPlace, Kind, SlotId};
 pub use shape::{Quota, Shape, ShapeField};
 pub use view::{CoreView, LeftTrail, Move, Note, Phase};

@@ -1,5 +1,5 @@
 -- Searches through the words of a scan.
-use Rattle.std.proofs.Common.{◌≡◌, ◌≢◌, ⊎_elim, ℕ, zero, suc, ◌+◌, ◌<◌, Bool, true, false, List, [], ◌∷◌, ◌++◌, length, get_or, refl, ap, sym, ◌∙◌, arith}
+use Rattle.std.proofs.Common.{◌≡◌, ◌≢◌, ⊎_elim, ℕ, zero, suc, ◌+◌, ◌<◌, true, false, List, [], ◌∷◌, length, get_or, refl, ap, sym, ◌∙◌, arith}
 use Rattle.std.specs.Prelude.{◌==◌, cond, if◌then◌else◌, nat_lt, remove}
 use Rattle.std.specs.List.{filter}
 use Rattle.std.proofs.lemmas.List.Sums.{sum_by-cons}
@@ -31,7 +31,8 @@ unfolding seen_times word_one
 seen_cons w x xs = sum_by-cons (λ (y : ℕ). cond (y == w) 1 0) x xs
 
 -- a word that stands in the list was seen
-pub seen_at : (w : ℕ) (xs : List ℕ) (i : ℕ) → i < length xs → get_or xs i 0 ≡ w → true ≡ is_seen w xs
+pub seen_at : (w : ℕ) (xs : List ℕ) (i : ℕ) → i < length xs → get_or xs i 0 ≡ w
+    → true ≡ is_seen w xs
 seen_at w [] i h e = absurd (omega arith)
 seen_at w (x ∷ xs) zero h e =
     let c = seen_cons w x xs in let o = word_same w x e in grind (arith, nat_tests)
@@ -41,7 +42,8 @@ seen_at w (x ∷ xs) (suc i) h e =
     let more : 0 < seen_times w xs = grind (arith, nat_tests) in grind (arith, nat_tests)
 
 -- one that doesn't stand there wasn't
-pub not_seen : (w : ℕ) (xs : List ℕ) → ((k : ℕ) → k < length xs → get_or xs k 0 ≢ w) → seen_times w xs ≡ 0
+pub not_seen : (w : ℕ) (xs : List ℕ) → ((k : ℕ) → k < length xs → get_or xs k 0 ≢ w)
+    → seen_times w xs ≡ 0
 not_seen w [] none = seen_none w
 not_seen w (x ∷ xs) none =
     let c = seen_cons w x xs in
@@ -60,6 +62,9 @@ without_word_at w (x ∷ xs) (suc i) h e before =
     rw t
     (ap (λ (ys : List ℕ). x ∷ ys)
     (without_word_at w xs i (omega arith) e (λ k lt. before (suc k) (omega arith))))
+
+-- a search for a word
+pub ruleset word_search = (seen_at, not_seen, without_word_at)
 
 -- words that announce nothing can be left out: of another word as many are left
 left_seen : (w : ℕ) (xs : List ℕ) → w ≢ 0 → seen_times w (filter announces xs) ≡ seen_times w xs
@@ -97,17 +102,20 @@ code_some : (e : Entry) → code_of e ≢ 0
 code_some (Strong, s) = λ z. absurd (omega arith)
 code_some (Weak, s) = λ z. absurd (omega arith)
 
+left_is_seen : (e : Entry) (xs : List ℕ)
+    → is_seen (code_of e) (filter announces xs) ≡ is_seen (code_of e) xs
+left_is_seen e xs = ap (λ (n : ℕ). nat_lt 0 n) (left_seen (code_of e) xs (code_some e))
+
 -- so they change nothing in a split
 pub kept_left : (es : List Entry) (xs : List ℕ) → kept es (filter announces xs) ≡ kept es xs
 kept_left [] xs = refl
 kept_left (e ∷ es) xs =
-    let s : is_seen (code_of e) (filter announces xs) ≡ is_seen (code_of e) xs = ap (λ (n : ℕ). nat_lt 0 n) (left_seen (code_of e) xs (code_some e)) in
-    let w = left_without (code_of e) xs (code_some e) in
-    rw (s, w) (rw (kept_left es (without_word (code_of e) xs), kept_left es xs) refl)
+    rw (left_is_seen e xs, left_without (code_of e) xs (code_some e))
+    (rw (kept_left es (without_word (code_of e) xs), kept_left es xs) refl)
 
-pub ejected_left : (es : List Entry) (xs : List ℕ) → ejected es (filter announces xs) ≡ ejected es xs
+pub ejected_left : (es : List Entry) (xs : List ℕ)
+    → ejected es (filter announces xs) ≡ ejected es xs
 ejected_left [] xs = refl
 ejected_left (e ∷ es) xs =
-    let s : is_seen (code_of e) (filter announces xs) ≡ is_seen (code_of e) xs = ap (λ (n : ℕ). nat_lt 0 n) (left_seen (code_of e) xs (code_some e)) in
-    let w = left_without (code_of e) xs (code_some e) in
-    rw (s, w) (rw (ejected_left es (without_word (code_of e) xs), ejected_left es xs) refl)
+    rw (left_is_seen e xs, left_without (code_of e) xs (code_some e))
+    (rw (ejected_left es (without_word (code_of e) xs), ejected_left es xs) refl)

@@ -1,6 +1,6 @@
 -- Searches through a list of slots, and how often a slot stands in it.
-use Rattle.std.proofs.Common.{◌≡◌, ◌≢◌, ⊎_elim, ℕ, zero, suc, ◌+◌, ◌<◌, Bool, true, false, eqb, List, [], ◌∷◌, length, get_or, refl, ap, ◌∙◌, arith}
-use Rattle.std.specs.Prelude.{◌||◌, ◌↔◌, nat_lt, remove, IsTrue}
+use Rattle.std.proofs.Common.{◌≡◌, ◌≢◌, ⊎_elim, ℕ, zero, suc, ◌<◌, Bool, true, false, eqb, List, [], ◌∷◌, length, get_or, refl, ap, ◌∙◌, arith}
+use Rattle.std.specs.Prelude.{◌↔◌, nat_lt, remove, IsTrue}
 use Rattle.std.specs.List.{list_any}
 use Rattle.std.proofs.lemmas.Bool.{cases_eq}
 use Rattle.std.proofs.lemmas.Bool.Decides.{nat_tests}
@@ -9,7 +9,8 @@ use Rattle.plain_state.specs.Lists.{times, is_slot}
 use Rattle.plain_state.proofs.Kit.{held_same, held_other, times_none, times_cons}
 use Rattle.core_events.specs.Views.{without}
 
-any_slot : (s : SlotId) (xs : List SlotId) → list_any (λ (x : SlotId). eqb x.0 s.0) xs ≡ nat_lt 0 (times s xs)
+any_slot : (s : SlotId) (xs : List SlotId)
+    → list_any (λ (x : SlotId). eqb x.0 s.0) xs ≡ nat_lt 0 (times s xs)
 any_slot s [] = let z = times_none s in grind (arith, nat_tests)
 any_slot s (x ∷ xs) =
     let c = times_cons s x xs in
@@ -25,7 +26,8 @@ any_slot s (x ∷ xs) =
     (cases_eq x.0 s.0)
 
 -- a search finds a slot exactly where it stands in the list
-pub slot_found : (s : SlotId) (xs : List SlotId) (r : Bool) → r ≡ list_any (λ (x : SlotId). eqb x.0 s.0) xs
+pub slot_found : (s : SlotId) (xs : List SlotId) (r : Bool)
+    → r ≡ list_any (λ (x : SlotId). eqb x.0 s.0) xs
     → IsTrue r ↔ (0 < times s xs)
 slot_found s xs r e =
     let t : r ≡ nat_lt 0 (times s xs) = e ∙ any_slot s xs in rw t (grind (arith, nat_tests))
@@ -35,7 +37,8 @@ abbrev pub past : SlotId
 past = record { 0 = 0 }
 
 -- the first s is taken out by its place
-pub without_at : (s : SlotId) (xs : List SlotId) (i : ℕ) → i < length xs → (get_or xs i past).0 ≡ s.0
+pub without_at : (s : SlotId) (xs : List SlotId) (i : ℕ) → i < length xs
+    → (get_or xs i past).0 ≡ s.0
     → ((k : ℕ) → k < i → (get_or xs k past).0 ≢ s.0) → without s xs ≡ remove xs i
 without_at s [] i h e before = absurd (omega arith)
 without_at s (x ∷ xs) zero h e before =
@@ -48,7 +51,8 @@ without_at s (x ∷ xs) (suc i) h e before =
     (without_at s xs i (omega arith) e (λ k lt. before (suc k) (omega arith))))
 
 -- where there is none, the list stays
-pub without_none : (s : SlotId) (xs : List SlotId) → ((k : ℕ) → k < length xs → (get_or xs k past).0 ≢ s.0)
+pub without_none : (s : SlotId) (xs : List SlotId)
+    → ((k : ℕ) → k < length xs → (get_or xs k past).0 ≢ s.0)
     → xs ≡ without s xs
 without_none s [] none = refl
 without_none s (x ∷ xs) none =

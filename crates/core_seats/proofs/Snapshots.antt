@@ -1,5 +1,5 @@
 -- Searches through the notes of a seat, and what it is under a snapshot of.
-use Rattle.std.proofs.Common.{◌≡◌, ◌≢◌, ⊎_elim, ℕ, zero, suc, ◌+◌, ◌<◌, List, [], ◌∷◌, length, get_or, refl, ap, arith}
+use Rattle.std.proofs.Common.{◌≡◌, ◌≢◌, ⊎_elim, ℕ, zero, suc, ◌<◌, List, [], ◌∷◌, length, get_or, ap, arith}
 use Rattle.std.proofs.lemmas.List.{get_or_past}
 use Rattle.std.proofs.lemmas.Bool.{cases_lt}
 use Rattle.plain_state.specs.declared.slot.Kind.{Kind}
@@ -24,7 +24,8 @@ snapshot_at k s (note.Valid l x ∷ ns) (suc i) h e =
 
 -- where there is no such note, there is no such snapshot
 pub snapshot_none : (k : Kind) (s : SlotId) (ns : List Note)
-    → ((i : ℕ) → i < length ns → get_or ns i note.Idle ≢ note.Valid k s) → entry_times k s (valid_of ns) ≡ 0
+    → ((i : ℕ) → i < length ns → get_or ns i note.Idle ≢ note.Valid k s)
+    → entry_times k s (valid_of ns) ≡ 0
 snapshot_none k s [] none = entry_none k s
 snapshot_none k s (note.Idle ∷ ns) none =
     snapshot_none k s ns (λ i lt. none (suc i) (omega arith))
@@ -33,8 +34,13 @@ snapshot_none k s (note.Announced l x ∷ ns) none =
 snapshot_none k s (note.Valid l x ∷ ns) none =
     let c = entry_cons k s (l, x) (valid_of ns) in
     let r = snapshot_none k s ns (λ i lt. none (suc i) (omega arith)) in
-    let z = none_by _ (λ h. none 0 (omega arith) (ap (λ (e : Kind × SlotId). note.Valid e.0 e.1) (entry_is k s (l, x) h))) in
+    let z = none_by _
+    (λ h. none 0 (omega arith)
+    (ap (λ (e : Kind × SlotId). note.Valid e.0 e.1) (entry_is k s (l, x) h))) in
     omega arith
+
+-- a search for a valid note
+pub ruleset snapshot_search = (snapshot_at, snapshot_none)
 
 -- every note past those that are there is an idle one
 pub all_idle : (ns : List Note) → ((i : ℕ) → i < length ns → get_or ns i note.Idle ≡ note.Idle)

@@ -15,7 +15,7 @@ use Rattle.core_events.specs.declared.shape.Shape.{Shape}
 use Rattle.core_events.specs.declared.view.CoreView.{CoreView}
 use Rattle.core_events.specs.declared.view.Move.{Move}
 use Rattle.core_events.specs.declared.view.Phase.{Phase}
-use Rattle.core_events.specs.Steps.{May, IsIdle, HasRoom, CanGive, IsContent, answer, changed, given_up, paid, ended, exchanged, without_given, scanned, is_last, all_seen, is_valid, with_note, validated}
+use Rattle.core_events.specs.Steps.{May, CanGive, answer, changed, given_up, paid, ended, exchanged, is_last, all_seen, is_valid, with_note, validated}
 use Rattle.core_events.specs.declared.view.Phase.TheVariants as phase
 use Rattle.core_events.specs.Words.{ZERO, has_help}
 use Rattle.core_events.specs.Ejection.{kept, ejected}
@@ -52,19 +52,22 @@ exchanged_with Strong (Some s) w v t = refl
 exchanged_with Weak (Some s) w v t = refl
 
 -- the places of a seat, without the trail
-open_with : (z : Shape) (v : CoreView) (t : List Move) (p : EventPlace) → IsOpen z (with t v) p → IsOpen z v p
+open_with : (z : Shape) (v : CoreView) (t : List Move) (p : EventPlace)
+    → IsOpen z (with t v) p → IsOpen z v p
 open_with z v t (Cell i) h = h
 open_with z v t (Field s i) h = h
 open_with z v t (WeakCell i) h = h
 open_with z v t (WeakField s) h = h
 
-dying_with : (v : CoreView) (t : List Move) (p : EventPlace) → IsDyingField (with t v) p → IsDyingField v p
+dying_with : (v : CoreView) (t : List Move) (p : EventPlace)
+    → IsDyingField (with t v) p → IsDyingField v p
 dying_with v t (Cell i) h = h
 dying_with v t (Field s i) h = h
 dying_with v t (WeakCell i) h = h
 dying_with v t (WeakField s) h = h
 
-can_give_with : (k : Kind) (new : Option SlotId) (v : CoreView) (t : List Move) → CanGive k new (with t v) → CanGive k new v
+can_give_with : (k : Kind) (new : Option SlotId) (v : CoreView) (t : List Move)
+    → CanGive k new (with t v) → CanGive k new v
 can_give_with k None v t h = h
 can_give_with Strong (Some s) v t h = h
 can_give_with Weak (Some s) v t h = h
@@ -83,10 +86,14 @@ may_with z (act.Release j) v t h = h
 may_with z (act.Look p) v t h = (h.0, open_with z v t p h.1)
 may_with z (act.Check j p) v t h = (h.0, h.1, h.2, open_with z v t p h.3)
 may_with z act.Scan v t h = h
-may_with z (act.Swap p new) v t h = (h.0, h.1,
-    ⊎_elim (λ o. inl (open_with z v t p o.0, can_give_with (place_kind p) new v t o.1))
-    (λ d. inr (dying_with v t p d.0, d.1)) h.2)
-may_with z (act.Cas p old new) v t h = (h.0, h.1, open_with z v t p h.2, can_give_with (place_kind p) new v t h.3, h.4)
+may_with z (act.Swap p new) v t h = (
+  h.0,
+  h.1,
+  ⊎_elim (λ o. inl (open_with z v t p o.0, can_give_with (place_kind p) new v t o.1))
+      (λ d. inr (dying_with v t p d.0, d.1)) h.2,
+)
+may_with z (act.Cas p old new) v t h =
+    (h.0, h.1, open_with z v t p h.2, can_give_with (place_kind p) new v t h.3, h.4)
 may_with z (act.Claim s) v t h = h
 may_with z (act.Fill i x) v t h = h
 may_with z act.Start v t h = h
@@ -132,7 +139,8 @@ pub changed_with : (z : Shape) (a : Act) (w : ℕ) (v : CoreView) (t : List Move
 changed_with z (act.Add s) w v t =
     either_way (nat_lt w ZERO)
     (record v { owned = v.owned ++ s ∷ []; adds = v.adds + 1 }) (record v { adds = v.adds + 1 }) t
-changed_with z (act.Drop s) w v t = given_up_with Strong s w (record v { owned = without s v.owned }) t
+changed_with z (act.Drop s) w v t =
+    given_up_with Strong s w (record v { owned = without s v.owned }) t
 changed_with z act.Pay w v t = paid_with v.owed w v t
 changed_with z act.Finish w v t =
     ended_with (w == 0) (slot_of v.phase)
@@ -167,7 +175,9 @@ changed_with z act.Start w v t = refl
 changed_with z (act.See s i) w v t = refl
 changed_with z act.Free w v t = refl
 changed_with z (act.Wadd s) w v t = refl
-changed_with z (act.Wdrop s) w v t = given_up_with Weak s w (record v { weaks = without s v.weaks }) t
-changed_with z (act.Destroy s) w v t = given_up_with Weak s w (record v { dying = without s v.dying }) t
+changed_with z (act.Wdrop s) w v t =
+    given_up_with Weak s w (record v { weaks = without s v.weaks }) t
+changed_with z (act.Destroy s) w v t =
+    given_up_with Weak s w (record v { dying = without s v.dying }) t
 changed_with z (act.Wcount s) w v t = refl
 changed_with z (act.Leave j) w v t = refl

@@ -1,5 +1,5 @@
 //! Announcements: written, found valid, taken back, read by a scan.
-ghost use Rattle.std.specs.Prelude.{◌≡◌, ◌<◌, ◌+◌, ◌^◌, ◌≤◌, ◌==◌, ◌++◌, ◌∷◌, [], IfOk, OnOk, OnErr, length, vec_len, if◌then◌else◌};
+ghost use Rattle.std.specs.Prelude.{◌≡◌, ◌<◌, ◌+◌, ◌^◌, ◌≤◌, [], IfOk, OnOk, OnErr, length, vec_len, if◌then◌else◌};
 ghost use Rattle.std.specs.VecDeque.{deque_len};
 ghost use Rattle.core_events.specs.declared.outcome.Outcome.TheVariants as outcome;
 ghost use Rattle.core_events.specs.declared.view.Note.TheVariants as note;
@@ -55,7 +55,8 @@ impl Holdings {
     pub(crate) fn check(&mut self, at: u32, word: u64) -> Outcome
         requires there { at < 4 }
         requires content { word < 2 ^ 32 }
-        ensures told { result ≡ (if is_valid word (note_of self.old at) then outcome.Valid else outcome.Moved (slot_in word)) }
+        ensures told { result ≡ (if is_valid word (note_of self.old at)
+            then outcome.Valid else outcome.Moved (slot_in word)) }
         ensures changed { self.new ≡ (if is_valid word (note_of self.old at)
             then with_note at (validated (note_of self.old at)) self.old else self.old) }
     {
@@ -77,7 +78,8 @@ impl Holdings {
 
     /// Has read one more word of a scan.
     fn read(&mut self, word: u64) -> Result<(), OutOfMemory>
-        ensures ok { OnOk result (self.new ≡ record self.old { phase = phase.Scan; seen = all_seen word self.old }) }
+        ensures ok { OnOk result (self.new
+            ≡ record self.old { phase = phase.Scan; seen = all_seen word self.old }) }
         ensures err { OnErr result (self.new ≡ self.old) }
     {
         self.seen.reserve(1)?;
@@ -89,8 +91,10 @@ impl Holdings {
     /// The parts of the retired entries, by the words seen and this last one.
     fn parts(&self, word: u64) -> Result<Parts, OutOfMemory>
         requires { length self.now.retired ≤ self.now.room }
-        ensures kept { IfOk result (λ p. p.kept.items ≡ kept self.now.retired (all_seen word self.now)) }
-        ensures ejected { IfOk result (λ p. p.ejected.items ≡ ejected self.now.retired (all_seen word self.now)) }
+        ensures kept { IfOk result (λ p. p.kept.items
+            ≡ kept self.now.retired (all_seen word self.now)) }
+        ensures ejected { IfOk result (λ p. p.ejected.items
+            ≡ ejected self.now.retired (all_seen word self.now)) }
         ensures few { IfOk result (λ p. vec_len p.kept + deque_len p.ejected < 2 ^ 32) }
     {
         split(self.alloc, &self.retired, &self.seen, word)

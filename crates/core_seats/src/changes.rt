@@ -42,15 +42,13 @@ impl Holdings {
             Act::Swap(place, new) => self.swap(kind_of(place), new, word),
             Act::Cas(place, old, new) => self.cas(kind_of(place), old, new, word),
             Act::Claim(slot) => Ok(self.claim(slot, word)),
-            Act::Fill(_, _) => Ok(Outcome::Plain),
             Act::Start => self.start(),
-            Act::See(_, _) => Ok(Outcome::Word(word)),
             Act::Free => Ok(self.free()),
             Act::Wadd(slot) => self.add_weak(slot),
             Act::Wdrop(slot) => Ok(self.drop_weak(slot, word)),
             Act::Destroy(slot) => Ok(self.destroy(slot, word)),
-            Act::Wcount(_) => Ok(Outcome::Word(word)),
-            Act::Leave(_) => Ok(Outcome::Plain),
+            Act::See(_, _) | Act::Wcount(_) => Ok(Outcome::Word(word)),
+            Act::Fill(_, _) | Act::Leave(_) => Ok(Outcome::Plain),
         }
     }
 }

@@ -1,5 +1,5 @@
 //! What a seat may do, by what it has.
-ghost use Rattle.std.specs.Prelude.{◌≡◌, ◌≢◌, ◌↔◌, ◌⊎◌, ◌<◌, ℕ, IsTrue, []};
+ghost use Rattle.std.specs.Prelude.{◌≡◌, ◌≢◌, ◌↔◌, ◌⊎◌, ◌+◌, ◌<◌, ◌≤◌, ℕ, IsTrue, [], length};
 ghost use Rattle.plain_state.specs.declared.slot.SlotId.{SlotId};
 ghost use Rattle.plain_state.specs.Lists.{times};
 ghost use Rattle.core_events.specs.declared.act.Act.TheVariants as act;
@@ -41,6 +41,14 @@ impl Holdings {
         ensures { IsTrue result ↔ (self.now.makes < self.now.quota.makes) }
     {
         self.makes < self.quota.makes
+    }
+
+    /// Whether what it has retired and owes is within its room.
+    pub(crate) fn is_within_room(&self) -> bool
+        ensures { IsTrue result
+            ↔ (length self.now.retired + length self.now.owed ≤ self.now.room) }
+    {
+        self.retired.len() + self.owed.len() <= self.room as usize
     }
 
     pub(crate) fn has_room(&self) -> bool
@@ -147,7 +155,8 @@ impl Holdings {
 
     /// Whether a reference of this kind is announced there, and was not found yet.
     pub(crate) fn has_announced(&self, at: u32, kind: Kind) -> bool
-        ensures { IsTrue result ↔ ((at < 4) × ((s : SlotId) × (note_of self.now at ≡ note.Announced kind s))) }
+        ensures { IsTrue result
+            ↔ ((at < 4) × ((s : SlotId) × (note_of self.now at ≡ note.Announced kind s))) }
     {
         at < 4
             && match self.notes[at as usize] {
@@ -244,17 +253,17 @@ impl Holdings {
         self.is_idle() && slot.0 < shape.slots && self.has_make() && self.has_add()
     }
 
-    /// Whether the seat may write a payload word.
+    /// Whether the seat may write this payload word. Any word of 64 bits will do.
     pub(crate) fn can_fill(&self, shape: &Shape, at: u32, word: u64) -> bool
         ensures { IsTrue result ↔ May shape.now (act.Fill at word) self.now }
     {
-        let _any = word;
         self.is_filling() && at < 16
     }
 
     /// Whether the seat may read a payload word of the slot.
     pub(crate) fn can_see(&self, slot: SlotId) -> bool
-        ensures { IsTrue result ↔ (IsIdle self.now × (Holds self.now slot ⊎ (0 < times slot self.now.dying))) }
+        ensures { IsTrue result
+            ↔ (IsIdle self.now × (Holds self.now slot ⊎ (0 < times slot self.now.dying))) }
     {
         self.is_idle() && (self.holds(slot) || self.has_dying(slot))
     }

@@ -1,5 +1,5 @@
 //! References that a seat gains, and those that it gives up.
-ghost use Rattle.std.specs.Prelude.{◌≡◌, ◌<◌, ◌+◌, ◌++◌, ◌∷◌, [], nat_lt, IfOk, OnOk, OnErr, if◌then◌else◌};
+ghost use Rattle.std.specs.Prelude.{◌≡◌, ◌+◌, ◌++◌, ◌∷◌, [], nat_lt, IfOk, OnOk, OnErr, if◌then◌else◌};
 ghost use Rattle.plain_state.specs.declared.slot.Kind.TheVariants.{Strong, Weak};
 ghost use Rattle.core_events.specs.declared.outcome.Outcome.TheVariants as outcome;
 ghost use Rattle.core_events.specs.Words.{ZERO};
@@ -16,7 +16,8 @@ impl Holdings {
     /// One more strong reference, unless the zero flag stood. It uses an add in any case.
     pub(crate) fn add(&mut self, slot: SlotId, word: u64) -> Result<Outcome, OutOfMemory>
         requires { HasAdd self.old }
-        ensures told { IfOk result (λ o. o ≡ (if nat_lt word ZERO then outcome.Up else outcome.Dead)) }
+        ensures told { IfOk result (λ o. o
+            ≡ (if nat_lt word ZERO then outcome.Up else outcome.Dead)) }
         ensures ok { OnOk result (self.new ≡ (if nat_lt word ZERO
             then record self.old { owned = self.old.owned ++ slot ∷ []; adds = self.old.adds + 1 }
             else record self.old { adds = self.old.adds + 1 })) }
@@ -35,7 +36,8 @@ impl Holdings {
     /// One strong reference less.
     pub(crate) fn drop_strong(&mut self, slot: SlotId, word: u64) -> Outcome
         ensures told { result ≡ decremented Strong word }
-        ensures changed { self.new ≡ given_up Strong slot word (record self.old { owned = without slot self.old.owned }) }
+        ensures changed { self.new
+            ≡ given_up Strong slot word (record self.old { owned = without slot self.old.owned }) }
     {
         take_first(&mut self.owned, slot);
         self.give_up(Kind::Strong, slot, word)
@@ -56,7 +58,8 @@ impl Holdings {
     pub(crate) fn add_weak(&mut self, slot: SlotId) -> Result<Outcome, OutOfMemory>
         requires { HasAdd self.old }
         ensures told { IfOk result (λ o. o ≡ outcome.Plain) }
-        ensures ok { OnOk result (self.new ≡ record self.old { weaks = self.old.weaks ++ slot ∷ []; adds = self.old.adds + 1 }) }
+        ensures ok { OnOk result (self.new
+            ≡ record self.old { weaks = self.old.weaks ++ slot ∷ []; adds = self.old.adds + 1 }) }
         ensures err { OnErr result (self.new ≡ self.old) }
     {
         self.weaks.reserve(1)?;
@@ -68,7 +71,8 @@ impl Holdings {
     /// One weak reference less.
     pub(crate) fn drop_weak(&mut self, slot: SlotId, word: u64) -> Outcome
         ensures told { result ≡ decremented Weak word }
-        ensures changed { self.new ≡ given_up Weak slot word (record self.old { weaks = without slot self.old.weaks }) }
+        ensures changed { self.new
+            ≡ given_up Weak slot word (record self.old { weaks = without slot self.old.weaks }) }
     {
         take_first(&mut self.weaks, slot);
         self.give_up(Kind::Weak, slot, word)
@@ -77,7 +81,8 @@ impl Holdings {
     /// One slot less that waits to be destroyed: its own weak reference goes.
     pub(crate) fn destroy(&mut self, slot: SlotId, word: u64) -> Outcome
         ensures told { result ≡ decremented Weak word }
-        ensures changed { self.new ≡ given_up Weak slot word (record self.old { dying = without slot self.old.dying }) }
+        ensures changed { self.new
+            ≡ given_up Weak slot word (record self.old { dying = without slot self.old.dying }) }
     {
         take_first(&mut self.dying, slot);
         self.give_up(Kind::Weak, slot, word)

@@ -36,8 +36,10 @@ impl Holdings {
 
     /// Ends the object if the help flag stood.
     pub(crate) fn take(&mut self, word: u64) -> Result<Outcome, OutOfMemory>
-        ensures told { IfOk result (λ o. o ≡ (if has_help word then outcome.Ended else outcome.NoHelp)) }
-        ensures ok { OnOk result (self.new ≡ ended (has_help word) (slot_of self.old.phase) phase.Idle self.old) }
+        ensures told { IfOk result (λ o. o
+            ≡ (if has_help word then outcome.Ended else outcome.NoHelp)) }
+        ensures ok { OnOk result (self.new
+            ≡ ended (has_help word) (slot_of self.old.phase) phase.Idle self.old) }
         ensures err { OnErr result (self.new ≡ self.old) }
     {
         if helps(word) {
@@ -54,7 +56,8 @@ impl Holdings {
         requires { self.old.makes < self.old.quota.makes }
         ensures told { result ≡ (if word == ZERO then outcome.Claimed else outcome.Taken) }
         ensures changed { self.new ≡ (if word == ZERO
-            then record self.old { makes = self.old.makes + 1; phase = phase.Blank slot } else self.old) }
+            then record self.old { makes = self.old.makes + 1; phase = phase.Blank slot }
+            else self.old) }
     {
         if word != ZERO_FLAG {
             return Outcome::Taken;

@@ -75,8 +75,10 @@ impl Holdings {
         word: u64,
     ) -> Result<Outcome, OutOfMemory>
         requires { word < 2 ^ 32 }
-        ensures told { IfOk result (λ o. o ≡ (if word == word_of old then outcome.Done else outcome.LostTo (slot_in word))) }
-        ensures ok { OnOk result (self.new ≡ (if word == word_of old then exchanged kind new word self.old else self.old)) }
+        ensures told { IfOk result (λ o. o
+            ≡ (if word == word_of old then outcome.Done else outcome.LostTo (slot_in word))) }
+        ensures ok { OnOk result (self.new
+            ≡ (if word == word_of old then exchanged kind new word self.old else self.old)) }
         ensures err { OnErr result (self.new ≡ self.old) }
     {
         if word != held_as(old) {

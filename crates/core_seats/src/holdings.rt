@@ -9,7 +9,7 @@ use std::marker::Model;
 
 /// The trail of a seat that has left, by its number.
 #[derive(Drop)]
-pub(crate) struct PastTrail {
+pub struct PastTrail {
     pub(crate) seat: u32,
     pub(crate) trail: Vec<Move>,
 }
@@ -73,7 +73,9 @@ impl Model for Holdings {
       left_trails = a.left_trails.items;
     } };
 
-    ghost invariant = { λ a. (a.room < 2 ^ 32) × (a.quota.makes < 2 ^ 64) × (a.quota.adds < 2 ^ 64) };
+    // the ranges of their types
+    ghost invariant = { λ a.
+        (a.room < 2 ^ 32) × (a.quota.makes < 2 ^ 64) × (a.quota.adds < 2 ^ 64) };
 }
 
 /// How many entries a seat may have retired and owed together, as long as no other has left.

@@ -25,7 +25,8 @@ impl Holdings {
     /// Takes over what the leaver has, and its trail.
     fn absorb(&mut self, leaver: &mut Holdings, trail: &mut Vec<Move>) -> Result<(), OutOfMemory>
         requires { self.old.room + room_of self.old.shape < 2 ^ 32 }
-        ensures ok { OnOk result (self.new ≡ taken_over self.old (record leaver.old { trail = trail.old.items })) }
+        ensures ok { OnOk result (self.new
+            ≡ taken_over self.old (record leaver.old { trail = trail.old.items })) }
         ensures left { OnOk result (leaver.new ≡ left_behind leaver.old) }
         ensures trail { OnOk result (trail.new.items ≡ []) }
         ensures err { OnErr result (self.new ≡ self.old) }
@@ -54,10 +55,12 @@ impl Holdings {
 }
 
 impl SeatView {
-    /// Takes over all that a seat has which leaves, and notes it. After an error neither has changed.
+    /// Takes over all that the seat has which leaves, and notes that. Each list of the leaver comes
+    /// behind the root's own. After an error neither has changed.
     pub fn take_over(&mut self, leaver: &mut SeatView) -> Result<(), OutOfMemory>
         requires { self.old.room + room_of self.old.shape < 2 ^ 32 }
-        ensures ok { OnOk result (self.new ≡ noted (act.Leave leaver.old.seat) outcome.Plain (taken_over self.old leaver.old)) }
+        ensures ok { OnOk result (self.new ≡ noted (act.Leave leaver.old.seat) outcome.Plain
+            (taken_over self.old leaver.old)) }
         ensures left { OnOk result (leaver.new ≡ left_behind leaver.old) }
         ensures err { OnErr result (self.new ≡ self.old) }
         ensures leaver_err { OnErr result (leaver.new ≡ leaver.old) }

@@ -25,6 +25,7 @@ mod conditions;
 mod counters;
 mod endings;
 mod exchanges;
+mod fits;
 mod holdings;
 mod leave;
 mod lists;
@@ -39,5 +40,7 @@ mod tests;
 mod words;
 
 pub use core_events::{Act, EventPlace, Kind, Move, Note, Outcome, Phase, Quota, Shape, SlotId};
+pub use fits::is_word_for;
+pub use holdings::PastTrail;
 pub use out_of_memory::OutOfMemory;
 pub use seat::SeatView;

@@ -37,7 +37,7 @@ fn is_snapshot(note: &Note, kind: Kind, slot: SlotId) -> bool
 }
 
 /// Whether a seat with these notes is under a snapshot of the slot, of this kind.
-#[tactic(auto, using(crate::proofs::Snapshots::snapshot_at, crate::proofs::Snapshots::snapshot_none))]
+#[tactic(auto, using(crate::proofs::Snapshots::snapshot_search))]
 pub(crate) fn has_snapshot(notes: &[Note], kind: Kind, slot: SlotId) -> bool
     ensures { IsTrue result ↔ (0 < entry_times kind slot (valid_of notes.now)) }
 {

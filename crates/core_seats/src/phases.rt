@@ -56,7 +56,8 @@ impl Holdings {
 
     /// Has ended the object of the slot.
     pub(crate) fn end(&mut self, slot: SlotId) -> Result<(), OutOfMemory>
-        ensures ok { OnOk result (self.new ≡ record self.old { dying = self.old.dying ++ slot ∷ []; phase = phase.Idle }) }
+        ensures ok { OnOk result (self.new
+            ≡ record self.old { dying = self.old.dying ++ slot ∷ []; phase = phase.Idle }) }
         ensures err { OnErr result (self.new ≡ self.old) }
     {
         self.dying.reserve(1)?;
@@ -67,8 +68,10 @@ impl Holdings {
 
     /// Has read the strong word of a slot.
     pub(crate) fn count(&mut self, slot: SlotId, word: u64) -> Outcome
-        ensures told { result ≡ (if word == 0 then outcome.Again else outcome.Number (value word)) }
-        ensures changed { self.new ≡ (if word == 0 then record self.old { phase = phase.Zero slot } else self.old) }
+        ensures told { result
+            ≡ (if word == 0 then outcome.Again else outcome.Number (value word)) }
+        ensures changed { self.new
+            ≡ (if word == 0 then record self.old { phase = phase.Zero slot } else self.old) }
     {
         if word != 0 {
             return Outcome::Number(counted(word));

@@ -2,7 +2,7 @@
 ghost use Rattle.std.specs.Prelude.{◌≡◌, ◌+◌, ◌++◌, ◌∷◌, [], IsTrue, IfOk, false, length, vec_len};
 ghost use Rattle.std.specs.VecDeque.{deque_len};
 ghost use Rattle.std.specs.List.{filter};
-ghost use Rattle.core_events.specs.Ejection.{code_of, without_word, is_seen, kept, ejected};
+ghost use Rattle.core_events.specs.Ejection.{without_word, is_seen, kept, ejected};
 ghost use Rattle.core_seats.specs.Scans.{announces};
 
 use crate::words::announced_as;
@@ -19,7 +19,7 @@ pub(crate) struct Parts {
 }
 
 /// Takes the first copy of the word, if there is one, and tells.
-#[tactic(auto, using(crate::proofs::Scans::seen_at, crate::proofs::Scans::not_seen, crate::proofs::Scans::without_word_at))]
+#[tactic(auto, using(crate::proofs::Scans::word_search))]
 fn take_word(words: &mut Vec<u64>, word: u64) -> bool
     ensures was { result ≡ is_seen word words.old.items }
     ensures taken { IsTrue result → words.new.items ≡ without_word word words.old.items }
@@ -51,8 +51,8 @@ fn announcing(alloc: Global, seen: &[u64], last: u64) -> Result<Vec<u64>, OutOfM
 }
 
 /// Splits the entries by the words of a scan: of the copies of one entry as many are kept as there
-/// are words that announce it, the earlier ones. Each entry is compared with the words that announce
-/// something and aren't used up.
+/// are words that announce it, the earlier ones. Each entry is compared with the words that
+/// announce something and aren't used up.
 #[tactic(auto, using(crate::proofs::Scans::kept_left, crate::proofs::Scans::ejected_left))]
 pub(crate) fn split(
     alloc: Global,
@@ -61,8 +61,10 @@ pub(crate) fn split(
     last: u64,
 ) -> Result<Parts, OutOfMemory>
     ensures kept { IfOk result (λ p. p.kept.items ≡ kept retired.now (seen.now ++ last ∷ [])) }
-    ensures ejected { IfOk result (λ p. p.ejected.items ≡ ejected retired.now (seen.now ++ last ∷ [])) }
-    ensures lengths { IfOk result (λ p. vec_len p.kept + deque_len p.ejected ≡ length retired.now) }
+    ensures ejected { IfOk result (λ p. p.ejected.items
+        ≡ ejected retired.now (seen.now ++ last ∷ [])) }
+    ensures lengths { IfOk result (λ p. vec_len p.kept + deque_len p.ejected
+        ≡ length retired.now) }
 {
     let mut words = announcing(alloc, seen, last)?;
     let mut kept = Vec::new(alloc);

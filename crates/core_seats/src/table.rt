@@ -25,8 +25,8 @@ impl SeatView {
         }
     }
 
-    /// Whether the seat may make the act, as far as what it has tells. It looks through the lists of
-    /// the seat that the act needs.
+    /// Whether the seat may make the act, as far as what it has tells. It looks through those of
+    /// its lists that the act's condition names.
     pub fn may(&self, shape: &Shape, act: &Act) -> bool
         ensures { IsTrue result ↔ May shape.now act.now self.now }
     {
@@ -61,7 +61,8 @@ impl SeatView {
         }
     }
 
-    /// The place, among all words, of the word that the act is on.
+    /// Which word the act is on: its place among all words, from 0. Where the seat owes nothing, a
+    /// payment has none, and the answer is 0.
     pub fn place(&self, shape: &Shape, act: &Act) -> usize
         ensures { result ≡ place shape.now act.now self.now }
     {
@@ -87,8 +88,13 @@ impl SeatView {
         }
     }
 
-    /// Makes the act, which finds the word, and notes it with its answer. A leave is only noted: what
-    /// the seat takes over then comes by `take_over`. After an error nothing has changed.
+    /// Makes the act, which finds `word`, and answers what the act answers. What the seat has, and
+    /// its trail, are then as the table of events says. A leave is of two seats: `take_over` makes
+    /// it, and here it would only be noted.
+    ///
+    /// It looks through the list that loses an entry, if one does. The last word of a scan compares
+    /// each retired entry with the words that announce something. A list that grows takes memory,
+    /// and so do the parts of a split. After an error nothing has changed.
     pub fn moves(&mut self, shape: &Shape, act: &Act, word: u64) -> Result<Outcome, OutOfMemory>
         requires may { May shape.now act.now self.old }
         requires fit { IsFit self.old }

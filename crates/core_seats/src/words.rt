@@ -1,5 +1,5 @@
 //! Words that an act finds, and what they say.
-ghost use Rattle.std.specs.Prelude.{◌≡◌, ◌<◌, ◌≤◌, ◌+◌, ◌^◌};
+ghost use Rattle.std.specs.Prelude.{◌≡◌, ◌<◌, ◌^◌};
 ghost use Rattle.plain_state.specs.Steps.{word_of};
 ghost use Rattle.core_events.specs.Words.{has_help, value, slot_in, code};
 

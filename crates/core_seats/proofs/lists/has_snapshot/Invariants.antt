@@ -1,4 +1,4 @@
-use Rattle.std.proofs.Common.{◌≡◌, ◌≢◌, ℕ, ◌<◌, get_or}
+use Rattle.std.proofs.Common.{◌≢◌, ℕ, ◌<◌, get_or}
 use Rattle.core_events.specs.declared.view.Note.TheVariants as note
 use Rattle.core_seats.proofs.lists.has_snapshot.Given as goal
 

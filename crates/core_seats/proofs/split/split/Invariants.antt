@@ -1,5 +1,5 @@
 use Rattle.std.proofs.Common.{◌≡◌, ◌+◌, ◌++◌, ◌∷◌, [], drop}
-use Rattle.std.specs.Prelude.{vec_len, length}
+use Rattle.std.specs.Prelude.{vec_len}
 use Rattle.std.specs.VecDeque.{deque_len}
 use Rattle.core_events.specs.Ejection.{kept, ejected}
 use Rattle.core_seats.proofs.split.split.Given as goal
