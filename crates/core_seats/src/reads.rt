@@ -148,16 +148,4 @@ impl PastTrail {
     {
         &self.trail
     }
-
-    pub fn owed(&self) -> &VecDeque<(Kind, SlotId)>
-        ensures { result.now.items ≡ self.now.owed }
-    {
-        &self.holdings.owed
-    }
-
-    pub fn seen(&self) -> &[u64]
-        ensures { result.now ≡ self.now.seen }
-    {
-        &self.holdings.seen
-    }
 }
