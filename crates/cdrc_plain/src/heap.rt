@@ -9,7 +9,9 @@ ghost use Rattle.plain_state.specs.Lawful.{Lawful};
 ghost use Rattle.plain_state.specs.Steps.{Does};
 ghost use Rattle.plain_store.specs.Heaps.{Owns, Makes, NoneFree, AllFit};
 ghost use Rattle.plain_store.specs.Stores.{plain_of, Kept};
+ghost use Rattle.cdrc_plain.specs.Watching.{IsRestlessOnly};
 
+use crate::restless::Restless;
 use out_of_memory::OutOfMemory;
 use plain_state::{PayloadKind, SlotId};
 use plain_store::{Hand, MakeRefused, Store};
@@ -17,10 +19,12 @@ use std::alloc::Global;
 use std::marker::{Model, PhantomData};
 
 /// A heap of counted objects for one thread. Contracts see it as its plain state; a call that is refused leaves that
-/// state as it was. Objects end and slots are given again when it settles.
+/// state as it was. Objects end and slots are given again when it settles, for which it remembers where a drop may have
+/// left a slot without references.
 #[derive(Drop)]
 pub struct PlainHeap<W: PayloadKind> {
     pub(crate) store: Store,
+    pub(crate) restless: Restless,
     pub(crate) kind: PhantomData<W>,
 }
 
@@ -29,7 +33,8 @@ impl<W: PayloadKind> Model for PlainHeap<W> {
 
     ghost view = { λ h. plain_of h.store };
 
-    ghost invariant = { λ h. Kept h.store × AllFit W.fits (plain_of h.store) };
+    ghost invariant = { λ h. Kept h.store × AllFit W.fits (plain_of h.store)
+        × IsRestlessOnly h.restless (plain_of h.store) };
 }
 
 impl<W: PayloadKind> PlainHeap<W> {
@@ -48,6 +53,7 @@ impl<W: PayloadKind> PlainHeap<W> {
         let store = Store::new(alloc, slots, cells, weak_cells)?;
         Ok(PlainHeap {
             store,
+            restless: Restless::Nowhere,
             kind: PhantomData,
         })
     }
@@ -67,7 +73,9 @@ impl<W: PayloadKind> PlainHeap<W> {
         requires { Owns self.old hand }
         ensures { Does self.old 0 (act.Drop hand) 0 self.new }
     {
-        self.store.drop_owned(hand.slot());
+        let slot = hand.slot();
+        self.store.drop_owned(slot);
+        self.restless = self.restless.also(slot);
     }
 
     /// The strong and the weak references to the slot: what seats own, what places hold and what is deferred.

@@ -47,7 +47,9 @@ impl<W: PayloadKind> PlainHeap<W> {
         requires { OwnsWeakly self.old w }
         ensures { Does self.old 0 (act.WeakDrop w) 0 self.new }
     {
-        self.store.drop_weak(w.slot());
+        let slot = w.slot();
+        self.store.drop_weak(slot);
+        self.restless = self.restless.also(slot);
     }
 
     /// An owned reference to the object, or None exactly where it has ended: where its zero mark

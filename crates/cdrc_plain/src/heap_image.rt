@@ -1,7 +1,7 @@
 //! A plain heap as words.
 ghost use Rattle.std.specs.Prelude.{◌≡◌, IfOk};
-ghost use Rattle.plain_state.specs.Lawful.{Lawful};
 ghost use Rattle.plain_state.specs.Images.{IsImage};
+ghost use Rattle.plain_store.specs.Heaps.{IsHeap};
 ghost use Rattle.plain_store.specs.Stores.{plain_of, Kept};
 
 use crate::heap::PlainHeap;
@@ -16,7 +16,7 @@ impl<W: PayloadKind> PlainHeap<W> {
     /// deferred entries.
     pub fn image(&self, alloc: Global) -> Result<Heap, OutOfMemory>
         ensures image { IfOk result (IsImage self.now) }
-        ensures lawful { Lawful self.now }
+        ensures heap { IsHeap W.fits self.now }
     {
         Ok(Heap {
             slots: self.store.slot_images(alloc)?,

@@ -27,7 +27,13 @@ impl<W: PayloadKind> PlainHeap<W> {
         requires { HasSnapshot self.old s.0 s.1 }
         ensures { Does self.old 0 (ending s.0 s.1) 0 self.new }
     {
-        self.store.unsnap(s.slot(), counted(&s));
+        let slot = s.slot();
+        if counted(&s) {
+            self.store.drop_owned(slot);
+            self.restless = self.restless.also(slot);
+        } else {
+            self.store.end_snapshot(slot);
+        }
     }
 
     /// One more owned reference to the snapshot's object. It uses an add, and answers OutOfMemory

@@ -22,8 +22,11 @@ mod heap_image;
 mod heap_places;
 mod heap_settle;
 mod heap_snapshots;
+mod restless;
 #[cfg(test)]
 mod tests;
+#[cfg(test)]
+mod tests_asks;
 #[cfg(test)]
 mod tests_settle;
 

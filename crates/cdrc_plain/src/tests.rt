@@ -1,90 +1,15 @@
 //! What no clause says: that the calls succeed with ample memory, and scripts with the counts that
 //! follow from them.
-ghost use Rattle.std.specs.Prelude.{◌≡◌, ◌<◌, IsTrue, length};
-ghost use Rattle.plain_state.specs.declared.slot.Kind.TheVariants.{Strong};
-ghost use Rattle.plain_state.specs.Lists.{times, entry_times};
-ghost use Rattle.plain_state.specs.State.{seat_at};
-ghost use Rattle.plain_state.specs.Places.{Holds};
-ghost use Rattle.plain_store.specs.Heaps.{Owns, OwnsWeakly};
-ghost use Rattle.plain_store.specs.Calls.{HasSnapshot};
 
 use crate::heap::PlainHeap;
+use crate::tests_asks::{cells, has_snapshot, holds, owns, owns_weakly, weak_cells};
 use crate::{
     Hand, PlainPlace, PlainWeakPlace, RecordKind, SlotId, SnapHand, WeakHand, counted, record_of,
 };
-use plain_state::Kind;
-use plain_store::is_of;
 use std::process::Abort;
 use std::test::Fail;
 
 type Records = PlainHeap<RecordKind>;
-
-// Whether the slot stands in the list.
-fn has(list: &[SlotId], slot: SlotId) -> bool
-    ensures { IsTrue result → 0 < times slot list.now }
-{
-    for x in list {
-        if x.0 == slot.0 {
-            return true;
-        }
-    }
-    false
-}
-
-// Whether the entry stands in the list.
-fn has_entry(list: &[(Kind, SlotId)], slot: SlotId) -> bool
-    ensures { IsTrue result → 0 < entry_times Strong slot list.now }
-{
-    for entry in list {
-        if is_of(entry, Kind::Strong, slot) {
-            return true;
-        }
-    }
-    false
-}
-
-// What a call asks of the heap, tested.
-fn owns(heap: &Records, slot: SlotId) -> bool
-    ensures { IsTrue result → Owns heap.now slot }
-{
-    has(&heap.store.owned, slot)
-}
-
-fn owns_weakly(heap: &Records, slot: SlotId) -> bool
-    ensures { IsTrue result → OwnsWeakly heap.now slot }
-{
-    has(&heap.store.weaks, slot)
-}
-
-fn has_snapshot(heap: &Records, s: &SnapHand) -> bool
-    ensures { IsTrue result → HasSnapshot heap.now s.now.0 s.now.1 }
-{
-    if counted(s) {
-        owns(heap, s.slot())
-    } else {
-        has_entry(&heap.store.snapshots, s.slot())
-    }
-}
-
-fn holds(heap: &Records, slot: SlotId) -> bool
-    ensures { IsTrue result → Holds (seat_at heap.now 0) slot }
-{
-    has(&heap.store.owned, slot)
-        || has(&heap.store.weaks, slot)
-        || has_entry(&heap.store.snapshots, slot)
-}
-
-fn cells(heap: &Records) -> usize
-    ensures { result ≡ length heap.now.cells }
-{
-    heap.store.cells.len()
-}
-
-fn weak_cells(heap: &Records) -> usize
-    ensures { result ≡ length heap.now.weak_cells }
-{
-    heap.store.weak_cells.len()
-}
 
 // An object whose payload word 0 is the text's length.
 fn make(rt: &impl Abort, heap: &mut Records, text: &[u8]) -> Hand {

@@ -28,7 +28,7 @@ mod tests;
 
 pub use crate::cut::pieces;
 pub use crate::error::PiecesError;
-pub use crate::lines::report;
+pub use crate::lines::{push_number, report};
 pub use crate::places::Pieces;
 pub use crate::row::{AuditLine, Row, Totals};
 pub use crate::tally::Tally;

@@ -7,3 +7,4 @@ pub mod OneFile
 pub mod OneFileText
 pub mod Turns
 pub mod Lines
+pub mod Asked

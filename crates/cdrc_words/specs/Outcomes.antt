@@ -1,29 +1,44 @@
 -- What a run wrote, and what caused a refusal.
-use Rattle.std.specs.Prelude.{ℕ, ◌≡◌, ◌<◌, ◌≤◌, ◌⊎◌, List, [], ◌∷◌, length, take, IfSome, MatchOption}
+use Rattle.std.specs.Prelude.{ℕ, ◌≡◌, ◌<◌, ◌≤◌, ◌⊎◌, Bool, true, false, List, [], ◌∷◌, length, take, IfSome, MatchOption}
 use Rattle.std.specs.Io.KnownBytes.{append_known}
 use Rattle.std.specs.declared.option.Option.{Option}
 use Rattle.cdrc_text.specs.Pieces.{pieces_of}
 use Rattle.cdrc_text.specs.Text.{IsText}
+use Rattle.cdrc_scripts.specs.Meaning.{IsScript}
+use Rattle.cdrc_steps.specs.Meaning.{IsSteps}
 use Rattle.lane_gate.specs.Causes.{Rose}
+use Rattle.cdrc_words.specs.declared.command.Task.{Task}
+use Rattle.cdrc_words.specs.declared.command.Task.TheVariants.{Words, Script, Steps}
 
--- the content is within the limits: at most 67,108,864 bytes, and at most 1,000,000 pieces
-abbrev pub IsWithinLimits : List ℕ → Type 0
-IsWithinLimits content = (length content ≤ 67108864) × (length (pieces_of content) ≤ 1000000)
+-- the content is within the limits of the task: at most 67,108,864 bytes, and 1,000,000 pieces to be counted
+abbrev pub IsWithinLimits : Task → List ℕ → Type 0
+IsWithinLimits Words content = (length content ≤ 67108864) × (length (pieces_of content) ≤ 1000000)
+IsWithinLimits Script content = length content ≤ 67108864
+IsWithinLimits Steps content = length content ≤ 67108864
 
--- it passes a limit: it has more bytes than that, or more pieces
-abbrev pub PassesLimit : List ℕ → Type 0
-PassesLimit content = (67108864 < length content) ⊎ (1000000 < length (pieces_of content))
+-- it passes one of them
+abbrev pub PassesLimit : Task → List ℕ → Type 0
+PassesLimit Words content = (67108864 < length content) ⊎ (1000000 < length (pieces_of content))
+PassesLimit Script content = 67108864 < length content
+PassesLimit Steps content = 67108864 < length content
 
 -- the content that a run went by: the one that the source tells, where it tells it
 abbrev pub IsContent : Option (List ℕ) → List ℕ → Type 0
 IsContent told content = IfSome told (λ known. content ≡ known)
 
--- the bytes are the text of one file, counted once, whose content is within the limits
-pub record IsTextOfFile (told : Option (List ℕ)) (bytes : List ℕ) : Type 0 where
+-- the output of a task on a content, and whether a line of it is refused: the text of one file, counted once; what a
+-- script writes; what a list of steps writes
+abbrev pub IsOutput : Task → List ℕ → List ℕ → Bool → Type 0
+IsOutput Words content bytes refused = IsText (content ∷ []) 1 bytes × (refused ≡ false)
+IsOutput Script content bytes refused = IsScript content bytes refused
+IsOutput Steps content bytes refused = IsSteps content bytes refused
+
+-- the output on the content that the run went by, which is within the limits
+pub record IsOutputOf (task : Task) (told : Option (List ℕ)) (bytes : List ℕ) (refused : Bool) : Type 0 where
   pub content : List ℕ
   pub is_content : IsContent told content
-  pub within : IsWithinLimits content
-  pub is_text : IsText (content ∷ []) 1 bytes
+  pub within : IsWithinLimits task content
+  pub is_output : IsOutput task content bytes refused
 
 -- a sink took all of these bytes
 abbrev pub TookAll : List ℕ → Option (List ℕ) → Option (List ℕ) → Type 0
@@ -34,23 +49,25 @@ abbrev pub TookPart : List ℕ → Option (List ℕ) → Option (List ℕ) → T
 TookPart bytes before now =
     (n : ℕ) × (n < length bytes) × (now ≡ append_known before (take n bytes))
 
--- it took the whole text of the file
-abbrev pub TookText : Option (List ℕ) → Option (List ℕ) → Option (List ℕ) → Type 0
-TookText told before now = (bytes : List ℕ) × IsTextOfFile told bytes × TookAll bytes before now
+-- it took the whole output
+abbrev pub TookOutput : Task → Option (List ℕ) → Bool → Option (List ℕ) → Option (List ℕ) → Type 0
+TookOutput task told refused before now =
+    (bytes : List ℕ) × IsOutputOf task told bytes refused × TookAll bytes before now
 
--- it took a front of that text, and not all
-abbrev pub TookPartOfText : Option (List ℕ) → Option (List ℕ) → Option (List ℕ) → Type 0
-TookPartOfText told before now =
-    (bytes : List ℕ) × IsTextOfFile told bytes × TookPart bytes before now
+-- it took a front of the output, and not all
+abbrev pub TookPartOfOutput : Task → Option (List ℕ) → Option (List ℕ) → Option (List ℕ) → Type 0
+TookPartOfOutput task told before now =
+    (bytes : List ℕ) × (refused : Bool) × IsOutputOf task told bytes refused × TookPart bytes before now
 
 -- a told content is longer than 67,108,864 bytes; one that isn't told was found to be too long
 abbrev pub IsTooLong : Option (List ℕ) → ℕ → ℕ → Type 0
 IsTooLong told before now = MatchOption told (Rose before now) (λ content. 67108864 < length content)
 
+-- some content of this size passes a limit of the task
+abbrev pub HasTooMany : Task → Type 0
+HasTooMany task = (content : List ℕ) × (length content ≤ 67108864) × PassesLimit task content
+
 -- a told content passes a limit; one that isn't told was found to be too long, or is some content of too many pieces
-abbrev pub IsTooLarge : Option (List ℕ) → ℕ → ℕ → Type 0
-IsTooLarge told before now =
-    MatchOption told
-    (Rose before now
-    ⊎ ((content : List ℕ) × (length content ≤ 67108864) × (1000000 < length (pieces_of content))))
-    PassesLimit
+abbrev pub IsTooLarge : Task → Option (List ℕ) → ℕ → ℕ → Type 0
+IsTooLarge task told before now =
+    MatchOption told (Rose before now ⊎ HasTooMany task) (PassesLimit task)

@@ -1,13 +1,15 @@
-//! `cdrc_words` counts the words of a file: how often each occurs, and in how many files, with an audit of the heap of
-//! its records before and after all handles are dropped.
+//! `cdrc_words` counts the words of a file, with an audit of the heap of its records before and after all handles are
+//! dropped; runs a script of pointer commands; and checks a list of atomic steps.
 //!
 //! The work is `run`, a call over any source, sink and gate, which answers a status. Its contract says that with status
-//! 0 the bytes taken are the text of the file, and of every other status but want of memory what caused it. It doesn't
-//! say that a run ends: the gate may wait. `main` hands it the words after the program's name, the host's files and
+//! 0 or 8 the bytes taken are the output that the file's content means, and of every other status but want of memory
+//! what caused it. It doesn't say that a run ends: the gate may wait. `main` hands it the words after the program's name, the host's files and
 //! standard output.
 //!
 //! ```text
 //! cdrc_words words FILE
+//! cdrc_words script FILE
+//! cdrc_words steps FILE
 //! ```
 #![tactic(auto)]
 
@@ -21,6 +23,7 @@ mod output;
 mod records;
 mod report;
 mod run;
+mod work;
 #[cfg(test)]
 mod tests;
 

@@ -56,13 +56,14 @@ pub struct End {
 }
 
 impl End {
-    /// The end of the work that ended so.
-    pub fn of(work: Result<(), Refusal>) -> End
+    /// The end of the work that ended so: with its output taken, in which a line was refused or none was, or refused.
+    pub fn of(work: Result<bool, Refusal>) -> End
         ensures status { result.status ≡ status_after work }
         ensures why { result.why ≡ Why.Nothing }
     {
         let status = match work {
-            Ok(()) => 0,
+            Ok(false) => 0,
+            Ok(true) => 8,
             Err(refusal) => refusal.status(),
         };
         End {

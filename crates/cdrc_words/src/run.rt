@@ -1,29 +1,32 @@
 //! The top call.
-ghost use Rattle.std.specs.Prelude.{◌≡◌, ◌≢◌, ◌↔◌, ◌≤◌, ◌⊎◌, ℕ, List, IfErr, IfOk, IfSome, OnOk, length, map, string_bytes};
+ghost use Rattle.std.specs.Prelude.{◌≡◌, ◌≢◌, ◌↔◌, ◌≤◌, ◌⊎◌, ℕ, List, IfErr, IfOk, IfSome, length, map, string_bytes, true, false};
 ghost use Rattle.lane_gate.specs.Causes.{Rose, Stood};
-ghost use Rattle.cdrc_words.specs.Commands.{IsCommand, IsWordsOf};
-ghost use Rattle.cdrc_words.specs.Outcomes.{IsContent, IsTooLarge, IsTooLong, IsWithinLimits, PassesLimit, TookPartOfText, TookText};
+ghost use Rattle.cdrc_words.specs.declared.command.Task.{Task as Work};
+ghost use Rattle.cdrc_words.specs.Commands.{Asks, IsCommand};
+ghost use Rattle.cdrc_words.specs.Outcomes.{IsContent, IsTooLarge, IsTooLong, IsWithinLimits, PassesLimit, TookOutput, TookPartOfOutput};
 ghost use Rattle.cdrc_words.specs.Statuses.{IsStatus};
 ghost use Rattle.cdrc_words.specs.declared.outcome.Refusal.TheVariants as refusal;
 
-use crate::command::file_of;
+use crate::command::{Task, asked};
 use crate::limits::MOST_BYTES;
 use crate::outcome::{End, Refusal, Why};
 use crate::output::write_all;
-use crate::report::report_text;
+use crate::work::output_of;
 use lane_gate::{FileFault, Files, Gate, Sink};
 use std::alloc::Global;
 use std::sync::Wait;
 use std::thread::Threads;
 
-/// Does what the words say: reads the file by its name, counts its words, and offers the report to the sink.
+/// Does what the words say: reads the file by its name, counts its words, runs its script or checks its steps, and
+/// offers the output to the sink.
 ///
 /// The status is 0 where the work was done; 2 exactly where the words aren't understood; 3 only where the source's
 /// count of faults rose in this call; 4 only where the sink's did; 5 exactly where the content passes a limit, which is
-/// 67,108,864 bytes or 1,000,000 pieces; 9 where there was no memory, which may come in place of any but 2. Over a
-/// source that doesn't tell the content, what is said of it is said of some content.
+/// 67,108,864 bytes, or 1,000,000 pieces to be counted; 8 where a line of a script or of steps is refused, which the
+/// output's last line tells; 9 where there was no memory, which may come in place of any but 2. Over a source that
+/// doesn't tell the content, what is said of it is said of some content.
 ///
-/// With 0 the sink took the whole report, with 4 a front of it, with 9 a front or nothing, and else nothing.
+/// With 0 and 8 the sink took the whole output, with 4 a front of it, with 9 a front or nothing, and else nothing.
 pub fn run<R: Threads + Wait + Sync, F: Files, K: Sink, G: Gate + Sync>(
     rt: &R,
     alloc: Global,
@@ -36,65 +39,70 @@ pub fn run<R: Threads + Wait + Sync, F: Files, K: Sink, G: Gate + Sync>(
     ensures why { result.why ≡ Why.Nothing }
     ensures usage { (result.status ≡ 2) ↔ ¬ (IsCommand (map string_bytes words.now)) }
     ensures done { result.status ≡ 0 →
-        (file : List ℕ) → IsWordsOf (map string_bytes words.now) file →
-        TookText (F.told files.old file) (K.taken sink.old) (K.taken sink.new) }
+        (task : Work) (file : List ℕ) → Asks (map string_bytes words.now) task file →
+        TookOutput task (F.told files.old file) false (K.taken sink.old) (K.taken sink.new) }
+    ensures refused { result.status ≡ 8 →
+        (task : Work) (file : List ℕ) → Asks (map string_bytes words.now) task file →
+        TookOutput task (F.told files.old file) true (K.taken sink.old) (K.taken sink.new) }
     ensures read { result.status ≡ 3 → Rose (F.faults files.old) (F.faults files.new) }
     ensures write { result.status ≡ 4 → Rose (K.faults sink.old) (K.faults sink.new) }
     ensures write_part { result.status ≡ 4 →
-        (file : List ℕ) → IsWordsOf (map string_bytes words.now) file →
-        TookPartOfText (F.told files.old file) (K.taken sink.old) (K.taken sink.new) }
+        (task : Work) (file : List ℕ) → Asks (map string_bytes words.now) task file →
+        TookPartOfOutput task (F.told files.old file) (K.taken sink.old) (K.taken sink.new) }
     ensures large { result.status ≡ 5 →
-        (file : List ℕ) → IsWordsOf (map string_bytes words.now) file →
-        IsTooLarge (F.told files.old file) (F.overlong files.old) (F.overlong files.new) }
-    ensures large_exactly { (file : List ℕ) → IsWordsOf (map string_bytes words.now) file →
-        IfSome (F.told files.old file) (λ content. PassesLimit content →
+        (task : Work) (file : List ℕ) → Asks (map string_bytes words.now) task file →
+        IsTooLarge task (F.told files.old file) (F.overlong files.old) (F.overlong files.new) }
+    ensures large_exactly { (task : Work) (file : List ℕ) → Asks (map string_bytes words.now) task file →
+        IfSome (F.told files.old file) (λ content. PassesLimit task content →
         Stood (F.faults files.old) (F.faults files.new) →
         (result.status ≡ 5) ⊎ (result.status ≡ 9)) }
-    ensures complete { (file : List ℕ) → IsWordsOf (map string_bytes words.now) file →
-        IfSome (F.told files.old file) (λ content. IsWithinLimits content →
+    ensures complete { (task : Work) (file : List ℕ) → Asks (map string_bytes words.now) task file →
+        IfSome (F.told files.old file) (λ content. IsWithinLimits task content →
         Stood (F.faults files.old) (F.faults files.new) →
         Stood (K.faults sink.old) (K.faults sink.new) →
-        (result.status ≡ 0) ⊎ (result.status ≡ 9)) }
+        (result.status ≡ 0) ⊎ (result.status ≡ 8) ⊎ (result.status ≡ 9)) }
     ensures memory { result.status ≡ 9 →
-        (file : List ℕ) → IsWordsOf (map string_bytes words.now) file →
+        (task : Work) (file : List ℕ) → Asks (map string_bytes words.now) task file →
         (K.taken sink.new ≡ K.taken sink.old)
-        ⊎ TookPartOfText (F.told files.old file) (K.taken sink.old) (K.taken sink.new) }
+        ⊎ TookPartOfOutput task (F.told files.old file) (K.taken sink.old) (K.taken sink.new) }
     ensures nothing { (result.status ≡ 2) ⊎ (result.status ≡ 3) ⊎ (result.status ≡ 5) →
         K.taken sink.new ≡ K.taken sink.old }
 {
-    let Some(name) = file_of(words) else {
+    let Some((task, name)) = asked(words) else {
         return End::of(Err(Refusal::Usage));
     };
-    End::of(words_command(rt, alloc, name, files, sink, gate))
+    End::of(do_task(rt, alloc, task, name, files, sink, gate))
 }
 
-/// The command `words FILE`, for the file of this name.
-fn words_command<R: Wait, F: Files, K: Sink, G: Gate>(
+/// The task on the file of this name. True where a line was refused.
+fn do_task<R: Wait, F: Files, K: Sink, G: Gate>(
     rt: &R,
     alloc: Global,
+    task: Task,
     name: &str,
     files: &mut F,
     sink: &mut K,
     gate: &G,
-) -> Result<(), Refusal>
+) -> Result<bool, Refusal>
     ensures only { IfErr result (λ e. e ≢ refusal.Usage) }
-    ensures done { OnOk result
-        (TookText (F.told files.old name.now) (K.taken sink.old) (K.taken sink.new)) }
+    ensures done { IfOk result (λ refused.
+        TookOutput task (F.told files.old name.now) refused (K.taken sink.old) (K.taken sink.new)) }
     ensures read { result ≡ Err Refusal.Read → Rose (F.faults files.old) (F.faults files.new) }
     ensures write { result ≡ Err Refusal.Write → Rose (K.faults sink.old) (K.faults sink.new) }
     ensures write_part { result ≡ Err Refusal.Write →
-        TookPartOfText (F.told files.old name.now) (K.taken sink.old) (K.taken sink.new) }
+        TookPartOfOutput task (F.told files.old name.now) (K.taken sink.old) (K.taken sink.new) }
     ensures large { result ≡ Err Refusal.TooLarge →
-        IsTooLarge (F.told files.old name.now) (F.overlong files.old) (F.overlong files.new) }
+        IsTooLarge task (F.told files.old name.now) (F.overlong files.old) (F.overlong files.new) }
     ensures memory { result ≡ Err Refusal.OutOfMemory →
         (K.taken sink.new ≡ K.taken sink.old)
-        ⊎ TookPartOfText (F.told files.old name.now) (K.taken sink.old) (K.taken sink.new) }
+        ⊎ TookPartOfOutput task (F.told files.old name.now) (K.taken sink.old) (K.taken sink.new) }
     ensures nothing { (result ≡ Err Refusal.Read) ⊎ (result ≡ Err Refusal.TooLarge) →
         K.taken sink.new ≡ K.taken sink.old }
 {
-    let text = read_file(alloc, files, name)?;
-    let bytes = report_text(rt, alloc, &text, gate)?;
-    write_all(sink, &bytes)
+    let content = read_file(alloc, files, name)?;
+    let output = output_of(rt, alloc, task, &content, gate)?;
+    write_all(sink, &output.text)?;
+    Ok(output.refused)
 }
 
 /// The content of a file of at most 67,108,864 bytes.

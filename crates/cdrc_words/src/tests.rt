@@ -66,7 +66,20 @@ fn words_that_are_not_understood(rt: HostRuntime) -> Result<(), Fail> {
         "words -- f",
         "words -x",
         "words --slots= f",
+        "words f --",
         "gen 1 2",
+        "script",
+        "script f g",
+        "script --",
+        "script -x",
+        "script --lanes=2 f",
+        "script -x --",
+        "script -- f g",
+        "scripts f",
+        "steps",
+        "steps f g",
+        "steps -- -- f",
+        "steps --batch f",
     ] {
         let status = status_of(&rt, rt.alloc(), line, &mut files, &mut sink)?;
         assert!(rt; status == 2, "{line}");
@@ -83,6 +96,63 @@ fn operands_are_names(rt: HostRuntime) -> Result<(), Fail> {
         let status = status_of(&rt, rt.alloc(), line, &mut files, &mut sink)?;
         assert!(rt; status == 0, "{line}");
         assert!(rt; sink.taken() == NO_WORDS.as_bytes(), "{line}");
+    }
+    Ok(())
+}
+
+#[test]
+fn dashes_end_the_options(rt: HostRuntime) -> Result<(), Fail> {
+    for line in [
+        "script f",
+        "script -",
+        "script -- -x",
+        "script -- --",
+        "script f --",
+        "steps f",
+        "steps -- f",
+        "steps - --",
+    ] {
+        let mut files = HonestFiles::new(Vec::new(rt.alloc()));
+        let mut sink = HonestSink::new(rt.alloc());
+        let status = status_of(&rt, rt.alloc(), line, &mut files, &mut sink)?;
+        assert!(rt; status == 8, "{line}");
+        assert!(rt; sink.taken() == b"line 1 refused: syntax\n", "{line}");
+    }
+    Ok(())
+}
+
+#[test]
+fn scripts_and_steps(rt: HostRuntime) -> Result<(), Fail> {
+    for (line, content, status, output) in [
+        ("script f", "heap 1 0 0\nmake a 1\n", 0, "make a ok\n"),
+        (
+            "script f",
+            "heap 1 0 0\nmake a 1\ndrop z",
+            8,
+            "make a ok\nline 3 refused: name\n",
+        ),
+        (
+            "steps f",
+            "shape 1 1 0 0 4\n0 claim 0\n0 start",
+            0,
+            "claim claimed\nstart ok\nslot 0 strong 1 weak 1\nevents 2\n",
+        ),
+        (
+            "steps f",
+            "shape 1 1 0 0 4\n0 finish",
+            8,
+            "line 2 refused: not enabled\n",
+        ),
+    ] {
+        let mut files = HonestFiles::new(file_of_bytes(rt.alloc(), content.as_bytes())?);
+        let mut sink = HonestSink::new(rt.alloc());
+        let found = status_of(&rt, rt.alloc(), line, &mut files, &mut sink)?;
+        assert!(rt; found == status, "{line} of {content}");
+        assert!(rt; sink.taken() == output.as_bytes(), "{line} of {content}");
+        let mut failing = MemSink::new(rt.alloc(), 3, vec![in rt.alloc(); 1u64]?);
+        let failed = status_of(&rt, rt.alloc(), line, &mut files, &mut failing)?;
+        assert!(rt; failed == 4, "{line} of {content}");
+        assert!(rt; failing.taken() == &output.as_bytes()[..3], "{line} of {content}");
     }
     Ok(())
 }

@@ -1,4 +1,1 @@
-pub mod Slots
-pub mod Snapshots
-pub mod Scans
 pub mod Trails

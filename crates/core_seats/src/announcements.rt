@@ -1,5 +1,5 @@
 //! Announcements: written, found valid, taken back, read by a scan.
-ghost use Rattle.std.specs.Prelude.{◌≡◌, ◌<◌, ◌+◌, ◌^◌, ◌≤◌, [], IfOk, OnOk, OnErr, length, vec_len, if◌then◌else◌};
+ghost use Rattle.std.specs.Prelude.{◌≡◌, ◌<◌, ◌+◌, ◌^◌, ◌≤◌, ◌==◌, ◌++◌, ◌∷◌, [], IfOk, OnOk, OnErr, length, vec_len, if◌then◌else◌};
 ghost use Rattle.std.specs.VecDeque.{deque_len};
 ghost use Rattle.core_events.specs.declared.outcome.Outcome.TheVariants as outcome;
 ghost use Rattle.core_events.specs.declared.view.Note.TheVariants as note;
@@ -10,9 +10,8 @@ ghost use Rattle.core_events.specs.Views.{note_of};
 ghost use Rattle.core_events.specs.Steps.{is_valid, validated, with_note, is_last, all_seen, scanned};
 
 use crate::holdings::Holdings;
-use crate::split::{Parts, split};
-use crate::words::{found_in, held_as};
 use core_events::{Kind, Note, Outcome, Phase, Shape, SlotId};
+use core_parts::{Parts, found_in, held_as, split};
 use out_of_memory::OutOfMemory;
 
 /// How many announcement words there are.

@@ -4,9 +4,8 @@ ghost use Rattle.core_events.specs.Steps.{May, answer, changed};
 ghost use Rattle.core_seats.specs.Fits.{IsFit, IsWordFor};
 
 use crate::holdings::Holdings;
-use crate::places::kind_of;
-use crate::words::found_in;
 use core_events::{Act, Outcome, Shape};
+use core_parts::{found_in, kind_of};
 use out_of_memory::OutOfMemory;
 
 impl Holdings {

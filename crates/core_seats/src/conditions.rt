@@ -9,9 +9,8 @@ ghost use Rattle.core_events.specs.Views.{note_of, Holds, HoldsStrongly, IsOpen,
 ghost use Rattle.core_events.specs.Steps.{IsIdle, HasAdd, HasRoom, CanGive, IsContent, CanLeave, May};
 
 use crate::holdings::Holdings;
-use crate::lists::{are_idle, has_slot, has_snapshot};
-use crate::places::kind_of;
 use core_events::{EventPlace, Kind, Note, Phase, Shape, SlotId};
+use core_parts::{are_idle, has_slot, has_snapshot, kind_of};
 
 /// Whether a content is null, or a slot of the domain.
 pub(crate) fn is_content(shape: &Shape, content: Option<SlotId>) -> bool

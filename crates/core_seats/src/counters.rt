@@ -1,5 +1,5 @@
 //! References that a seat gains, and those that it gives up.
-ghost use Rattle.std.specs.Prelude.{◌≡◌, ◌+◌, ◌++◌, ◌∷◌, [], nat_lt, IfOk, OnOk, OnErr, if◌then◌else◌};
+ghost use Rattle.std.specs.Prelude.{◌≡◌, ◌<◌, ◌+◌, ◌++◌, ◌∷◌, [], nat_lt, IfOk, OnOk, OnErr, if◌then◌else◌};
 ghost use Rattle.plain_state.specs.declared.slot.Kind.TheVariants.{Strong, Weak};
 ghost use Rattle.core_events.specs.declared.outcome.Outcome.TheVariants as outcome;
 ghost use Rattle.core_events.specs.Words.{ZERO};
@@ -7,9 +7,8 @@ ghost use Rattle.core_events.specs.Views.{without};
 ghost use Rattle.core_events.specs.Steps.{HasAdd, decremented, given_up, paid, paid_outcome};
 
 use crate::holdings::Holdings;
-use crate::lists::take_first;
-use crate::words::ZERO_FLAG;
 use core_events::{Kind, Outcome, SlotId};
+use core_parts::{ZERO_FLAG, take_first};
 use out_of_memory::OutOfMemory;
 
 impl Holdings {

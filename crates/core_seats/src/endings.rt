@@ -8,8 +8,8 @@ ghost use Rattle.core_events.specs.Steps.{HasAdd, ended};
 
 use crate::holdings::Holdings;
 use crate::phases::slot_in_phase;
-use crate::words::{ZERO_FLAG, helps};
 use core_events::{Outcome, Phase, SlotId};
+use core_parts::{ZERO_FLAG, helps};
 use out_of_memory::OutOfMemory;
 
 impl Holdings {

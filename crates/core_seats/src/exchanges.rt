@@ -6,9 +6,8 @@ ghost use Rattle.core_events.specs.Words.{slot_in};
 ghost use Rattle.core_events.specs.Steps.{exchanged, without_given};
 
 use crate::holdings::Holdings;
-use crate::lists::take_first;
-use crate::words::{found_in, held_as};
 use core_events::{Kind, Outcome, SlotId};
+use core_parts::{found_in, held_as, take_first};
 use out_of_memory::OutOfMemory;
 
 /// Joins what a place held to the retired entries.

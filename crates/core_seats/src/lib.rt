@@ -28,16 +28,13 @@ mod exchanges;
 mod fits;
 mod holdings;
 mod leave;
-mod lists;
 mod phases;
 mod places;
 mod reads;
 mod seat;
-mod split;
 mod table;
 #[cfg(test)]
 mod tests;
-mod words;
 
 pub use core_events::{Act, EventPlace, Kind, Move, Note, Outcome, Phase, Quota, Shape, SlotId};
 pub use fits::is_word_for;

@@ -7,8 +7,8 @@ ghost use Rattle.core_events.specs.Words.{value};
 ghost use Rattle.core_events.specs.Steps.{decremented, given_up};
 
 use crate::holdings::Holdings;
-use crate::words::counted;
 use core_events::{Kind, Outcome, Phase, SlotId};
+use core_parts::counted;
 use out_of_memory::OutOfMemory;
 
 /// The slot of a phase that has one.

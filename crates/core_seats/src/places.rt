@@ -1,65 +1,13 @@
-//! Where the words are that acts work on, by the order of a domain's words.
+//! Where the words are that a seat's phase and its owed entries are about.
 ghost use Rattle.std.specs.Prelude.{◌≡◌, ◌<◌, ◌^◌};
-ghost use Rattle.plain_state.specs.Places.{place_kind};
-ghost use Rattle.core_events.specs.Words.{note_at, slot_at, place_at};
+ghost use Rattle.core_events.specs.Words.{slot_at};
 ghost use Rattle.core_events.specs.Views.{slot_of};
-ghost use Rattle.core_events.specs.Steps.{counter_at, owed_at};
+ghost use Rattle.core_events.specs.Steps.{owed_at};
 
 use crate::holdings::Holdings;
 use crate::phases::slot_in_phase;
-use core_events::{EventPlace, Kind, Shape, SlotId};
-
-/// The kind of the references that a place holds.
-pub(crate) fn kind_of(place: EventPlace) -> Kind
-    ensures { result ≡ place_kind place }
-{
-    match place {
-        EventPlace::Cell(_) | EventPlace::Field(_, _) => Kind::Strong,
-        EventPlace::WeakCell(_) | EventPlace::WeakField(_) => Kind::Weak,
-    }
-}
-
-/// The first word of a slot, its strong one.
-pub(crate) fn slot_index(shape: &Shape, slot: SlotId) -> usize
-    ensures at { result ≡ slot_at shape.now slot.0 }
-    ensures fits { result < 2 ^ 38 }
-{
-    1 + 4 * shape.seats as usize
-        + shape.cells as usize
-        + shape.weak_cells as usize
-        + 21 * slot.0 as usize
-}
-
-/// An announcement word of a seat.
-pub(crate) fn note_index(seat: u32, at: u32) -> usize
-    ensures { result ≡ note_at seat at }
-{
-    1 + 4 * seat as usize + at as usize
-}
-
-/// The counter word of a reference.
-pub(crate) fn counter_index(shape: &Shape, kind: Kind, slot: SlotId) -> usize
-    ensures { result ≡ counter_at shape.now kind slot }
-{
-    match kind {
-        Kind::Strong => slot_index(shape, slot),
-        Kind::Weak => slot_index(shape, slot) + 1,
-    }
-}
-
-/// The word of a place.
-pub(crate) fn place_index(shape: &Shape, place: EventPlace) -> usize
-    ensures { result ≡ place_at shape.now place }
-{
-    match place {
-        EventPlace::Cell(cell) => 1 + 4 * shape.seats as usize + cell as usize,
-        EventPlace::Field(slot, field) => slot_index(shape, slot) + 2 + field as usize,
-        EventPlace::WeakCell(cell) => {
-            1 + 4 * shape.seats as usize + shape.cells as usize + cell as usize
-        }
-        EventPlace::WeakField(slot) => slot_index(shape, slot) + 4,
-    }
-}
+use core_events::Shape;
+use core_parts::{counter_index, slot_index};
 
 impl Holdings {
     /// The strong word of the slot of the seat's phase.

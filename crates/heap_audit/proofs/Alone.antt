@@ -92,7 +92,7 @@ module _ (heap : Heap) (ranks : List ℕ) (distinct : HasDistinctRanks heap rank
   one_least : (P : SlotId → Type 0) → ((s : SlotId) → P s → s.0 < length heap.slots.items) → (s t : SlotId) → IsLeast ranks P s → IsLeast ranks P t → s ≡ t
   one_least P within s t l m = distinct s t (within s l.0) (within t m.0) (omega (arith, l.1 t m.0, m.1 s l.0))
 
-  one_step : (a b c : SlotId) → GoesTo heap ranks a b → GoesTo heap ranks a c → b ≡ c
+  one_step : (a b c : SlotId) → GoesTo (IsUnreached heap) (HasField heap) ranks a b → GoesTo (IsUnreached heap) (HasField heap) ranks a c → b ≡ c
   one_step a b c = one_least (λ u. IsUnreached heap u × HasField heap u a) (λ s p. p.0.0.0) b c
 
 -- where a walk is begun
@@ -168,9 +168,9 @@ walk_there heap x (y ∷ xs) w = w.0.0.0
 pub one_walk : (heap : Heap) (ranks : List ℕ) (v w : List SlotId) → HasDistinctRanks heap ranks → IsFound heap ranks v → IsFound heap ranks w → v ≡ w
 one_walk heap ranks v w distinct f g =
     let start : f.start ≡ g.start = one_least heap ranks distinct (IsUnreached heap) (λ s u. u.0.0) f.start g.start f.least g.least in
-    let goes : Path (GoesTo heap ranks) f.start g.rest g.again = subst (λ (s : SlotId). Path (GoesTo heap ranks) s g.rest g.again) (sym start) g.goes in
+    let goes : Path (GoesTo (IsUnreached heap) (HasField heap) ranks) f.start g.rest g.again = subst (λ (s : SlotId). Path (GoesTo (IsUnreached heap) (HasField heap) ranks) s g.rest g.again) (sym start) g.goes in
     let whole : f.start ∷ g.rest ≡ g.start ∷ g.rest = ap (λ (s : SlotId). s ∷ g.rest) start in
-    let trail = one_trail (GoesTo heap ranks) (one_step heap ranks distinct) [] f.start f.rest f.again g.rest g.again f.goes goes f.once
+    let trail = one_trail (GoesTo (IsUnreached heap) (HasField heap) ranks) (one_step heap ranks distinct) [] f.start f.rest f.again g.rest g.again f.goes goes f.once
     (subst Once (sym whole) g.once) (came_in heap ranks v f) (subst (λ (xs : List SlotId). Contains xs g.again) (sym whole) (came_in heap ranks w g)) in
     let cut_here : f.earlier ++ f.again ∷ f.between ≡ g.earlier ++ f.again ∷ g.between =
     sym f.came ∙ (ap (λ (xs : List SlotId). f.start ∷ xs) trail.0 ∙ (whole ∙ (g.came ∙ ap (λ (s : SlotId). g.earlier ++ s ∷ g.between) (sym trail.1)))) in

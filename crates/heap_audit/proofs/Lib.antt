@@ -9,3 +9,4 @@ pub mod Turning
 pub mod Offering
 pub mod Searching
 pub mod Alone
+pub mod Alike

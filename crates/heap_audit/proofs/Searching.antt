@@ -46,7 +46,7 @@ module _ (heap : Heap) (ranks : List ℕ) (holders : List (Option SlotId)) (are 
     | inr g ↦ absurd (let past = get_or_past holders s.0 None (omega (arith, are.size, g)) in cc)
   ]
 
-  goes_by : (s t : SlotId) → LeadsBy holders s t → GoesTo heap ranks s t
+  goes_by : (s t : SlotId) → LeadsBy holders s t → GoesTo (IsUnreached heap) (HasField heap) ranks s t
   goes_by s t l = subst (IsLeastIfAny ranks (λ u. IsUnreached heap u × HasField heap u s)) l (are.least s (led_within s t l))
 
   pub leads_within : (s t : SlotId) → LeadsBy holders s t → t.0 < length holders
@@ -74,7 +74,7 @@ module _ (heap : Heap) (ranks : List ℕ) (holders : List (Option SlotId)) (are 
     least = least;
     rest = search.rest;
     again = again;
-    goes = path_map (λ (s : SlotId). Unit {0}) (LeadsBy holders) (GoesTo heap ranks) (λ a b h l. (goes_by a b l, tt)) start search.rest again tt search.goes;
+    goes = path_map (λ (s : SlotId). Unit {0}) (LeadsBy holders) (GoesTo (IsUnreached heap) (HasField heap) ranks) (λ a b h l. (goes_by a b l, tt)) start search.rest again tt search.goes;
     once = subst (AllPairs (λ (a b : SlotId). a ≡ b → ⊥)) search.begins search.once;
     earlier = turn.0;
     between = turn.1;

@@ -5,7 +5,7 @@ use Rattle.std.proofs.lemmas.List.Elements.{All-append, All-take, All-drop}
 use Rattle.plain_state.specs.declared.slot.SlotId.{SlotId}
 use Rattle.plain_state.specs.declared.image.Heap.{Heap}
 use Rattle.heap_audit.specs.Heaps.{slot}
-use Rattle.heap_audit.specs.Reached.{HasField}
+use Rattle.heap_audit.specs.Reached.{HasField, IsUnreached}
 use Rattle.heap_audit.specs.Walks.{rank_of, GoesTo, IsWalk, IsFound, BeginsLeast}
 use Rattle.heap_audit.specs.Tables.{TurnsRound}
 use Rattle.heap_audit.proofs.Going.{path_split, path_join, path_end, path_reverse, path_map}
@@ -21,8 +21,8 @@ walk_turned heap (x ∷ xs) (y ∷ ys) w =
 -- what the search finds is a walk
 pub found_is_walk : (heap : Heap) (ranks : List ℕ) (walk : List SlotId) → IsFound heap ranks walk → IsWalk heap walk
 found_is_walk heap ranks walk is =
-    let round = path_end (GoesTo heap ranks) is.start is.rest is.earlier is.again is.between is.again is.came is.goes in
-    let back = path_map (λ (s : SlotId). Unit {0}) (GoesTo heap ranks) (λ a b. HasField heap b a) (λ a b h g. (g.0.1, tt)) is.again is.between is.again tt round in
+    let round = path_end (GoesTo (IsUnreached heap) (HasField heap) ranks) is.start is.rest is.earlier is.again is.between is.again is.came is.goes in
+    let back = path_map (λ (s : SlotId). Unit {0}) (GoesTo (IsUnreached heap) (HasField heap) ranks) (λ a b. HasField heap b a) (λ a b h g. (g.0.1, tt)) is.again is.between is.again tt round in
     let forth : IsWalk heap (is.again ∷ reverse is.between) = path_reverse (HasField heap) is.again is.between is.again back in
     let whole : IsWalk heap (reverse (is.again ∷ is.between)) =
     subst (IsWalk heap) (sym (reverse-append (is.again ∷ []) is.between)) (walk_turned heap (is.again ∷ []) (reverse is.between) forth) in

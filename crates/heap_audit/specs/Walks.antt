@@ -6,10 +6,14 @@ use Rattle.plain_state.specs.declared.image.Heap.{Heap}
 use Rattle.heap_audit.specs.Paths.{Path}
 use Rattle.heap_audit.specs.Reached.{HasField, IsUnreached}
 
+-- each holds the next, the last one the first
+abbrev pub GoesRound : (SlotId → SlotId → Type 0) → List SlotId → Type 0
+GoesRound Holds [] = ⊥
+GoesRound Holds (x ∷ xs) = Path Holds x xs x
+
 -- each has a strong field that holds the next, the last one the first
 abbrev pub IsWalk : Heap → List SlotId → Type 0
-IsWalk heap [] = ⊥
-IsWalk heap (x ∷ xs) = Path (HasField heap) x xs x
+IsWalk heap walk = GoesRound (HasField heap) walk
 
 abbrev pub rank_of : List ℕ → SlotId → ℕ
 rank_of ranks s = slice_index ranks s.0
@@ -24,9 +28,9 @@ HasDistinctRanks heap ranks =
     (s t : SlotId) → s.0 < length heap.slots.items → t.0 < length heap.slots.items
     → rank_of ranks s ≡ rank_of ranks t → s ≡ t
 
--- from s the search goes to t: of the unreached slots with a strong field that holds s, the one of least rank
-abbrev pub GoesTo : Heap → List ℕ → SlotId → SlotId → Type 0
-GoesTo heap ranks s t = IsLeast ranks (λ u. IsUnreached heap u × HasField heap u s) t
+-- from s the search among slots with the property P goes to t: of those that hold s, the one of least rank
+abbrev pub GoesTo : (SlotId → Type 0) → (SlotId → SlotId → Type 0) → List ℕ → SlotId → SlotId → Type 0
+GoesTo P Holds ranks s t = IsLeast ranks (λ u. P u × Holds u s) t
 
 -- xs, begun at another place and gone round
 abbrev pub IsTurned : List SlotId → List SlotId → Type 0
@@ -38,20 +42,25 @@ abbrev pub BeginsLeast : List ℕ → List SlotId → Type 0
 BeginsLeast ranks [] = ⊥
 BeginsLeast ranks (x ∷ xs) = All (λ s. rank_of ranks x ≤ rank_of ranks s) xs
 
--- the walk that the search finds
-pub record IsFound (heap : Heap) (ranks : List ℕ) (walk : List SlotId) : Type 0 where
-  -- it begins with the unreached slot of least rank
+-- the walk that the search among slots with the property P finds
+pub record IsFoundAmong (P : SlotId → Type 0) (Holds : SlotId → SlotId → Type 0) (ranks : List ℕ)
+    (walk : List SlotId) : Type 0 where
+  -- it begins with the one of least rank
   pub start : SlotId
-  pub least : IsLeast ranks (IsUnreached heap) start
+  pub least : IsLeast ranks P start
   -- it goes on by way of these, and then to `again`
   pub rest : List SlotId
   pub again : SlotId
-  pub goes : Path (GoesTo heap ranks) start rest again
+  pub goes : Path (GoesTo P Holds ranks) start rest again
   -- up to there no slot came twice, but `again` came before
   pub once : AllPairs (λ (a b : SlotId). a ≢ b) (start ∷ rest)
   pub earlier : List SlotId
   pub between : List SlotId
   pub came : start ∷ rest ≡ earlier ++ again ∷ between
-  -- the slots between its two comings are the walk, in the direction of the fields, beginning with the least rank
+  -- the slots between its two comings are the walk, each holding the next, beginning with the least rank
   pub turned : IsTurned walk (reverse (again ∷ between))
   pub begins : BeginsLeast ranks walk
+
+-- the walk that an audit finds: among the unreached slots, along strong fields
+abbrev pub IsFound : Heap → List ℕ → List SlotId → Type 0
+IsFound heap ranks walk = IsFoundAmong (IsUnreached heap) (HasField heap) ranks walk

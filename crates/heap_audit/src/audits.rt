@@ -9,9 +9,9 @@ use crate::finding::Audit;
 use crate::live::{count_live, weigh_live};
 use crate::reach::reached_slots;
 use crate::search::{count_unreached, find_walk};
-use plain_state::{Heap, PayloadKind};
 use deleter::Deleter;
 use out_of_memory::OutOfMemory;
+use plain_state::{Heap, PayloadKind};
 use std::alloc::Global;
 
 /// The audit of a lawful heap of at most 2^22 slots, all of whose names are in range. `rank` has one number for each

@@ -15,8 +15,8 @@ ghost use Rattle.heap_audit.specs.Heaps.{
 ghost use Rattle.heap_audit.specs.Tables.{AreFieldCounts};
 
 use crate::fields::field_counts;
-use plain_state::{Heap, Kind, SlotId, SlotImage, ZERO};
 use out_of_memory::OutOfMemory;
+use plain_state::{Heap, Kind, SlotId, SlotImage, ZERO};
 use std::alloc::Global;
 
 /// Whether a heap has few slots, all names in range, payloads whose first word is at most 2^32, and is lawful.

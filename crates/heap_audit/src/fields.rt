@@ -4,8 +4,8 @@ ghost use Rattle.heap_audit.specs.Heaps.{HasFieldsWithin, IsInRange, fields_hold
 ghost use Rattle.plain_state.specs.declared.slot.SlotId.{SlotId};
 ghost use Rattle.heap_audit.specs.Tables.{CountsWord, CountsFields, AreFieldCounts};
 
-use plain_state::{Heap, SlotImage};
 use out_of_memory::OutOfMemory;
+use plain_state::{Heap, SlotImage};
 use std::alloc::Global;
 
 /// How many strong fields hold each slot. One look at each slot.

@@ -4,8 +4,8 @@ ghost use Rattle.deleter.specs.Weighing.{Weighs};
 ghost use Rattle.heap_audit.specs.Heaps.{live_slots, weight_of};
 
 use crate::word::is_live;
-use plain_state::{Heap, PayloadKind, SlotImage};
 use deleter::Deleter;
+use plain_state::{Heap, PayloadKind, SlotImage};
 
 /// How many slots are Live. One look at each slot.
 pub fn count_live(heap: &Heap) -> u64

@@ -6,8 +6,8 @@ ghost use Rattle.heap_audit.specs.Tables.{AreReached};
 
 use crate::fields::field_counts;
 use crate::marks::Marks;
-use plain_state::{Heap, SlotId};
 use out_of_memory::OutOfMemory;
+use plain_state::{Heap, SlotId};
 use std::alloc::Global;
 
 /// Whether each slot is reached. A list of what is marked stands in place of a deep stack. Two passes over the slots,

@@ -9,8 +9,8 @@ ghost use Rattle.heap_audit.specs.Tables.{AreReached, AreHolders, IsLeastIfAny, 
 use crate::ranks::lower;
 use crate::trails::{search, turn_round};
 use crate::word::is_live;
-use plain_state::{Heap, SlotId};
 use out_of_memory::OutOfMemory;
+use plain_state::{Heap, SlotId};
 use std::alloc::Global;
 
 /// How many slots are unreached, and which of them has the least rank.

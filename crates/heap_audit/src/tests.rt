@@ -3,9 +3,9 @@ ghost use Rattle.std.specs.Prelude.{◌≡◌, ◌≤◌, ◌^◌, slice_index};
 
 use crate::checked::is_auditable;
 use crate::{Audit, audit, check_walk};
-use plain_state::{Heap, Kind, PayloadKind, SlotId, SlotImage, ZERO};
 use deleter::Deleter;
 use out_of_memory::OutOfMemory;
+use plain_state::{Heap, Kind, PayloadKind, SlotId, SlotImage, ZERO};
 use std::alloc::{AllocError, Global};
 use std::cell::Cell;
 

@@ -6,8 +6,8 @@ ghost use Rattle.heap_audit.specs.Walks.{rank_of};
 ghost use Rattle.heap_audit.specs.Tables.{LeadsBy, Searched, TurnsRound, holder_at};
 
 use crate::marks::Marks;
-use plain_state::SlotId;
 use out_of_memory::OutOfMemory;
+use plain_state::SlotId;
 use std::alloc::Global;
 
 /// The slots that a search comes to, each once, and the one that it then comes to again.

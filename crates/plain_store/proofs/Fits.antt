@@ -26,6 +26,10 @@ fit_set fits p q x y all e fit s =
     (λ past. rw (set_past p.slots x.0 y past) (all s))
     (cases_lt x.0 (length p.slots)))
 
+-- no slot is written
+pub fit_same : (fits : List ℕ → Type 0) (p q : Plain) → q.slots ≡ p.slots → AllFit fits p → AllFit fits q
+fit_same fits p q e all s = subst (λ (l : List PlainSlot). Fits fits (get_or l s.0 new_slot)) (sym e) (all s)
+
 -- an object is made, or the make is refused
 pub fit_made : (fits : List ℕ → Type 0) (p q : Plain) (payload : List ℕ) (r : Result SlotId MakeRefused) → AllFit fits p → fits payload
     → IfOk r (λ s. q.slots ≡ slice_set p.slots s.0 (made_slot (slot_at p s) payload)) → OnErr r (q ≡ p) → AllFit fits q

@@ -12,7 +12,7 @@ use Rattle.plain_state.specs.declared.act.PlainAct.TheVariants as act
 use Rattle.plain_state.specs.declared.slot.Kind.TheVariants.{Strong}
 use Rattle.plain_state.specs.Places.{Holds, HoldsStrongly}
 use Rattle.plain_state.specs.Steps.{Does}
-use Rattle.plain_store.specs.Heaps.{OwnsWeakly}
+use Rattle.plain_store.specs.Heaps.{OwnsWeakly, AllFit, IsHeap}
 use Rattle.plain_store.specs.Stores.{plain_of, Tallied, Kept}
 use Rattle.plain_store.specs.Calls.{gained, weakly_gained, spent}
 use Rattle.plain_state.proofs.Kit.{times_push, times_loses, none_by, none_or_some}
@@ -28,10 +28,10 @@ unfolding over_seats
 one_seat h = omega (arith, sum_by-cons (λ (v : PlainSeat). v.adds) (seat_at (plain_of h) 0) [])
 
 -- a count has room for one more
-pub strong_room : (h : Store) (s : SlotId) → Kept h → s.0 < length h.slots.items → h.adds + 2 < 2 ^ 64 → slice_index h.strong.items s.0 + 1 < 2 ^ 64
+pub strong_room : (h : Store) (s : SlotId) → Kept h → s.0 < length h.slots.items → h.adds + 2 < 2 ^ 63 → slice_index h.strong.items s.0 + 1 < 2 ^ 64
 strong_room h s k at lt = omega (arith, one_seat h, k.sound.strong_few s, k.tallied.strong s at)
 
-pub weak_room : (h : Store) (s : SlotId) → Kept h → s.0 < length h.slots.items → h.adds + 2 < 2 ^ 64 → slice_index h.weak.items s.0 + 1 < 2 ^ 64
+pub weak_room : (h : Store) (s : SlotId) → Kept h → s.0 < length h.slots.items → h.adds + 2 < 2 ^ 63 → slice_index h.weak.items s.0 + 1 < 2 ^ 64
 weak_room h s k at lt = omega (arith, one_seat h, k.sound.weak_few s, k.tallied.weak s at)
 
 -- the sums stay, or one of them grows or falls by a reference to x
@@ -77,7 +77,7 @@ module _ (p q : Plain) (ss ws : List ℕ) (t : Tallied p ss ws) (size : length q
 
 -- a store in a state that is sound, with its sums, and with room for adds
 pub kept_by : (h h' : Store) (q : Plain) → Kept h → plain_of h' ≡ q → Sound q → length q.slots ≡ length h.slots.items → Tallied q h'.strong.items h'.weak.items
-    → h'.adds + 1 < 2 ^ 64 → h'.next ≡ h.next → Kept h'
+    → h'.adds + 1 < 2 ^ 63 → h'.next ≡ h.next → Kept h'
 kept_by h h' q k e so size t adds next =
     let size' : length h'.slots.items ≡ length h.slots.items = ap (λ (r : Plain). length r.slots) e ∙ size in
     record {
@@ -88,7 +88,7 @@ kept_by h h' q k e so size t adds next =
       next = omega (arith, size', next, k.next);
     }
 
-pub kept_own : (h h' : Store) (x : SlotId) → Kept h → x.0 < length h.slots.items → Sound (gained (plain_of h) x) → plain_of h' ≡ gained (plain_of h) x → h.adds + 2 < 2 ^ 64
+pub kept_own : (h h' : Store) (x : SlotId) → Kept h → x.0 < length h.slots.items → Sound (gained (plain_of h) x) → plain_of h' ≡ gained (plain_of h) x → h.adds + 2 < 2 ^ 63
     → h'.strong.items ≡ slice_set h.strong.items x.0 (slice_index h.strong.items x.0 + 1) → h'.weak.items ≡ h.weak.items → h'.next ≡ h.next → Kept h'
 kept_own h h' x k at so e adds f g next =
     let p = plain_of h in
@@ -100,7 +100,7 @@ kept_own h h' x k at so e adds f g next =
     (λ s. omega (arith, (c s).strong, u s)) (λ s. omega (arith, (c s).weak))))
     (omega (arith, adds')) next
 
-pub kept_own_weakly : (h h' : Store) (x : SlotId) → Kept h → x.0 < length h.slots.items → Sound (weakly_gained (plain_of h) x) → plain_of h' ≡ weakly_gained (plain_of h) x → h.adds + 2 < 2 ^ 64
+pub kept_own_weakly : (h h' : Store) (x : SlotId) → Kept h → x.0 < length h.slots.items → Sound (weakly_gained (plain_of h) x) → plain_of h' ≡ weakly_gained (plain_of h) x → h.adds + 2 < 2 ^ 63
     → h'.strong.items ≡ h.strong.items → h'.weak.items ≡ slice_set h.weak.items x.0 (slice_index h.weak.items x.0 + 1) → h'.next ≡ h.next → Kept h'
 kept_own_weakly h h' x k at so e adds f g next =
     let p = plain_of h in
@@ -112,7 +112,7 @@ kept_own_weakly h h' x k at so e adds f g next =
     (λ s. omega (arith, (c s).strong)) (λ s. omega (arith, (c s).weak, u s))))
     (omega (arith, adds')) next
 
-pub kept_spend : (h h' : Store) → Kept h → plain_of h' ≡ spent (plain_of h) → h.adds + 2 < 2 ^ 64 → h'.strong.items ≡ h.strong.items → h'.weak.items ≡ h.weak.items → h'.next ≡ h.next → Kept h'
+pub kept_spend : (h h' : Store) → Kept h → plain_of h' ≡ spent (plain_of h) → h.adds + 2 < 2 ^ 63 → h'.strong.items ≡ h.strong.items → h'.weak.items ≡ h.weak.items → h'.next ≡ h.next → Kept h'
 kept_spend h h' k e adds f g next =
     let p = plain_of h in
     let adds' : h'.adds ≡ h.adds + 1 = ap (λ (r : Plain). (seat_at r 0).adds) e in
@@ -175,3 +175,13 @@ kept_weak_drop h h' x k o d adds f g next =
     (rw (f, g) (tallied_weak_less p q h.strong.items h.weak.items k.tallied refl x (weak_owned_there h x k o)
     (λ s. omega (arith, (c s).strong)) (λ s. omega (arith, (c s).weak, u s))))
     (omega (arith, adds, k.adds)) next
+
+-- a store that is kept stands for a heap
+pub kept_heap : (fits : List ℕ → Type 0) (h : Store) → Kept h → AllFit fits (plain_of h) → IsHeap fits (plain_of h)
+kept_heap fits h k all = record {
+  sound = k.sound;
+  seats = refl;
+  slots = k.slots;
+  adds = omega (arith, one_seat h, k.adds);
+  payloads = all;
+}

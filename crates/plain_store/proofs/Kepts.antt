@@ -69,7 +69,7 @@ pub record MayMake (h : Store) (s : SlotId) (payload : List ℕ) : Type 0 where
   pub there : s.0 < length h.slots.items
   pub free : stage_at (plain_of h) s ≡ Free
   pub words : length payload ≡ 16
-  pub adds : h.adds + 2 < 2 ^ 64
+  pub adds : h.adds + 2 < 2 ^ 63
 
 pub made_makes : (h h' : Store) (s : SlotId) (payload : List ℕ) → MayMake h s payload → IsMade h h' s payload → Makes (plain_of h) s payload (plain_of h')
 made_makes h h' s payload may m =

@@ -16,5 +16,7 @@ pub mod Owning
 pub mod Gains
 pub mod Placing
 pub mod Loading
-pub mod Entries
+pub mod EntryPlaces
 pub mod Listed
+pub mod Calming
+pub mod CallsCalm

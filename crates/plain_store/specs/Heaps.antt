@@ -1,5 +1,5 @@
 -- What the calls of a plain heap ask and do, in words of the plain state of its one seat.
-use Rattle.std.specs.Prelude.{ℕ, false, ◌≡◌, ◌≢◌, ◌<◌, ◌+◌, ◌⊎◌, List, [], ◌∷◌, ◌++◌, All}
+use Rattle.std.specs.Prelude.{ℕ, false, ◌≡◌, ◌≢◌, ◌<◌, ◌≤◌, ◌+◌, ◌^◌, ◌⊎◌, List, [], ◌∷◌, ◌++◌, length, All}
 use Rattle.plain_state.specs.declared.act.PlainAct.{PlainAct}
 use Rattle.plain_state.specs.declared.act.PlainAct.TheVariants as act
 use Rattle.plain_state.specs.declared.slot.SlotId.{SlotId}
@@ -7,6 +7,7 @@ use Rattle.plain_state.specs.declared.slot.PlainSlot.{PlainSlot}
 use Rattle.plain_state.specs.declared.slot.Stage.TheVariants.{Free, Live, Ended}
 use Rattle.plain_state.specs.Lists.{times}
 use Rattle.plain_state.specs.State.{Plain, seat_at, slot_at, stage_at}
+use Rattle.plain_state.specs.Sound.{Sound, all_adds}
 use Rattle.plain_state.specs.Runs.{Runs}
 
 -- the seat owns a strong, or a weak, reference to s
@@ -35,3 +36,12 @@ Makes p s payload q = Runs p 0 (act.Claim s ∷ fills s 0 payload ++ act.Make s 
 -- the payloads of all objects fit
 abbrev pub AllFit : (List ℕ → Type 0) → Plain → Type 0
 AllFit fits p = (s : SlotId) → (stage_at p s ≡ Live) ⊎ (stage_at p s ≡ Ended) → fits (slot_at p s).payload
+
+-- what holds of every plain heap whose payloads are of a kind: it has one seat, and so few slots and adds that no
+-- count reaches the zero flag of a word
+pub record IsHeap (fits : List ℕ → Type 0) (p : Plain) : Type 0 where
+  pub sound : Sound p
+  pub seats : length p.seats ≡ 1
+  pub slots : length p.slots ≤ 2 ^ 22
+  pub adds : all_adds p + 1 < 2 ^ 63
+  pub payloads : AllFit fits p

@@ -35,6 +35,7 @@ pub record Tallied (p : Plain) (strongs weaks : List ℕ) : Type 0 where
 pub record Kept (h : Store) : Type 0 where
   pub sound : Sound (plain_of h)
   pub tallied : Tallied (plain_of h) h.strong.items h.weak.items
-  pub adds : h.adds + 1 < 2 ^ 64
-  pub slots : length h.slots.items < 2 ^ 32
+  -- so no count reaches the zero flag of its word
+  pub adds : h.adds + 1 < 2 ^ 63
+  pub slots : length h.slots.items ≤ 2 ^ 22
   pub next : h.next ≤ length h.slots.items

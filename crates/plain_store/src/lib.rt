@@ -14,6 +14,7 @@
 //! ```
 #![tactic(auto)]
 
+mod entries;
 mod hand;
 mod place;
 mod refusal;
@@ -27,9 +28,9 @@ mod store_settle;
 mod store_snapshots;
 mod tally;
 
+pub use entries::is_of;
 pub use hand::{Hand, SnapHand, WeakHand, counted};
 pub use place::{PlainPlace, PlainWeakPlace};
 pub use refusal::MakeRefused;
 pub use store::Store;
 pub use store_image::words;
-pub use store_snapshots::is_of;

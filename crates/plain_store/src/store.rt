@@ -48,8 +48,9 @@ fn copies<T: Copy>(alloc: Global, value: T, count: u32) -> Result<Vec<T>, OutOfM
 }
 
 impl Store {
-    /// An empty heap.
+    /// An empty heap of at most 4,194,304 slots.
     pub fn new(alloc: Global, slots: u32, cells: u32, weak_cells: u32) -> Result<Store, OutOfMemory>
+        requires { slots ≤ 4194304 }
         ensures empty { IfOk result (λ h. plain_of h ≡ empty 1 slots cells weak_cells) }
         ensures kept { IfOk result Kept }
     {

@@ -14,7 +14,10 @@ use crate::refusal::MakeRefused;
 use crate::store::Store;
 use crate::tally::{count_less, count_of};
 use out_of_memory::OutOfMemory;
-use plain_state::{PlainSlot, SlotId, Stage};
+use plain_state::{PlainSlot, SlotId, Stage, ZERO};
+
+/// So many adds are counted: no count of references reaches the zero flag of its word.
+const MOST_ADDS: u64 = ZERO - 2;
 
 /// The first free slot from `from` on.
 fn free_from(slots: &[PlainSlot], from: usize) -> Option<usize>
@@ -86,9 +89,9 @@ impl Store {
 
     /// The adds after one more.
     pub fn next_add(&self) -> Result<u64, OutOfMemory>
-        ensures { IfOk result (λ n. (n ≡ self.now.adds + 1) × (n + 1 < 2 ^ 64)) }
+        ensures { IfOk result (λ n. (n ≡ self.now.adds + 1) × (n + 1 < 2 ^ 63)) }
     {
-        if self.adds < u64::MAX - 1 {
+        if self.adds < MOST_ADDS {
             Ok(self.adds + 1)
         } else {
             Err(OutOfMemory)

@@ -6,6 +6,7 @@ ghost use Rattle.plain_state.specs.Steps.{joined};
 ghost use Rattle.plain_store.specs.Calls.{HasPlace, MayGive, HasGiven, SameObjects, Puts, Tries};
 ghost use Rattle.plain_store.specs.Stores.{plain_of, Kept};
 
+use crate::entries::defer;
 use crate::store::Store;
 use crate::store_hands::take_one;
 use out_of_memory::OutOfMemory;
@@ -46,16 +47,6 @@ fn with_strong_field(object: PlainSlot, field: u32, new: Option<SlotId>) -> Plai
             second: new,
             ..object
         }
-    }
-}
-
-/// Defers the decrement of what a place held.
-fn defer(deferred: &mut Vec<(Kind, SlotId)>, kind: Kind, old: Option<SlotId>)
-    requires { vec_len deferred.old < vec_capacity deferred.old }
-    ensures { deferred.new.items ≡ joined kind old deferred.old.items }
-{
-    if let Some(slot) = old {
-        deferred.push_reserved((kind, slot));
     }
 }
 

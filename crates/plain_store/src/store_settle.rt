@@ -4,7 +4,7 @@ ghost use Rattle.std.specs.List.{swap_remove};
 ghost use Rattle.plain_state.specs.declared.slot.SlotId.{SlotId};
 ghost use Rattle.plain_state.specs.declared.slot.Kind.TheVariants as kinds;
 ghost use Rattle.plain_state.specs.declared.slot.Stage.TheVariants.{Live, Ended, Husk};
-ghost use Rattle.plain_state.specs.Lists.{Entry, is_entry, entry_times};
+ghost use Rattle.plain_state.specs.Lists.{Entry, entry_times};
 ghost use Rattle.plain_state.specs.State.{new_slot, seat_at, slot_at, stage_at};
 ghost use Rattle.plain_state.specs.References.{strong_refs, weak_refs};
 ghost use Rattle.plain_state.specs.Steps.{joined};
@@ -12,33 +12,11 @@ ghost use Rattle.plain_store.specs.Settling.{IsSurplus};
 ghost use Rattle.plain_store.specs.Stores.{plain_of, Kept};
 ghost use Rattle.plain_store.specs.Draining.{SettlesFreely, Destroys, IsCalm, HasRoom, AllNeeded, fewer, husk_of, ended_of, freed_of};
 
+use crate::entries::{defer, entry_count};
 use crate::store::Store;
 use crate::tally::count_less;
 use out_of_memory::OutOfMemory;
 use plain_state::{Kind, PlainSlot, SlotId, Stage};
-
-/// Whether the entry is this one.
-fn is_same(entry: (Kind, SlotId), kind: Kind, slot: SlotId) -> bool
-    ensures { result ≡ is_entry kind slot entry }
-{
-    match (kind, entry.0) {
-        (Kind::Strong, Kind::Strong) | (Kind::Weak, Kind::Weak) => entry.1.0 == slot.0,
-        _ => false,
-    }
-}
-
-/// How often the entry stands in the list.
-fn entry_count(list: &[(Kind, SlotId)], kind: Kind, slot: SlotId) -> usize
-    ensures { result ≡ entry_times kind slot list.now }
-{
-    let mut count = 0;
-    for entry in list {
-        if is_same(*entry, kind, slot) {
-            count += 1;
-        }
-    }
-    count
-}
 
 /// The entry at a place of the list.
 fn entry_at(list: &Vec<(Kind, SlotId)>, at: usize) -> (Kind, SlotId)
@@ -60,18 +38,6 @@ fn count_one_less(strong: &mut Vec<u64>, weak: &mut Vec<u64>, kind: Kind, slot: 
     match kind {
         Kind::Strong => count_less(strong, slot),
         Kind::Weak => count_less(weak, slot),
-    }
-}
-
-/// What a place held joins the list.
-fn defer(list: &mut Vec<(Kind, SlotId)>, kind: Kind, held: Option<SlotId>)
-    requires { length list.old.items < vec_capacity list.old }
-    ensures items { list.new.items ≡ joined kind held list.old.items }
-    ensures capacity { vec_capacity list.new ≡ vec_capacity list.old }
-    ensures len { length list.new.items ≤ length list.old.items + 1 }
-{
-    if let Some(slot) = held {
-        list.push_reserved((kind, slot));
     }
 }
 

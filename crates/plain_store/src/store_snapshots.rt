@@ -1,13 +1,14 @@
 //! Snapshots that the seat of a store is under.
-ghost use Rattle.std.specs.Prelude.{◌≡◌, ◌<◌, ◌≤◌, IfOk, IfSome, IsSome, OnErr, false, true, length, slice_index_or};
+ghost use Rattle.std.specs.Prelude.{◌≡◌, ◌<◌, ◌≤◌, IfOk, OnErr, length};
 ghost use Rattle.plain_state.specs.declared.act.PlainAct.TheVariants as act;
 ghost use Rattle.plain_state.specs.declared.slot.Kind.TheVariants.{Strong};
-ghost use Rattle.plain_state.specs.Lists.{is_entry, entry_times, Loses};
+ghost use Rattle.plain_state.specs.Lists.{entry_times};
 ghost use Rattle.plain_state.specs.Places.{IsOpen, place_kind};
 ghost use Rattle.plain_state.specs.Steps.{Does};
-ghost use Rattle.plain_store.specs.Calls.{Snaps, HasSnapshot, ending};
+ghost use Rattle.plain_store.specs.Calls.{Snaps};
 ghost use Rattle.plain_store.specs.Stores.{plain_of, Kept};
 
+use crate::entries::take_entry;
 use crate::hand::SnapHand;
 use crate::store::Store;
 use out_of_memory::OutOfMemory;
@@ -15,41 +16,6 @@ use plain_state::{EventPlace, Kind, SlotId};
 
 /// How many uncounted snapshots a seat is under at most.
 const MOST: usize = 3;
-
-/// Whether an entry is of this kind and slot.
-pub fn is_of(entry: &(Kind, SlotId), kind: Kind, slot: SlotId) -> bool
-    ensures { result ≡ is_entry kind slot entry.now }
-{
-    match (kind, entry.0) {
-        (Kind::Strong, Kind::Strong) | (Kind::Weak, Kind::Weak) => entry.1.0 == slot.0,
-        (Kind::Strong, Kind::Weak) | (Kind::Weak, Kind::Strong) => false,
-    }
-}
-
-/// Where the entry stands first in the list.
-fn entry_at(list: &[(Kind, SlotId)], kind: Kind, slot: SlotId) -> Option<usize>
-    requires { 0 < entry_times kind slot list.now }
-    ensures there { IsSome result }
-    ensures found { IfSome result (λ i. (i < length list.now)
-        × (slice_index_or list.now i (kind, slot) ≡ (kind, slot))) }
-{
-    for (i, entry) in list.iter().enumerate() {
-        if is_of(entry, kind, slot) {
-            return Some(i);
-        }
-    }
-    None
-}
-
-/// Takes one such entry out of the list.
-fn take_entry(list: &mut Vec<(Kind, SlotId)>, kind: Kind, slot: SlotId)
-    requires { 0 < entry_times kind slot list.old.items }
-    ensures { Loses list.old.items (kind, slot) list.new.items }
-{
-    if let Some(at) = entry_at(list, kind, slot) {
-        list.remove(at);
-    }
-}
 
 impl Store {
     /// An uncounted snapshot of what a strong place holds.
@@ -108,7 +74,7 @@ impl Store {
     }
 
     /// An uncounted snapshot ends.
-    fn end_snapshot(&mut self, slot: SlotId)
+    pub fn end_snapshot(&mut self, slot: SlotId)
         requires kept { Kept self.old }
         requires under { 0 < entry_times Strong slot self.old.snapshots.items }
         ensures does { Does (plain_of self.old) 0 (act.EndSnapshot Strong slot) 0 (plain_of self.new) }
@@ -116,19 +82,5 @@ impl Store {
         ensures kept { Kept self.new }
     {
         take_entry(&mut self.snapshots, Kind::Strong, slot);
-    }
-
-    /// A snapshot ends.
-    pub fn unsnap(&mut self, slot: SlotId, counted: bool)
-        requires kept { Kept self.old }
-        requires has { HasSnapshot (plain_of self.old) slot counted }
-        ensures does { Does (plain_of self.old) 0 (ending slot counted) 0 (plain_of self.new) }
-        ensures kept { Kept self.new }
-    {
-        if counted {
-            self.drop_owned(slot);
-        } else {
-            self.end_snapshot(slot);
-        }
     }
 }

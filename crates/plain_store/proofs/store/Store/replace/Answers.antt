@@ -10,7 +10,7 @@ content-old-requires c = opened_place c.args.self.now c.args.place c.requires.ke
 
 pub set_content-requires : goal.set_content-requires
 set_content-requires c =
-    let h : Store = record c.give_up.new.self { deferred = c.defer.new.deferred } in
+    let h : Store = record c.give_up.new.self { deferred = c.defer.new.list } in
     let e = c.give_up.ensures.gives.2 in
     same_places (plain_of c.args.self.now) (plain_of h) c.args.place
     (ap (λ (p : Plain). length p.cells) e) (ap (λ (p : Plain). length p.weak_cells) e) (ap (λ (p : Plain). length p.slots) e)

@@ -1,0 +1,15 @@
+use Rattle.std.proofs.Common.{rules}
+use Rattle.plain_store.specs.Stores.{plain_of}
+use Rattle.plain_store.proofs.CallsCalm.{call_calm, weakly_gains_calm}
+use Rattle.cdrc_plain.proofs.Watched.{restless_on}
+use Rattle.cdrc_plain.proofs.heap.PlainHeap.copy_weak.Goals as goal
+
+pub invariant_of-self : goal.invariant_of-self
+invariant_of-self g c =
+    let p = plain_of c.self.inside.store in
+    let q = plain_of c.weak_gain.new.self in (
+      c.weak_gain.ensures.kept,
+      search rules,
+      restless_on c.self.inside.restless p q
+          (call_calm c.weak_gain.result _ p q c.weak_gain.ensures.gains c.weak_gain.ensures.err (weakly_gains_calm p q c.self.invariant.0.sound c.slot.result)) c.self.invariant.2,
+    )

@@ -1,0 +1,10 @@
+-- A core on the way.
+use Rattle.std.specs.Prelude.{ℕ}
+use Rattle.core_events.specs.declared.shape.Shape.{Shape}
+use Rattle.core_events.specs.Runs.{Core}
+
+-- a core, its shape, and how many events it made
+pub record Running : Type 0 where
+  pub shape : Shape
+  pub core : Core
+  pub events : ℕ

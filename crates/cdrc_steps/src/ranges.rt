@@ -1,0 +1,64 @@
+//! Whether the numbers of an event are in their ranges.
+ghost use Rattle.std.specs.Prelude.{◌↔◌, IsTrue};
+ghost use Rattle.cdrc_steps.specs.Ranges.{HasContent, HasNumbersOf, HasPlace, HasSlot, IsInRange};
+
+use core_events::{Act, Event, EventPlace, Shape, SlotId};
+
+fn has_slot(shape: &Shape, slot: SlotId) -> bool
+    ensures { IsTrue result ↔ HasSlot shape.now slot }
+{
+    slot.0 < shape.slots
+}
+
+fn has_content(shape: &Shape, content: Option<SlotId>) -> bool
+    ensures { IsTrue result ↔ HasContent shape.now content }
+{
+    match content {
+        None => true,
+        Some(slot) => has_slot(shape, slot),
+    }
+}
+
+fn has_place(shape: &Shape, place: EventPlace) -> bool
+    ensures { IsTrue result ↔ HasPlace shape.now place }
+{
+    match place {
+        EventPlace::Cell(cell) => cell < shape.cells,
+        EventPlace::Field(slot, _) | EventPlace::WeakField(slot) => has_slot(shape, slot),
+        EventPlace::WeakCell(cell) => cell < shape.weak_cells,
+    }
+}
+
+fn has_numbers_of(shape: &Shape, act: Act) -> bool
+    ensures { IsTrue result ↔ HasNumbersOf shape.now act }
+{
+    match act {
+        Act::Add(slot)
+        | Act::Drop(slot)
+        | Act::Count(slot)
+        | Act::Claim(slot)
+        | Act::Wadd(slot)
+        | Act::Wdrop(slot)
+        | Act::Destroy(slot)
+        | Act::Wcount(slot) => has_slot(shape, slot),
+        Act::Announce(note, _, slot) => note < 4 && has_slot(shape, slot),
+        Act::Release(note) => note < 4,
+        Act::Look(place) => has_place(shape, place),
+        Act::Check(note, place) => note < 4 && has_place(shape, place),
+        Act::Swap(place, new) => has_place(shape, place) && has_content(shape, new),
+        Act::Cas(place, old, new) => {
+            has_place(shape, place) && has_content(shape, old) && has_content(shape, new)
+        }
+        Act::Fill(word, _) => word < 16,
+        Act::See(slot, word) => has_slot(shape, slot) && word < 16,
+        Act::Leave(seat) => seat < shape.seats,
+        Act::Pay | Act::Finish | Act::Take | Act::Mark | Act::Scan | Act::Start | Act::Free => true,
+    }
+}
+
+/// Whether the seat, and the slots, notes, cells and payload places of the event are there. Constant.
+pub fn is_in_range(shape: &Shape, event: Event) -> bool
+    ensures { IsTrue result ↔ IsInRange shape.now event }
+{
+    event.seat < shape.seats && has_numbers_of(shape, event.act)
+}

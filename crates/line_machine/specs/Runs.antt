@@ -1,0 +1,27 @@
+-- How a text of lines is run, by whoever takes them one by one.
+use Rattle.std.specs.Prelude.{ℕ, ◌≡◌, ◌⊎◌, Bool, true, List, [], ◌∷◌, ◌++◌}
+use Rattle.std.specs.Bool.{MatchBool}
+use Rattle.line_words.specs.declared.reason.Reason.{Reason}
+use Rattle.line_words.specs.Lines.{numbered_lines}
+use Rattle.line_words.specs.Words.{words_of, is_blank}
+use Rattle.line_words.specs.Refused.{refused_line}
+
+-- What takes the lines is in one of the states S. A line's words lead from a state to another and write some bytes, or
+-- are refused there for a reason; the end of the text writes some bytes, and may be a refusal too.
+module _ {S : Type 0} (Takes : S → List (List ℕ) → List ℕ → S → Type 0)
+    (Refuses : S → List (List ℕ) → Reason → Type 0) (Ends : S → List ℕ → Bool → Type 0) where
+  -- from the state s these lines, with their numbers, write these bytes; `refused` tells whether one is refused, after
+  -- which nothing is run
+  abbrev pub Goes : S → List (ℕ × List ℕ) → List ℕ → Bool → Type 0
+  Goes s [] bytes refused = Ends s bytes refused
+  Goes s (line ∷ lines) bytes refused =
+      MatchBool (is_blank (words_of line.1))
+      (Goes s lines bytes refused)
+      (((out : List ℕ) × (rest : List ℕ) × (next : S) × Takes s (words_of line.1) out next
+      × Goes next lines rest refused × (bytes ≡ out ++ rest))
+      ⊎ ((reason : Reason) × Refuses s (words_of line.1) reason
+      × (bytes ≡ refused_line line.0 reason) × (refused ≡ true)))
+
+  -- so does the whole text
+  abbrev pub IsRun : S → List ℕ → List ℕ → Bool → Type 0
+  IsRun s text bytes refused = Goes s (numbered_lines text) bytes refused

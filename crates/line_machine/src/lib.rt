@@ -1,0 +1,21 @@
+//! A text of lines, run by whoever takes them one by one.
+//!
+//! The rule: lines are taken in order, blank ones are skipped but counted, and what each writes is appended. The first
+//! line that is refused ends the run with `line N refused: REASON` as the last line; without one the end of the text
+//! has the last word. Nothing is promised of what a line means: that is the machine's.
+//!
+//! ```text
+//! let written = run_lines(alloc, &mut machine, text)?;
+//! if written.refused {
+//!     // the last line of written.text tells which line, and why
+//! }
+//! ```
+#![tactic(auto)]
+
+mod machine;
+mod run;
+#[cfg(test)]
+mod tests;
+
+pub use machine::LineMachine;
+pub use run::{Written, run_lines};

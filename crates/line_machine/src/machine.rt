@@ -1,0 +1,38 @@
+//! What takes the lines of a text.
+ghost use Rattle.std.specs.Prelude.{◌≡◌, ◌++◌, ℕ, Bool, List, Ok, None, Some};
+ghost use Rattle.line_words.specs.declared.reason.Reason.{Reason};
+ghost use Rattle.line_words.specs.Words.{texts_of};
+
+use line_words::Reason;
+use out_of_memory::OutOfMemory;
+use std::alloc::Global;
+
+/// What takes the lines of a text one by one. Its ghost members say what a line's words do in each of its states.
+pub trait LineMachine {
+    /// In this state the words write these bytes, and lead to that state.
+    ghost takes: { Self → List (List ℕ) → List ℕ → Self → Type 0 };
+
+    /// In this state the words are refused for this reason.
+    ghost refuses: { Self → List (List ℕ) → Reason → Type 0 };
+
+    /// In this state the end of the text writes these bytes, and is a refusal or isn't.
+    ghost ends: { Self → List ℕ → Bool → Type 0 };
+
+    /// Takes the words of a line, and appends what it writes. Some reason comes exactly where the line is refused;
+    /// nothing is appended then.
+    fn take(
+        &mut self,
+        alloc: Global,
+        words: &[&[u8]],
+        text: &mut Vec<u8>,
+    ) -> Result<Option<Reason>, OutOfMemory>
+        ensures taken { result ≡ Ok None → (out : List ℕ) × (text.new.items ≡ text.old.items ++ out)
+            × takes self.old (texts_of words.now) out self.new }
+        ensures refused { (reason : Reason) → result ≡ Ok (Some reason) →
+            (text.new.items ≡ text.old.items) × refuses self.old (texts_of words.now) reason };
+
+    /// Appends what the end of the text writes. True exactly where it is a refusal.
+    fn end(&mut self, alloc: Global, text: &mut Vec<u8>) -> Result<bool, OutOfMemory>
+        ensures { (refused : Bool) → result ≡ Ok refused →
+            (out : List ℕ) × (text.new.items ≡ text.old.items ++ out) × ends self.old out refused };
+}

@@ -1,0 +1,4 @@
+pub mod Lines
+pub mod Number
+pub mod Refused
+pub mod Words

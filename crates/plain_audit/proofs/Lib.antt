@@ -1,0 +1,5 @@
+pub mod Numbers
+pub mod Within
+pub mod ImageNumbers
+pub mod ImageLaws
+pub mod Auditing

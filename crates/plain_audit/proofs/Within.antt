@@ -1,0 +1,44 @@
+-- What a place or a deferred entry of a sound state names is there.
+use Rattle.std.proofs.Common.{◌≡◌, ℕ, zero, suc, ◌+◌, ◌<◌, ◌≤◌, List, [], ◌∷◌, length, get_or, ap, ◌∙◌, arith, Option, Some, None}
+use Rattle.plain_state.specs.declared.act.EventPlace.{EventPlace}
+use Rattle.plain_state.specs.declared.slot.Kind.{Kind}
+use Rattle.plain_state.specs.declared.slot.Kind.TheVariants.{Strong, Weak}
+use Rattle.plain_state.specs.declared.slot.SlotId.{SlotId}
+use Rattle.plain_state.specs.Lists.{Entry, entry_times}
+use Rattle.plain_state.specs.State.{Plain, seat_at}
+use Rattle.plain_state.specs.Places.{place_kind, content}
+use Rattle.plain_state.specs.References.{held_in, places, deferrals}
+use Rattle.plain_state.specs.Sound.{Sound}
+use Rattle.plain_state.specs.Steps.{word_of}
+use Rattle.plain_state.proofs.Changes.{IsThere, place_part, seat_part}
+use Rattle.plain_state.proofs.Kit.{held_self, entry_self, entry_cons}
+use Rattle.plain_state.proofs.SeatRows.{is_there}
+
+-- an entry stands in its list
+entry_stands : (es : List Entry) (i : ℕ) (d : Entry) → i < length es → 0 < entry_times (get_or es i d).0 (get_or es i d).1 es
+entry_stands [] i d lt = absurd (omega arith)
+entry_stands (e ∷ es) zero d lt = omega (arith, entry_cons e.0 e.1 e es, entry_self e.0 e.1)
+entry_stands (e ∷ es) (suc i) d lt =
+    let f = get_or es i d in omega (arith, entry_cons f.0 f.1 e es, entry_stands es i d (omega arith))
+
+module _ (p : Plain) (so : Sound p) where
+  -- a slot that places or deferred entries of a kind refer to
+  named_within : (k : Kind) (s : SlotId) → 0 < places k p s + deferrals k p s → s.0 < length p.slots
+  named_within Strong s h =
+      let live = (so.lawful.strong s (omega (arith, h))).0 in is_there p s (λ free. cc)
+  named_within Weak s h = is_there p s (so.lawful.weak s (omega (arith, h)))
+
+  pub place_within : (place : EventPlace) (held : Option SlotId) → IsThere p place → content p place ≡ held → word_of held ≤ length p.slots
+  place_within place None there e = omega arith
+  place_within place (Some s) there e =
+      let one : held_in s (content p place) ≡ 1 = ap (held_in s) e ∙ held_self s in
+      let lt = named_within (place_kind place) s (omega (arith, one, place_part p place s there)) in omega (arith, lt)
+
+  pub entry_within : (i : ℕ) (d : Entry) → 0 < length p.seats → i < length (seat_at p 0).deferred → (get_or (seat_at p 0).deferred i d).1.0 < length p.slots
+  entry_within i d seat lt =
+      let e = get_or (seat_at p 0).deferred i d in
+      by_kind e.0 e.1 (entry_stands (seat_at p 0).deferred i d lt)
+    where
+      by_kind : (k : Kind) (s : SlotId) → 0 < entry_times k s (seat_at p 0).deferred → s.0 < length p.slots
+      by_kind Strong s h = named_within Strong s (omega (arith, h, seat_part p 0 s seat))
+      by_kind Weak s h = named_within Weak s (omega (arith, h, seat_part p 0 s seat))

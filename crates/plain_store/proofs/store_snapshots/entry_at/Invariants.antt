@@ -1,6 +1,0 @@
-use Rattle.std.proofs.Common.{◌≡◌, take}
-use Rattle.plain_state.specs.Lists.{entry_times}
-use Rattle.plain_store.proofs.store_snapshots.entry_at.Given as goal
-
-abbrev pub invariant-loop-i : goal.invariant-loop-i
-invariant-loop-i l = entry_times l.kind l.slot (take l.i l.list) ≡ 0

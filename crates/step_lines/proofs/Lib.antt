@@ -1,0 +1,7 @@
+-- The lemmas that the contracts stand on.
+pub mod Readings
+pub mod Words
+pub mod Places
+pub mod Rows
+pub mod Lines
+pub mod Unique

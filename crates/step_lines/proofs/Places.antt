@@ -1,0 +1,122 @@
+-- Which word spells which slot, content and place.
+use Rattle.std.proofs.Common.{◌≡◌, ◌≢◌, inl, inr, ℕ, ◌+◌, ◌<◌, List, [], ◌∷◌, ◌++◌, length, refl, sym, ap, subst, ◌∙◌, arith, append_assoc, length-append, codes, Option, Some, None, Result, Ok, Err}
+use Rattle.std.proofs.lemmas.List.Elements.{All-head}
+use Rattle.std.specs.List.{All}
+use Rattle.std.proofs.lemmas.Bool.{cases_lt}
+use Rattle.std.specs.Char.{IsAsciiDigit}
+use Rattle.std.specs.Result.{IsErrAnd, IsOkAnd, MatchResult}
+use Rattle.plain_state.specs.declared.act.EventPlace.{EventPlace}
+use Rattle.plain_state.specs.declared.act.EventPlace.TheVariants.{Cell, Field, WeakCell, WeakField}
+use Rattle.plain_state.specs.declared.slot.SlotId.{SlotId}
+use Rattle.line_words.specs.Number.{IsNumber}
+use Rattle.step_lines.specs.declared.refused.LineRefused.{LineRefused}
+use Rattle.step_lines.specs.declared.refused.LineRefused.TheVariants.{Syntax, Range}
+use Rattle.step_lines.specs.Beyond.{IsBeyondContent, IsBeyondPlace, IsBeyondSlot, IsTooLarge}
+use Rattle.step_lines.specs.Reading.{Reads}
+use Rattle.step_lines.specs.Spelling.{Content, Number, Place, Slot}
+use Rattle.step_lines.proofs.Readings.{reads_made, reads_refused}
+
+-- a slot is read by its number
+pub slot_reads : (word : List ℕ) (r : Result ℕ LineRefused) (m : Result SlotId LineRefused)
+    → MatchResult r (λ n. IsOkAnd m (λ s. s.0 ≡ n)) (λ e. m ≡ Err e)
+    → Reads (λ n. Number n word) IsTooLarge r → Reads (λ s. Slot s word) IsBeyondSlot m
+slot_reads word (Ok n) (Ok s) is reads = subst (λ (k : ℕ). Number k word) (sym is) reads
+slot_reads word (Ok n) (Err e) is reads = absurd is
+slot_reads word (Err Syntax) (Ok s) is reads = cc
+slot_reads word (Err Syntax) (Err Syntax) is reads = λ s. reads s.0
+slot_reads word (Err Syntax) (Err Range) is reads = cc
+slot_reads word (Err Range) (Ok s) is reads = cc
+slot_reads word (Err Range) (Err Syntax) is reads = cc
+slot_reads word (Err Range) (Err Range) is reads = (record { 0 = reads.0 }, reads.1, reads.2)
+
+-- a content that isn't null is read as its slot
+pub content_reads : (word : List ℕ) → word ≢ codes "null" → (r : Result SlotId LineRefused) (m : Result (Option SlotId) LineRefused)
+    → MatchResult r (λ s. IsOkAnd m (λ x. x ≡ Some s)) (λ e. m ≡ Err e)
+    → Reads (λ s. Slot s word) IsBeyondSlot r → Reads (λ x. Content x word) IsBeyondContent m
+content_reads word some =
+    reads_made (λ s. Slot s word) IsBeyondSlot (λ x. Content x word) IsBeyondContent (λ s. Some s)
+    (λ s spells. spells) only (λ s far. far)
+  where
+    only : (x : Option SlotId) → Content x word → (s : SlotId) × Slot s word
+    only None spells = absurd (some spells)
+    only (Some s) spells = (s, spells)
+
+-- a number begins with no `@`
+pub number_first : (index rest word : List ℕ) (n : ℕ) → IsNumber word n → 64 ∷ index ≡ word ++ rest → ⊥
+number_first index rest [] n is same = elim is.sign [
+  | inl none ↦ omega (arith, ap length none, is.decimal.0)
+  | inr none ↦ cc
+]
+number_first index rest (byte ∷ bytes) n is same = elim is.sign [
+  | inl whole ↦ let first : IsAsciiDigit byte = All-head IsAsciiDigit byte bytes (subst (All IsAsciiDigit) (sym whole) is.decimal.1) in
+      let is_it : 64 ≡ byte = cc in omega (arith, first)
+  | inr signed ↦ let wrong : ◌≡◌ {A = ℕ} 64 43 = cc in omega arith
+]
+
+-- a number isn't `null`
+pub number_no_null : (word : List ℕ) (n : ℕ) → IsNumber word n → word ≢ codes "null"
+number_no_null word n is null = elim is.sign [
+  | inl whole ↦ let first = subst (All IsAsciiDigit) (sym whole ∙ null) is.decimal.1 in
+      let digit : IsAsciiDigit 110 = All-head IsAsciiDigit 110 (codes "ull") first in omega (arith, digit)
+  | inr signed ↦ let wrong : ◌≡◌ {A = ℕ} 43 110 = let e = sym signed ∙ null in cc in omega arith
+]
+
+-- two words that are the same end the same
+pub same-ends : (xs ys : List ℕ) (a b c d : ℕ) → xs ++ a ∷ b ∷ [] ≡ ys ++ c ∷ d ∷ [] → (xs ≡ ys) × (b ≡ d)
+same-ends [] [] a b c d same = (refl, cc)
+same-ends [] (y ∷ ys) a b c d same = absurd (omega (arith, ap length same, length-append ys (c ∷ d ∷ [])))
+same-ends (x ∷ xs) [] a b c d same = absurd (omega (arith, ap length same, length-append xs (a ∷ b ∷ [])))
+same-ends (x ∷ xs) (y ∷ ys) a b c d same =
+    let first : x ≡ y = cc in
+    let rest : xs ++ a ∷ b ∷ [] ≡ ys ++ c ∷ d ∷ [] = cc in
+    let ends = same-ends xs ys a b c d rest in
+    let fronts : xs ≡ ys = ends.0 in
+    (cc, ends.1)
+
+module _ (word : List ℕ) where
+  -- a word of a cell
+  pub cell_reads : (index : List ℕ) → word ≡ codes "@" ++ index
+      → (r : Result ℕ LineRefused) (m : Result EventPlace LineRefused)
+      → MatchResult r (λ i. IsOkAnd m (λ p. p ≡ Cell i)) (λ e. m ≡ Err e)
+      → Reads (λ i. Number i index) IsTooLarge r → Reads (λ p. Place p word) IsBeyondPlace m
+  cell_reads index is =
+      reads_made (λ i. Number i index) IsTooLarge (λ p. Place p word) IsBeyondPlace Cell
+      (λ i spells. (index, is, spells)) only (λ i far. far)
+    where
+      only : (p : EventPlace) → Place p word → (i : ℕ) × Number i index
+      only (Cell i) spells = (i, let same : spells.0 ≡ index = let e = sym spells.1 ∙ is in cc in subst (Number i) same spells.2)
+      only (Field s i) spells = absurd (number_first index (codes ":" ++ (48 + i) ∷ []) spells.0 s.0 spells.1
+          (sym is ∙ spells.3 ∙ append_assoc spells.0 (codes ":") ((48 + i) ∷ [])))
+      only (WeakCell i) spells = absurd spells
+      only (WeakField s) spells = absurd spells
+
+  -- a word of a field
+  module _ (slot : List ℕ) (k : ℕ) (within : k < 2) (is : word ≡ slot ++ 58 ∷ (48 + k) ∷ []) where
+    pub field_spelled : (s : SlotId) → Slot s slot → Place (Field s k) word
+    field_spelled s spells = (slot, spells, within, is ∙ sym (append_assoc slot (codes ":") ((48 + k) ∷ [])))
+
+    pub field_refused : ((index : List ℕ) → word ≢ codes "@" ++ index) → (r : Result EventPlace LineRefused) (e : LineRefused)
+        → IsErrAnd r (λ y. y ≡ e) → Reads (λ s. Slot s slot) IsBeyondSlot (Err e) → Reads (λ p. Place p word) IsBeyondPlace r
+    field_refused no_cell =
+        reads_refused (λ s. Slot s slot) IsBeyondSlot (λ p. Place p word) IsBeyondPlace (λ s. Field s k) field_spelled only (λ s far. far)
+      where
+        only : (p : EventPlace) → Place p word → (s : SlotId) × Slot s slot
+        only (Cell i) spells = absurd (no_cell spells.0 spells.1)
+        only (Field s i) spells =
+            let ends = same-ends spells.0 slot 58 (48 + i) 58 (48 + k) (sym (append_assoc spells.0 (codes ":") ((48 + i) ∷ [])) ∙ sym spells.3 ∙ is) in
+            (s, subst (λ w. Slot s w) ends.0 spells.1)
+        only (WeakCell i) spells = absurd spells
+        only (WeakField s) spells = absurd spells
+
+  -- a word of neither
+  pub no_place : ((index : List ℕ) → word ≢ codes "@" ++ index) → ((slot : List ℕ) → word ≢ slot ++ codes ":0")
+      → ((slot : List ℕ) → word ≢ slot ++ codes ":1") → (p : EventPlace) → Place p word → ⊥
+  no_place no_cell no_first no_second (Cell i) spells = no_cell spells.0 spells.1
+  no_place no_cell no_first no_second (Field s i) spells =
+      let is = spells.3 ∙ append_assoc spells.0 (codes ":") ((48 + i) ∷ []) in
+      elim (cases_lt i 1) [
+        | inl h ↦ no_first spells.0 (let zero : i ≡ 0 = omega arith in rw zero at is)
+        | inr h ↦ no_second spells.0 (let one : i ≡ 1 = omega (arith, spells.2) in rw one at is)
+      ]
+  no_place no_cell no_first no_second (WeakCell i) spells = spells
+  no_place no_cell no_first no_second (WeakField s) spells = spells

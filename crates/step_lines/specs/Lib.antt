@@ -1,0 +1,4 @@
+pub mod Spelling
+pub mod Beyond
+pub mod Reading
+pub mod Texts

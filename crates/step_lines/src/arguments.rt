@@ -1,0 +1,79 @@
+//! What one word spells.
+ghost use Rattle.std.specs.Prelude.{◌≡◌};
+ghost use Rattle.step_lines.specs.Beyond.{
+  IsBeyondContent,
+  IsBeyondPlace,
+  IsBeyondSlot,
+  IsTooLarge,
+  IsTooLargeValue,
+};
+ghost use Rattle.step_lines.specs.Reading.{Reads};
+ghost use Rattle.step_lines.specs.Spelling.{Content, KindWord, Number, Place, Slot};
+
+use crate::refused::LineRefused;
+use core_events::{EventPlace, Kind, SlotId};
+use line_words::number;
+
+/// A number below 2^32.
+pub fn parse_number(word: &[u8]) -> Result<u32, LineRefused>
+    ensures { Reads (λ n. Number n word.now) IsTooLarge result }
+{
+    match number(word) {
+        None => Err(LineRefused::Syntax),
+        Some(value) => u32::try_from(value).or(Err(LineRefused::Range)),
+    }
+}
+
+/// A number below 2^64.
+pub fn parse_value(word: &[u8]) -> Result<u64, LineRefused>
+    ensures { Reads (λ n. Number n word.now) IsTooLargeValue result }
+{
+    match number(word) {
+        None => Err(LineRefused::Syntax),
+        Some(value) => u64::try_from(value).or(Err(LineRefused::Range)),
+    }
+}
+
+/// A slot, by its number.
+pub fn parse_slot(word: &[u8]) -> Result<SlotId, LineRefused>
+    ensures { Reads (λ s. Slot s word.now) IsBeyondSlot result }
+{
+    parse_number(word).map(SlotId)
+}
+
+/// `strong` or `weak`.
+pub fn parse_kind(word: &[u8]) -> Result<Kind, LineRefused>
+    ensures { Reads (λ k. KindWord k word.now) (λ k. ⊥) result }
+{
+    match word {
+        b"strong" => Ok(Kind::Strong),
+        b"weak" => Ok(Kind::Weak),
+        _ => Err(LineRefused::Syntax),
+    }
+}
+
+/// A slot, or `null`.
+pub fn parse_content(word: &[u8]) -> Result<Option<SlotId>, LineRefused>
+    ensures { Reads (λ x. Content x word.now) IsBeyondContent result }
+{
+    if word == b"null".as_slice() {
+        return Ok(None);
+    }
+    parse_slot(word).map(Some)
+}
+
+/// A strong cell, or a field of a slot.
+pub fn parse_place(word: &[u8]) -> Result<EventPlace, LineRefused>
+    ensures { Reads (λ p. Place p word.now) IsBeyondPlace result }
+{
+    if let Some(index) = word.strip_prefix(b"@") {
+        return parse_number(index).map(EventPlace::Cell);
+    }
+    if let Some(slot) = word.strip_suffix(b":0") {
+        return Ok(EventPlace::Field(parse_slot(slot)?, 0));
+    }
+    if let Some(slot) = word.strip_suffix(b":1") {
+        return Ok(EventPlace::Field(parse_slot(slot)?, 1));
+    }
+    Err(LineRefused::Syntax)
+}

@@ -1,0 +1,10 @@
+//! Why the words of a line aren't read.
+
+/// Why the words of a line aren't read.
+#[derive(Clone, Copy, PartialEq, Eq, Debug, Drop)]
+pub enum LineRefused {
+    /// They don't spell it.
+    Syntax,
+    /// They spell it with a number that is too large to be held.
+    Range,
+}
