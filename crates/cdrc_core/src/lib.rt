@@ -18,11 +18,11 @@
 //! ```
 #![tactic(auto)]
 
-mod domain;
 mod errors;
 mod events;
 mod fields;
 mod laws;
+mod machine;
 mod replays;
 mod seats;
 mod table;
@@ -38,6 +38,6 @@ pub use core_events::{
     Act, Event, EventPlace, Kind, Note, Outcome, Phase, Quota, Shape, ShapeField, SlotId,
 };
 pub use core_seats::SeatView;
-pub use domain::Core;
 pub use errors::{ReplayError, StartError, StepError};
 pub use laws::one_first_bad;
+pub use machine::Core;

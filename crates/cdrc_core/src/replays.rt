@@ -8,8 +8,8 @@ ghost use Rattle.cdrc_core.specs.declared.errors.StartError.TheVariants.{BadShap
 ghost use Rattle.cdrc_core.specs.declared.errors.StepError.TheVariants.{NotEnabled, OutOfMemory};
 ghost use Rattle.cdrc_core.specs.declared.errors.ReplayError.TheVariants.{At, Start};
 
-use crate::domain::Core;
 use crate::errors::ReplayError;
+use crate::machine::Core;
 use core_events::{Event, Outcome, Quota, Shape};
 use std::alloc::Global;
 

@@ -5,7 +5,7 @@ use crate::{
     Act, Core, Event, EventPlace, Kind, Outcome, Quota, ReplayError, Shape, ShapeField, SlotId,
     StartError, StepError,
 };
-use std::alloc::Global;
+use std::alloc::{AllocError, Global};
 use std::process::Abort;
 use std::test::Fail;
 
@@ -32,25 +32,33 @@ const fn sizes(seats: u32, slots: u32, cells: u32, weak_cells: u32, batch: u32) 
     }
 }
 
-fn by(seat: u32, act: Act) -> Event {
-    Event { seat, act }
+fn events_of(alloc: Global, steps: &[(u32, Act, Outcome)]) -> Result<Vec<Event>, AllocError> {
+    let mut events = Vec::new(alloc);
+    for &(seat, act, _answer) in steps {
+        events.push(Event { seat, act })?;
+    }
+    Ok(events)
 }
 
-/// From the start these events answer so, and leave slot 0 these words.
+/// From the start these seats make these acts, which answer so, and slot 0 has these words then.
 fn row(
     rt: &impl Abort,
     alloc: Global,
     shape: Shape,
-    events: &[Event],
-    answers: &[Outcome],
+    steps: &[(u32, Act, Outcome)],
     words: (u64, u64),
 ) -> Result<(), Fail>
     requires { 0 < shape.slots }
 {
     let mut quotas = Vec::new(alloc);
     quotas.resize(shape.seats as usize, WIDE)?;
-    let (core, outcomes) = Core::replay(alloc, shape, &quotas, events)?;
-    assert_eq!(rt; outcomes.as_slice(), answers);
+    let mut answers = Vec::new(alloc);
+    for &(_seat, _act, answer) in steps {
+        answers.push(answer)?;
+    }
+    let events = events_of(alloc, steps)?;
+    let (core, outcomes) = Core::replay(alloc, shape, &quotas, &events)?;
+    assert_eq!(rt; outcomes.as_slice(), answers.as_slice());
     assert_eq!(rt; (core.strong_word(SLOT), core.weak_word(SLOT)), words);
     Ok(())
 }
@@ -58,172 +66,117 @@ fn row(
 // A decrement that comes to its finish late doesn't end the object again.
 #[test]
 fn late_finish(rt: HostRuntime) -> Result<(), Fail> {
-    let events = [
-        by(1, Act::Claim(SLOT)),
-        by(1, Act::Start),
-        by(1, Act::Wadd(SLOT)),
-        by(1, Act::Swap(WEAK_CELL, Some(SLOT))),
-        by(2, Act::Announce(0, Kind::Weak, SLOT)),
-        by(2, Act::Check(0, WEAK_CELL)),
-        by(2, Act::Wadd(SLOT)),
-        by(2, Act::Release(0)),
-        by(1, Act::Drop(SLOT)),
-        by(2, Act::Add(SLOT)),
-        by(2, Act::Drop(SLOT)),
-        by(2, Act::Finish),
-        by(1, Act::Finish),
+    let steps = [
+        (1, Act::Claim(SLOT), Outcome::Claimed),
+        (1, Act::Start, Outcome::Plain),
+        (1, Act::Wadd(SLOT), Outcome::Plain),
+        (1, Act::Swap(WEAK_CELL, Some(SLOT)), Outcome::Found(None)),
+        (2, Act::Announce(0, Kind::Weak, SLOT), Outcome::Plain),
+        (2, Act::Check(0, WEAK_CELL), Outcome::Valid),
+        (2, Act::Wadd(SLOT), Outcome::Plain),
+        (2, Act::Release(0), Outcome::Plain),
+        (1, Act::Drop(SLOT), Outcome::Zeroed),
+        (2, Act::Add(SLOT), Outcome::Up),
+        (2, Act::Drop(SLOT), Outcome::Zeroed),
+        (2, Act::Finish, Outcome::Ended),
+        (1, Act::Finish, Outcome::Lost),
     ];
-    let answers = [
-        Outcome::Claimed,
-        Outcome::Plain,
-        Outcome::Plain,
-        Outcome::Found(None),
-        Outcome::Plain,
-        Outcome::Valid,
-        Outcome::Plain,
-        Outcome::Plain,
-        Outcome::Zeroed,
-        Outcome::Up,
-        Outcome::Zeroed,
-        Outcome::Ended,
-        Outcome::Lost,
-    ];
-    row(
-        &rt,
-        rt.alloc(),
-        sizes(3, 1, 0, 1, 12),
-        &events,
-        &answers,
-        (ZERO, 3),
-    )
+    row(&rt, rt.alloc(), sizes(3, 1, 0, 1, 12), &steps, (ZERO, 3))
 }
 
 // A reader that finds the count at 0 sets both flags; of two helpers one ends the object.
 #[test]
 fn readers_help(rt: HostRuntime) -> Result<(), Fail> {
-    let events = [
-        by(1, Act::Claim(SLOT)),
-        by(1, Act::Start),
-        by(1, Act::Wadd(SLOT)),
-        by(1, Act::Swap(WEAK_CELL, Some(SLOT))),
-        by(0, Act::Announce(0, Kind::Weak, SLOT)),
-        by(0, Act::Check(0, WEAK_CELL)),
-        by(0, Act::Wadd(SLOT)),
-        by(0, Act::Release(0)),
-        by(2, Act::Announce(0, Kind::Weak, SLOT)),
-        by(2, Act::Check(0, WEAK_CELL)),
-        by(2, Act::Wadd(SLOT)),
-        by(2, Act::Release(0)),
-        by(1, Act::Drop(SLOT)),
-        by(2, Act::Add(SLOT)),
-        by(2, Act::Drop(SLOT)),
-        by(0, Act::Count(SLOT)),
-        by(0, Act::Mark),
-        by(1, Act::Finish),
-        by(2, Act::Finish),
-        by(2, Act::Take),
-        by(1, Act::Take),
+    let steps = [
+        (1, Act::Claim(SLOT), Outcome::Claimed),
+        (1, Act::Start, Outcome::Plain),
+        (1, Act::Wadd(SLOT), Outcome::Plain),
+        (1, Act::Swap(WEAK_CELL, Some(SLOT)), Outcome::Found(None)),
+        (0, Act::Announce(0, Kind::Weak, SLOT), Outcome::Plain),
+        (0, Act::Check(0, WEAK_CELL), Outcome::Valid),
+        (0, Act::Wadd(SLOT), Outcome::Plain),
+        (0, Act::Release(0), Outcome::Plain),
+        (2, Act::Announce(0, Kind::Weak, SLOT), Outcome::Plain),
+        (2, Act::Check(0, WEAK_CELL), Outcome::Valid),
+        (2, Act::Wadd(SLOT), Outcome::Plain),
+        (2, Act::Release(0), Outcome::Plain),
+        (1, Act::Drop(SLOT), Outcome::Zeroed),
+        (2, Act::Add(SLOT), Outcome::Up),
+        (2, Act::Drop(SLOT), Outcome::Zeroed),
+        (0, Act::Count(SLOT), Outcome::Again),
+        (0, Act::Mark, Outcome::Number(0)),
+        (1, Act::Finish, Outcome::Help),
+        (2, Act::Finish, Outcome::Help),
+        (2, Act::Take, Outcome::Ended),
+        (1, Act::Take, Outcome::NoHelp),
     ];
-    let answers = [
-        Outcome::Claimed,
-        Outcome::Plain,
-        Outcome::Plain,
-        Outcome::Found(None),
-        Outcome::Plain,
-        Outcome::Valid,
-        Outcome::Plain,
-        Outcome::Plain,
-        Outcome::Plain,
-        Outcome::Valid,
-        Outcome::Plain,
-        Outcome::Plain,
-        Outcome::Zeroed,
-        Outcome::Up,
-        Outcome::Zeroed,
-        Outcome::Again,
-        Outcome::Number(0),
-        Outcome::Help,
-        Outcome::Help,
-        Outcome::Ended,
-        Outcome::NoHelp,
-    ];
-    row(
-        &rt,
-        rt.alloc(),
-        sizes(3, 1, 0, 1, 12),
-        &events,
-        &answers,
-        (ZERO, 4),
-    )
+    row(&rt, rt.alloc(), sizes(3, 1, 0, 1, 12), &steps, (ZERO, 4))
 }
 
 // Of two retired copies under one announcement one stays and one goes.
 #[test]
 fn two_copies(rt: HostRuntime) -> Result<(), Fail> {
-    let events = [
-        by(0, Act::Claim(SLOT)),
-        by(0, Act::Start),
-        by(0, Act::Add(SLOT)),
-        by(0, Act::Swap(EventPlace::Cell(0), Some(SLOT))),
-        by(0, Act::Swap(EventPlace::Cell(1), Some(SLOT))),
-        by(0, Act::Announce(1, Kind::Strong, SLOT)),
-        by(0, Act::Check(1, EventPlace::Cell(0))),
-        by(0, Act::Swap(EventPlace::Cell(0), None)),
-        by(0, Act::Swap(EventPlace::Cell(1), None)),
-        by(0, Act::Scan),
-        by(0, Act::Scan),
-        by(0, Act::Scan),
-        by(0, Act::Scan),
-        by(0, Act::Pay),
+    let steps = [
+        (0, Act::Claim(SLOT), Outcome::Claimed),
+        (0, Act::Start, Outcome::Plain),
+        (0, Act::Add(SLOT), Outcome::Up),
+        (
+            0,
+            Act::Swap(EventPlace::Cell(0), Some(SLOT)),
+            Outcome::Found(None),
+        ),
+        (
+            0,
+            Act::Swap(EventPlace::Cell(1), Some(SLOT)),
+            Outcome::Found(None),
+        ),
+        (0, Act::Announce(1, Kind::Strong, SLOT), Outcome::Plain),
+        (0, Act::Check(1, EventPlace::Cell(0)), Outcome::Valid),
+        (
+            0,
+            Act::Swap(EventPlace::Cell(0), None),
+            Outcome::Found(Some(SLOT)),
+        ),
+        (
+            0,
+            Act::Swap(EventPlace::Cell(1), None),
+            Outcome::Found(Some(SLOT)),
+        ),
+        (0, Act::Scan, Outcome::Word(0)),
+        (0, Act::Scan, Outcome::Word(4)),
+        (0, Act::Scan, Outcome::Word(0)),
+        (0, Act::Scan, Outcome::Split(0, 1, 1)),
+        (0, Act::Pay, Outcome::Left),
     ];
-    let answers = [
-        Outcome::Claimed,
-        Outcome::Plain,
-        Outcome::Up,
-        Outcome::Found(None),
-        Outcome::Found(None),
-        Outcome::Plain,
-        Outcome::Valid,
-        Outcome::Found(Some(SLOT)),
-        Outcome::Found(Some(SLOT)),
-        Outcome::Word(0),
-        Outcome::Word(4),
-        Outcome::Word(0),
-        Outcome::Split(0, 1, 1),
-        Outcome::Left,
-    ];
-    row(
-        &rt,
-        rt.alloc(),
-        sizes(1, 1, 2, 0, 4),
-        &events,
-        &answers,
-        (1, 1),
-    )
+    row(&rt, rt.alloc(), sizes(1, 1, 2, 0, 4), &steps, (1, 1))
 }
 
 // An announcement that comes after the place has changed gives no right to add.
 #[test]
 fn late_announcement(rt: HostRuntime) -> Result<(), Fail> {
-    let events = [
-        by(0, Act::Claim(SLOT)),
-        by(0, Act::Start),
-        by(0, Act::Swap(EventPlace::Cell(0), Some(SLOT))),
-        by(0, Act::Swap(EventPlace::Cell(0), None)),
-        by(0, Act::Announce(1, Kind::Strong, SLOT)),
-        by(0, Act::Check(1, EventPlace::Cell(0))),
-        by(0, Act::Add(SLOT)),
-    ];
-    let answers = [
-        Outcome::Claimed,
-        Outcome::Plain,
-        Outcome::Found(None),
-        Outcome::Found(Some(SLOT)),
-        Outcome::Plain,
-        Outcome::Moved(None),
+    let steps = [
+        (0, Act::Claim(SLOT), Outcome::Claimed),
+        (0, Act::Start, Outcome::Plain),
+        (
+            0,
+            Act::Swap(EventPlace::Cell(0), Some(SLOT)),
+            Outcome::Found(None),
+        ),
+        (
+            0,
+            Act::Swap(EventPlace::Cell(0), None),
+            Outcome::Found(Some(SLOT)),
+        ),
+        (0, Act::Announce(1, Kind::Strong, SLOT), Outcome::Plain),
+        (0, Act::Check(1, EventPlace::Cell(0)), Outcome::Moved(None)),
     ];
     let shape = sizes(1, 1, 1, 0, 4);
-    row(&rt, rt.alloc(), shape, &events[..6], &answers, (1, 1))?;
+    row(&rt, rt.alloc(), shape, &steps, (1, 1))?;
+    let mut events = events_of(rt.alloc(), &steps)?;
+    events.push(Event {
+        seat: 0,
+        act: Act::Add(SLOT),
+    })?;
     match Core::replay(rt.alloc(), shape, &[WIDE], &events) {
         Ok(_) => panic!(rt; "the add was made"),
         Err(error) => assert_eq!(rt; error, ReplayError::At(6, StepError::NotEnabled)),

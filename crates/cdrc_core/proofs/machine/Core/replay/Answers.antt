@@ -4,7 +4,7 @@ use Rattle.cdrc_core.specs.Replays.{IsFirstRefused}
 use Rattle.cdrc_core.specs.declared.errors.StepError.TheVariants.{NotEnabled, OutOfMemory}
 use Rattle.cdrc_core.proofs.FirstBad.{passed_bad}
 use Rattle.cdrc_core.proofs.Replaying.{replayed_none, replayed_more, replayed_all, replay_refused, replay_on}
-use Rattle.cdrc_core.proofs.domain.Core.replay.Goals as goal
+use Rattle.cdrc_core.proofs.machine.Core.replay.Goals as goal
 
 pub returns-in_err-core-clause-bad : goal.returns-in_err-core-clause-bad
 returns-in_err-core-clause-bad c =

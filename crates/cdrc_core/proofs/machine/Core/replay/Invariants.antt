@@ -1,7 +1,7 @@
 use Rattle.std.proofs.Common.{◌≡◌, vec_capacity, vec_len, length}
 use Rattle.core_events.specs.Runs.{start}
 use Rattle.cdrc_core.proofs.Replaying.{Replayed}
-use Rattle.cdrc_core.proofs.domain.Core.replay.Given as goal
+use Rattle.cdrc_core.proofs.machine.Core.replay.Given as goal
 
 abbrev pub invariant-loop-at : goal.invariant-loop-at
 invariant-loop-at l = record {
