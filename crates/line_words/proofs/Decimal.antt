@@ -1,7 +1,7 @@
 -- The value of digits, read one by one and capped.
-use Rattle.std.proofs.Common.{◌≡◌, ℕ, ◌+◌, ◌-◌, ◌*◌, ◌<◌, ◌≤◌, ◌⊎◌, inl, inr, min, List, [], ◌∷◌, length, take, get_or, fold, refl, sym, ap, ◌∙◌, arith}
+use Rattle.std.proofs.Common.{◌≡◌, ℕ, ◌+◌, ◌-◌, ◌*◌, ◌<◌, ◌⊎◌, inl, inr, min, List, [], ◌∷◌, length, take, get_or, refl, sym, ap, ◌∙◌, arith}
 use Rattle.std.proofs.lemmas.List.Sums.{fold_more}
-use Rattle.line_words.specs.Number.{capped, value_of, IsDigits, IsNumber}
+use Rattle.line_words.specs.Number.{value_of, IsDigits, IsNumber}
 
 pub value_of-nil : value_of [] ≡ 0
 unfolding value_of

@@ -1,5 +1,5 @@
 -- Which commands a verb and the words after it may spell.
-use Rattle.std.proofs.Common.{◌≡◌, ℕ, List, [], ◌∷◌, Option, codes, refl, sym, ap, ◌∙◌}
+use Rattle.std.proofs.Common.{◌≡◌, ℕ, List, [], ◌∷◌, Option, codes, refl, sym, ◌∙◌}
 use Rattle.script_lines.specs.declared.command.Command.{Command}
 use Rattle.script_lines.specs.declared.command.Command.TheVariants.{Make, Copy, Drop, Weaken, CopyWeak, DropWeak, Upgrade, Put, Clear, Load, Replace, Snap, EndSnapshot, Keep, Read, Counts, Audit}
 use Rattle.script_lines.specs.declared.command.ScriptLine.{ScriptLine}
@@ -8,7 +8,7 @@ use Rattle.script_lines.specs.declared.command.TextPlace.{TextPlace}
 use Rattle.script_lines.specs.declared.verb.Verb.{Verb}
 use Rattle.script_lines.specs.Spelling.{Each, Named, NamedOrNull, Number, Place, Spells, SpellsCommand}
 use Rattle.script_lines.specs.Verbs.{spelling}
-use Rattle.script_lines.proofs.Shapes.{Shape, OneName, TwoNames, NameAndNumber, OnePlace, PlaceAndName, PlaceAndTwo, ThreeNumbers, Nothing, shape, shape-spelling, verb_at}
+use Rattle.script_lines.proofs.Shapes.{OneName, TwoNames, NameAndNumber, OnePlace, PlaceAndName, PlaceAndTwo, ThreeNumbers, shape, shape-spelling, verb_at}
 
 -- the word that begins a command
 abbrev pub word_of : Command → List ℕ

@@ -1,5 +1,5 @@
 -- Words spell one line at most.
-use Rattle.std.proofs.Common.{◌≡◌, ℕ, ◌+◌, ◌<◌, false, List, [], ◌∷◌, ◌++◌, Option, Some, None, get_or, codes, refl, sym, ap, subst, ◌∙◌, arith, append_assoc}
+use Rattle.std.proofs.Common.{◌≡◌, ℕ, ◌+◌, false, List, [], ◌∷◌, ◌++◌, Option, Some, None, get_or, codes, refl, sym, ap, subst, ◌∙◌, arith, append_assoc}
 use Rattle.line_words.proofs.Decimal.{one-number_of}
 use Rattle.line_words.specs.Number.{capped}
 use Rattle.script_lines.specs.declared.command.Command.{Command}

@@ -1,4 +1,4 @@
-use Rattle.std.proofs.Common.{◌≡◌, ◌∷◌, List, refl, ap, subst, ◌∙◌}
+use Rattle.std.proofs.Common.{◌≡◌, ◌∷◌, refl, ap, subst, ◌∙◌}
 use Rattle.line_words.specs.Words.{texts_of}
 use Rattle.script_lines.specs.Spelling.{Spells}
 use Rattle.script_lines.specs.Verbs.{spelling}

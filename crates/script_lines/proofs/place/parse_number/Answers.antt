@@ -1,4 +1,4 @@
-use Rattle.std.proofs.Common.{◌≡◌, ℕ, None, arith}
+use Rattle.std.proofs.Common.{◌≡◌, None, arith}
 use Rattle.script_lines.proofs.place.parse_number.Goals as goal
 
 -- a refusal comes of no number

@@ -1,5 +1,4 @@
-use Rattle.std.proofs.Common.{◌≡◌, ◌⊎◌, inl, inr, arith}
-use Rattle.script_lines.specs.Names.{IsName}
+use Rattle.std.proofs.Common.{inl, inr, arith}
 use Rattle.script_lines.proofs.Bytes.{first-byte, other-byte}
 use Rattle.script_lines.proofs.Places.{no-place_at, no-place_field, no-place_tilde}
 use Rattle.script_lines.proofs.Refusals.{same-refusal}
