@@ -1,2 +1,0 @@
-pub mod SaidLines
-pub mod Meaning
