@@ -27,7 +27,9 @@ fn one_file(words: &[String]) -> Option<&str>
     match words {
         [file] if is_operand(file.as_str()) => Some(file.as_str()),
         [dashes, file] if dashes.as_str() == "--" => Some(file.as_str()),
-        [file, dashes] if dashes.as_str() == "--" && is_operand(file.as_str()) => Some(file.as_str()),
+        [file, dashes] if dashes.as_str() == "--" && is_operand(file.as_str()) => Some(
+            file.as_str(),
+        ),
         _ => None,
     }
 }

@@ -21,9 +21,9 @@ mod output;
 mod records;
 mod report;
 mod run;
-mod work;
 #[cfg(test)]
 mod tests;
+mod work;
 
 use crate::explain::explain;
 use crate::run::run;

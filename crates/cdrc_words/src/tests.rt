@@ -138,7 +138,10 @@ fn lists_of_steps(rt: HostRuntime) -> Result<(), Fail> {
         let mut failing = MemSink::new(rt.alloc(), 3, vec![in rt.alloc(); 1u64]?);
         let failed = status_of(&rt, rt.alloc(), line, &mut files, &mut failing)?;
         assert!(rt; failed == 4, "{line} of {content}");
-        assert!(rt; failing.taken() == &output.as_bytes()[..3], "{line} of {content}");
+        assert!(rt;
+            failing.taken() == &output.as_bytes()[..3],
+            "{line} of {content}"
+        );
     }
     Ok(())
 }
