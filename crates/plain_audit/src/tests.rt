@@ -118,7 +118,10 @@ fn a_cycle_of_three_with_a_tail(rt: HostRuntime) {
     drop_hand(&rt, &mut heap, c);
     // The search goes from the tail to c, b, a, and to c again.
     let found = audited(&rt, rt.alloc(), &mut heap, &[last, second, third, first]);
-    assert!(rt; says(&found, 4, 4, 1111, &[second, third, first]), "{found:?}");
+    assert!(rt;
+        says(&found, 4, 4, 1111, &[second, third, first]),
+        "{found:?}"
+    );
 }
 
 #[test]
@@ -137,7 +140,12 @@ fn two_cycles_apart(rt: HostRuntime) {
     for hand in [a, b, c, d] {
         drop_hand(&rt, &mut heap, hand);
     }
-    let found = audited(&rt, rt.alloc(), &mut heap, &[alone.slot(), four, one, two, three]);
+    let found = audited(
+        &rt,
+        rt.alloc(),
+        &mut heap,
+        &[alone.slot(), four, one, two, three],
+    );
     assert!(rt; says(&found, 5, 4, 15, &[four, three]), "{found:?}");
     let other = audited(&rt, rt.alloc(), &mut heap, &[two, four, one, three]);
     assert!(rt; says(&other, 5, 4, 15, &[two, one]), "{other:?}");
