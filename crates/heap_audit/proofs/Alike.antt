@@ -1,5 +1,5 @@
 -- What is found among slots with one property, along one relation, is found among those that have another one alike.
-use Rattle.std.proofs.Common.{ℕ, zero, suc, List, [], ◌∷◌, inl, inr}
+use Rattle.std.proofs.Common.{◌≡◌, ℕ, zero, suc, List, [], ◌∷◌, sym, ap, ◌∙◌, inl, inr}
 use Rattle.plain_state.specs.declared.slot.SlotId.{SlotId}
 use Rattle.heap_audit.specs.Paths.{Path, LeadsTo}
 use Rattle.heap_audit.specs.Reached.{HowMany}
@@ -46,3 +46,15 @@ module _ (P Q : ℕ → Type 0) (to : (k : ℕ) → P k → Q k) (from : (k : �
         | inl one ↦ inl (one.0, to n one.1, many_alike n one.0 one.2, one.3)
         | inr other ↦ inr (λ q. other.0 (from n q), many_alike n many other.1)
       ]
+
+-- there is one such number
+pub many_once : (P : ℕ → Type 0) (n many more : ℕ) → HowMany P n many → HowMany P n more → many ≡ more
+many_once P zero many more h k = h ∙ sym k
+many_once P (suc n) many more h k =
+    elim h [
+      | inl one ↦ elim k [
+        | inl two ↦ one.3 ∙ (ap suc (many_once P n one.0 two.0 one.2 two.2) ∙ sym two.3)
+        | inr other ↦ absurd (other.0 one.1)
+      ]
+      | inr other ↦ elim k [ inl two ↦ absurd (other.0 two.1) | inr none ↦ many_once P n many more other.1 none.1 ]
+    ]

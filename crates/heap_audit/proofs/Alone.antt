@@ -2,13 +2,13 @@
 use Rattle.std.proofs.Common.{◌≡◌, ◌≢◌, ℕ, ◌-◌, ◌<◌, ◌≤◌, zero, suc, List, [], ◌∷◌, ◌++◌, length, get_or, reverse, All, Contains, arith, sym, ◌∙◌, ap, subst, refl, inl, inr, append_assoc, append-nil, length-append}
 use Rattle.std.specs.List.{AllPairs}
 use Rattle.std.proofs.lemmas.List.{get_or_at, get_or_append_left, length-reverse, get_or-reverse}
-use Rattle.std.proofs.lemmas.List.Elements.{All-contains, Contains-append_cases, Contains-append_left, Contains-append_right}
+use Rattle.std.proofs.lemmas.List.Elements.{All-cons, All-nil, All-tail, All-contains, Contains-append_cases, Contains-append_left, Contains-append_right}
 use Rattle.plain_state.specs.declared.slot.SlotId.{SlotId}
 use Rattle.plain_state.specs.declared.image.Heap.{Heap}
 use Rattle.heap_audit.specs.Paths.{Path}
 use Rattle.heap_audit.specs.Reached.{HasField, IsUnreached}
-use Rattle.heap_audit.specs.Walks.{rank_of, IsLeast, GoesTo, IsWalk, BeginsLeast, IsFound, HasDistinctRanks}
-use Rattle.heap_audit.proofs.Turning.{found_is_walk}
+use Rattle.heap_audit.specs.Walks.{rank_of, IsLeast, GoesTo, BeginsLeast, IsFound, IsFoundAmong, HasDistinctRanks}
+use Rattle.heap_audit.proofs.Turning.{All-reverse}
 
 abbrev Once : List SlotId → Type 0
 Once xs = AllPairs (λ (a b : SlotId). a ≢ b) xs
@@ -79,6 +79,10 @@ once_back : (front xs : List SlotId) → Once (front ++ xs) → Once xs
 once_back [] xs once = once
 once_back (x ∷ front) xs once = once_back front xs (once_tail x (front ++ xs) once)
 
+all_back : (P : SlotId → Type 0) (front xs : List SlotId) → All P (front ++ xs) → All P xs
+all_back P [] xs all = all
+all_back P (x ∷ front) xs all = all_back P front xs (All-tail P x (front ++ xs) all)
+
 once_reverse : (xs : List SlotId) → Once xs → Once (reverse xs)
 once_reverse xs once i j d l m e =
     let n = length xs in
@@ -87,13 +91,18 @@ once_reverse xs once i j d l m e =
     let at₂ : get_or (reverse xs) j d ≡ get_or xs (n - 1 - j) d = get_or-reverse xs j d within in
     once (n - 1 - j) (n - 1 - i) d (omega (arith, l, within)) (omega (arith, l, within)) (sym at₂ ∙ (sym e ∙ at))
 
-module _ (heap : Heap) (ranks : List ℕ) (distinct : HasDistinctRanks heap ranks) where
-  -- of the slots of the heap with a property one alone is of least rank
-  one_least : (P : SlotId → Type 0) → ((s : SlotId) → P s → s.0 < length heap.slots.items) → (s t : SlotId) → IsLeast ranks P s → IsLeast ranks P t → s ≡ t
-  one_least P within s t l m = distinct s t (within s l.0) (within t m.0) (omega (arith, l.1 t m.0, m.1 s l.0))
+module _ (P : SlotId → Type 0) (R : SlotId → SlotId → Type 0) (ranks : List ℕ) (distinct : (s t : SlotId) → P s → P t → rank_of ranks s ≡ rank_of ranks t → s ≡ t) where
+  -- of the slots with the property one alone is of least rank, also among some of them
+  one_least : (Q : SlotId → Type 0) → ((s : SlotId) → Q s → P s) → (s t : SlotId) → IsLeast ranks Q s → IsLeast ranks Q t → s ≡ t
+  one_least Q within s t l m = distinct s t (within s l.0) (within t m.0) (omega (arith, l.1 t m.0, m.1 s l.0))
 
-  one_step : (a b c : SlotId) → GoesTo (IsUnreached heap) (HasField heap) ranks a b → GoesTo (IsUnreached heap) (HasField heap) ranks a c → b ≡ c
-  one_step a b c = one_least (λ u. IsUnreached heap u × HasField heap u a) (λ s p. p.0.0.0) b c
+  one_step : (a b c : SlotId) → GoesTo P R ranks a b → GoesTo P R ranks a c → b ≡ c
+  one_step a b c = one_least (λ u. P u × R u a) (λ s p. p.0) b c
+
+  -- all that the search comes to has it
+  all_searched : (x : SlotId) (ys : List SlotId) (z : SlotId) → P x → Path (GoesTo P R ranks) x ys z → All P (x ∷ ys)
+  all_searched x [] z here path = All-cons P x [] here (All-nil P)
+  all_searched x (y ∷ ys) z here path = All-cons P x (y ∷ ys) here (all_searched y ys z path.0.0.0 path.1)
 
 -- where a walk is begun
 record Begun (ranks : List ℕ) (walk round : List SlotId) : Type 0 where
@@ -145,10 +154,11 @@ first_stands ranks walk round b = subst (λ (xs : List SlotId). Contains xs b.fi
     (length b.front, omega (arith, length-append b.front (b.first ∷ b.back)), get_or_at b.front b.first b.back b.first (length b.front) refl)
 
 -- two walks round one cycle, both begun with the slot of least rank
-one_turn : (heap : Heap) (ranks : List ℕ) (v w round : List SlotId) → HasDistinctRanks heap ranks → Once round
-    → (b : Begun ranks v round) (c : Begun ranks w round) → b.first.0 < length heap.slots.items → c.first.0 < length heap.slots.items → v ≡ w
-one_turn heap ranks v w round distinct once b c l m =
-    let same : b.first ≡ c.first = distinct b.first c.first l m
+one_turn : (P : SlotId → Type 0) (ranks : List ℕ) (v w round : List SlotId) → ((s t : SlotId) → P s → P t → rank_of ranks s ≡ rank_of ranks t → s ≡ t)
+    → Once round → All P round → (b : Begun ranks v round) (c : Begun ranks w round) → v ≡ w
+one_turn P ranks v w round distinct once all b c =
+    let same : b.first ≡ c.first = distinct b.first c.first
+    (All-contains P round b.first all (first_stands ranks v round b)) (All-contains P round c.first all (first_stands ranks w round c))
     (omega (arith, first_least ranks v round b c.first (first_stands ranks w round c), first_least ranks w round c b.first (first_stands ranks v round b))) in
     let whole : b.front ++ b.first ∷ b.back ≡ c.front ++ b.first ∷ c.back =
     sym b.round_is ∙ (c.round_is ∙ ap (λ (s : SlotId). c.front ++ s ∷ c.back) (sym same)) in
@@ -156,22 +166,19 @@ one_turn heap ranks v w round distinct once b c l m =
     b.walk_is ∙ (ap (λ (s : SlotId). s ∷ (b.back ++ b.front)) same
     ∙ (ap (λ (xs : List SlotId). c.first ∷ (xs ++ b.front)) cut.1 ∙ (ap (λ (xs : List SlotId). c.first ∷ (c.back ++ xs)) cut.0 ∙ sym c.walk_is)))
 
-came_in : (heap : Heap) (ranks : List ℕ) (walk : List SlotId) (f : IsFound heap ranks walk) → Contains (f.start ∷ f.rest) f.again
-came_in heap ranks walk f = subst (λ (xs : List SlotId). Contains xs f.again) (sym f.came)
+came_in : (P : SlotId → Type 0) (R : SlotId → SlotId → Type 0) (ranks : List ℕ) (walk : List SlotId) (f : IsFoundAmong P R ranks walk) → Contains (f.start ∷ f.rest) f.again
+came_in P R ranks walk f = subst (λ (xs : List SlotId). Contains xs f.again) (sym f.came)
     (length f.earlier, omega (arith, length-append f.earlier (f.again ∷ f.between)), get_or_at f.earlier f.again f.between f.again (length f.earlier) refl)
 
--- the first slot of a walk is there
-walk_there : (heap : Heap) (x : SlotId) (xs : List SlotId) → IsWalk heap (x ∷ xs) → x.0 < length heap.slots.items
-walk_there heap x [] w = w.0.0
-walk_there heap x (y ∷ xs) w = w.0.0.0
-
-pub one_walk : (heap : Heap) (ranks : List ℕ) (v w : List SlotId) → HasDistinctRanks heap ranks → IsFound heap ranks v → IsFound heap ranks w → v ≡ w
-one_walk heap ranks v w distinct f g =
-    let start : f.start ≡ g.start = one_least heap ranks distinct (IsUnreached heap) (λ s u. u.0.0) f.start g.start f.least g.least in
-    let goes : Path (GoesTo (IsUnreached heap) (HasField heap) ranks) f.start g.rest g.again = subst (λ (s : SlotId). Path (GoesTo (IsUnreached heap) (HasField heap) ranks) s g.rest g.again) (sym start) g.goes in
+-- where the slots with the property have different ranks, the search among them finds one walk alone
+pub one_walk_among : (P : SlotId → Type 0) (R : SlotId → SlotId → Type 0) (ranks : List ℕ) → ((s t : SlotId) → P s → P t → rank_of ranks s ≡ rank_of ranks t → s ≡ t)
+    → (v w : List SlotId) → IsFoundAmong P R ranks v → IsFoundAmong P R ranks w → v ≡ w
+one_walk_among P R ranks distinct v w f g =
+    let start : f.start ≡ g.start = one_least P R ranks distinct P (λ s u. u) f.start g.start f.least g.least in
+    let goes : Path (GoesTo P R ranks) f.start g.rest g.again = subst (λ (s : SlotId). Path (GoesTo P R ranks) s g.rest g.again) (sym start) g.goes in
     let whole : f.start ∷ g.rest ≡ g.start ∷ g.rest = ap (λ (s : SlotId). s ∷ g.rest) start in
-    let trail = one_trail (GoesTo (IsUnreached heap) (HasField heap) ranks) (one_step heap ranks distinct) [] f.start f.rest f.again g.rest g.again f.goes goes f.once
-    (subst Once (sym whole) g.once) (came_in heap ranks v f) (subst (λ (xs : List SlotId). Contains xs g.again) (sym whole) (came_in heap ranks w g)) in
+    let trail = one_trail (GoesTo P R ranks) (one_step P R ranks distinct) [] f.start f.rest f.again g.rest g.again f.goes goes f.once
+    (subst Once (sym whole) g.once) (came_in P R ranks v f) (subst (λ (xs : List SlotId). Contains xs g.again) (sym whole) (came_in P R ranks w g)) in
     let cut_here : f.earlier ++ f.again ∷ f.between ≡ g.earlier ++ f.again ∷ g.between =
     sym f.came ∙ (ap (λ (xs : List SlotId). f.start ∷ xs) trail.0 ∙ (whole ∙ (g.came ∙ ap (λ (s : SlotId). g.earlier ++ s ∷ g.between) (sym trail.1)))) in
     let once_f : Once (f.earlier ++ f.again ∷ f.between) = subst Once f.came f.once in
@@ -179,8 +186,12 @@ one_walk heap ranks v w distinct f g =
     let round : reverse (g.again ∷ g.between) ≡ reverse (f.again ∷ f.between) =
     ap reverse (ap (λ (s : SlotId). s ∷ g.between) (sym trail.1) ∙ ap (λ (xs : List SlotId). f.again ∷ xs) (sym cut.1)) in
     let once_r : Once (reverse (f.again ∷ f.between)) = once_reverse (f.again ∷ f.between) (once_back f.earlier (f.again ∷ f.between) once_f) in
+    let all : All P (reverse (f.again ∷ f.between)) =
+    All-reverse P (f.again ∷ f.between) (all_back P f.earlier (f.again ∷ f.between) (subst (All P) f.came (all_searched P R ranks distinct f.start f.rest f.again f.least.0 f.goes))) in
     let b = begun_at ranks v (reverse (f.again ∷ f.between)) f.turned.0 f.turned.1 f.turned.2 f.turned.3 f.begins in
     let c = begun_at ranks w (reverse (f.again ∷ f.between)) g.turned.0 g.turned.1 (sym round ∙ g.turned.2) g.turned.3 g.begins in
-    one_turn heap ranks v w (reverse (f.again ∷ f.between)) distinct once_r b c
-    (walk_there heap b.first (b.back ++ b.front) (subst (IsWalk heap) b.walk_is (found_is_walk heap ranks v f)))
-    (walk_there heap c.first (c.back ++ c.front) (subst (IsWalk heap) c.walk_is (found_is_walk heap ranks w g)))
+    one_turn P ranks v w (reverse (f.again ∷ f.between)) distinct once_r all b c
+
+pub one_walk : (heap : Heap) (ranks : List ℕ) (v w : List SlotId) → HasDistinctRanks heap ranks → IsFound heap ranks v → IsFound heap ranks w → v ≡ w
+one_walk heap ranks v w distinct f g =
+    one_walk_among (IsUnreached heap) (HasField heap) ranks (λ s t u x. distinct s t u.0.0 x.0.0) v w f g

@@ -28,7 +28,7 @@ found_is_walk heap ranks walk is =
     subst (IsWalk heap) (sym (reverse-append (is.again ∷ []) is.between)) (walk_turned heap (is.again ∷ []) (reverse is.between) forth) in
     subst (IsWalk heap) (sym is.turned.3) (walk_turned heap is.turned.0 is.turned.1 (subst (IsWalk heap) is.turned.2 whole))
 
-All-reverse : (P : SlotId → Type 0) (xs : List SlotId) → All P xs → All P (reverse xs)
+pub All-reverse : (P : SlotId → Type 0) (xs : List SlotId) → All P xs → All P (reverse xs)
 All-reverse P xs h k d l =
     let within : k < length xs = omega (arith, l, length-reverse xs) in
     subst P (sym (get_or-reverse xs k d within)) (h (length xs - 1 - k) d (omega arith))

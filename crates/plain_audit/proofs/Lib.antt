@@ -4,3 +4,4 @@ pub mod ImageNumbers
 pub mod ImageLaws
 pub mod Auditing
 pub mod Fieldless
+pub mod Once

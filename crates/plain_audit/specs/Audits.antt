@@ -1,13 +1,14 @@
 -- What an audit of a plain state finds.
 use Rattle.std.specs.Prelude.{ℕ, ◌≡◌, ◌<◌, List, [], length}
+use Rattle.plain_state.specs.declared.slot.SlotId.{SlotId}
 use Rattle.plain_state.specs.declared.slot.Stage.{Stage}
 use Rattle.plain_state.specs.declared.slot.Stage.TheVariants.{Free, Blank, Live, Ended, Husk}
-use Rattle.plain_state.specs.State.{Plain}
+use Rattle.plain_state.specs.State.{Plain, stage_at}
 use Rattle.plain_state.specs.References.{over_seats, over_slots}
 use Rattle.heap_audit.specs.declared.finding.Audit.{Audit}
 use Rattle.heap_audit.specs.Heaps.{slot}
 use Rattle.heap_audit.specs.Reached.{HowMany}
-use Rattle.heap_audit.specs.Walks.{IsFoundAmong, GoesRound}
+use Rattle.heap_audit.specs.Walks.{IsFoundAmong, GoesRound, rank_of}
 use Rattle.plain_audit.specs.Reached.{HasField, IsUnreached}
 
 -- n for a slot that holds an object, else 0
@@ -42,3 +43,16 @@ pub record IsAudit (weight : List ℕ → ℕ) (ranks : List ℕ) (p : Plain) (f
   pub walk : 0 < found.cyclic → IsFoundAmong (IsUnreached p) (HasField p) ranks found.walk.items
   -- so it goes round a cycle of strong fields
   pub round : 0 < found.cyclic → GoesRound (HasField p) found.walk.items
+
+-- no two Live slots have one rank
+abbrev pub HasDistinctRanks : Plain → List ℕ → Type 0
+HasDistinctRanks p ranks =
+    (s t : SlotId) → stage_at p s ≡ Live → stage_at p t ≡ Live → rank_of ranks s ≡ rank_of ranks t → s ≡ t
+
+-- two audits found the same
+pub record FindsSame (one other : Audit) : Type 0 where
+  pub live : one.live ≡ other.live
+  pub deferred : one.deferred ≡ other.deferred
+  pub cyclic : one.cyclic ≡ other.cyclic
+  pub bytes : one.bytes ≡ other.bytes
+  pub walk : one.walk.items ≡ other.walk.items

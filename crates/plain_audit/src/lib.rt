@@ -23,4 +23,4 @@ mod tests;
 
 pub use audits::audit_heap;
 pub use heap_audit::Audit;
-pub use laws::only_fields_make_cycles;
+pub use laws::{one_audit_is_found, only_fields_make_cycles};
