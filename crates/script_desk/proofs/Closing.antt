@@ -1,11 +1,8 @@
 -- A desk whose handles are given up, one after the other.
-use Rattle.std.proofs.Common.{◌≡◌, ◌≢◌, ◌⊎◌, ⊎_elim, ℕ, zero, suc, ◌+◌, ◌<◌, ◌≤◌, Bool, true, false, List, [], ◌∷◌, length, get_or, set, refl, ap, sym, ◌∙◌, subst, arith, Option, Some, None}
+use Rattle.std.proofs.Common.{◌≡◌, ℕ, ◌<◌, true, false, List, [], ◌∷◌, length, refl, ap, sym, ◌∙◌, subst, arith, None}
 use Rattle.std.specs.List.{sum_by}
-use Rattle.std.specs.Map.{values_of}
-use Rattle.std.specs.Prelude.{slice_set, slice_index_or}
 use Rattle.std.proofs.lemmas.List.{length-set, length-replicate, get_or-set_same, set-get_or, set-set}
 use Rattle.std.proofs.lemmas.List.Sums.{sum_by-cons}
-use Rattle.plain_state.specs.declared.slot.Kind.{Kind}
 use Rattle.plain_state.specs.declared.slot.Kind.TheVariants as kind
 use Rattle.plain_state.specs.declared.slot.SlotId.{SlotId}
 use Rattle.plain_state.specs.Lists.{Entry, times, entry_times}
@@ -15,9 +12,8 @@ use Rattle.plain_state.proofs.Kit.{held_self, times_none, times_cons, entry_none
 use Rattle.script_desk.specs.declared.handle.Handle.{Handle}
 use Rattle.script_desk.specs.declared.handle.Handle.TheVariants.{Strong, Weak, Snapshot}
 use Rattle.script_desk.specs.Desks.{Names, Maker, without_handles}
-use Rattle.script_desk.specs.Holding.{owned_by, weakly_owned_by, announced_by, HoldsFor, HasHandle, HasMore, Kept, giving}
+use Rattle.script_desk.specs.Holding.{owned_by, weakly_owned_by, announced_by, HoldsFor, HasHandle, Kept, giving}
 use Rattle.script_desk.proofs.Gaining.{gives_fewer}
-use Rattle.script_desk.proofs.Grows.{seat_written}
 
 -- p with the three lists of v for its seat's
 abbrev pub with_hands : Plain → PlainSeat → Plain

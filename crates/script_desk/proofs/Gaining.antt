@@ -1,15 +1,14 @@
 -- The steps that give the seat a handle, and those that take one away.
-use Rattle.std.proofs.Common.{◌≡◌, ◌≢◌, ◌⊎◌, ⊎_elim, ℕ, ◌+◌, ◌<◌, Bool, true, false, List, [], ◌∷◌, ◌++◌, length, refl, ap, sym, subst, ◌∙◌, arith, Option, Some, None}
+use Rattle.std.proofs.Common.{◌≡◌, ⊎_elim, ℕ, ◌+◌, ◌<◌, Bool, true, false, List, [], ◌∷◌, ◌++◌, length, refl, ap, sym, subst, ◌∙◌, arith, Some, None}
 use Rattle.plain_state.specs.declared.act.EventPlace.{EventPlace}
 use Rattle.plain_state.specs.declared.act.PlainAct.TheVariants as act
 use Rattle.plain_state.specs.declared.slot.Kind.{Kind}
 use Rattle.plain_state.specs.declared.slot.Kind.TheVariants as kind
 use Rattle.plain_state.specs.declared.slot.SlotId.{SlotId}
-use Rattle.plain_state.specs.Lists.{Entry, times, entry_times, Loses}
+use Rattle.plain_state.specs.Lists.{times, entry_times, Loses}
 use Rattle.plain_state.specs.Places.{place_kind, content}
-use Rattle.plain_state.specs.References.{held_in}
 use Rattle.plain_state.specs.Runs.{Runs}
-use Rattle.plain_state.specs.State.{Plain, PlainSeat, seat_at, slot_at, with_seat}
+use Rattle.plain_state.specs.State.{Plain, PlainSeat, seat_at, with_seat}
 use Rattle.plain_state.specs.Steps.{Does, GivesUp, Replaces, joined}
 use Rattle.plain_state.proofs.Kit.{times_push, times_loses, entry_push, entry_loses}
 use Rattle.plain_store.specs.Heaps.{Makes, fills}
@@ -20,7 +19,7 @@ use Rattle.script_desk.specs.declared.handle.Handle.{Handle}
 use Rattle.script_desk.specs.declared.handle.Handle.TheVariants.{Strong, Weak, Snapshot}
 use Rattle.script_desk.specs.Holding.{owned_by, weakly_owned_by, announced_by, SameSizes, HasMore, HasSame, giving}
 use Rattle.script_desk.proofs.Grows.{same_sizes, seat_written, written, placed, placed_same_sizes, has_lists}
-use Rattle.script_desk.proofs.Steps.{slot_written, slot_alone, same_then}
+use Rattle.script_desk.proofs.Steps.{slot_written, slot_alone}
 
 -- seat 0 is w, which has a handle more
 module _ (p q : Plain) (w : PlainSeat) (sizes : SameSizes p q) (is : seat_at q 0 ≡ w) where

@@ -1,5 +1,5 @@
 -- The three commands that give up what a name is bound to.
-use Rattle.std.proofs.Common.{◌≡◌, ◌⊎◌, ⊎_elim, ℕ, Bool, true, false, List, [], refl, sym, subst, Some}
+use Rattle.std.proofs.Common.{◌≡◌, ◌⊎◌, ⊎_elim, ℕ, true, List, [], refl, sym, subst, Some}
 use Rattle.plain_state.specs.Steps.{Does}
 use Rattle.script_lines.specs.declared.command.Command.{Command}
 use Rattle.script_lines.specs.declared.command.Command.TheVariants as command
@@ -12,7 +12,7 @@ use Rattle.script_desk.specs.Faults.{IsFaultless, needs}
 use Rattle.script_desk.specs.Handles.{is_strong, is_weak, is_snapshot, is_any}
 use Rattle.script_desk.specs.Holding.{giving}
 use Rattle.script_desk.specs.Places.{AreMet, IsBoundTo}
-use Rattle.script_desk.proofs.Needs.{any_of, first_any, first_met, kind_of, faultless_met}
+use Rattle.script_desk.proofs.Needs.{first_any, first_met, kind_of, faultless_met}
 
 -- a command gives up what this name is bound to
 abbrev pub GivesUp : Command → List ℕ → Type 0

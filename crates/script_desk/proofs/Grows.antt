@@ -1,22 +1,15 @@
 -- What each plain step does to what the seat has.
-use Rattle.std.proofs.Common.{◌≡◌, ◌≢◌, ◌⊎◌, ⊎_elim, ℕ, zero, suc, ◌+◌, ◌<◌, Bool, true, false, List, [], ◌∷◌, ◌++◌, length, refl, ap, sym, ◌∙◌, subst, arith, Option, Some, None}
-use Rattle.std.specs.Prelude.{slice_index_or, slice_set}
+use Rattle.std.proofs.Common.{◌≡◌, ◌<◌, List, length, refl, ap, ◌∙◌, Option}
+use Rattle.std.specs.Prelude.{slice_index_or}
 use Rattle.std.proofs.lemmas.List.{length-set, get_or-set_same}
 use Rattle.plain_state.specs.declared.act.EventPlace.{EventPlace}
 use Rattle.plain_state.specs.declared.act.EventPlace.TheVariants.{Cell, Field, WeakCell, WeakField}
-use Rattle.plain_state.specs.declared.act.PlainAct.{PlainAct}
-use Rattle.plain_state.specs.declared.act.PlainAct.TheVariants as act
-use Rattle.plain_state.specs.declared.slot.Kind.{Kind}
 use Rattle.plain_state.specs.declared.slot.Kind.TheVariants as kind
 use Rattle.plain_state.specs.declared.slot.SlotId.{SlotId}
-use Rattle.plain_state.specs.Lists.{Entry, times, entry_times, Loses}
-use Rattle.plain_state.specs.Places.{place_kind, content, with_content}
+use Rattle.plain_state.specs.Lists.{times, entry_times}
+use Rattle.plain_state.specs.Places.{with_content}
 use Rattle.plain_state.specs.State.{Plain, PlainSeat, new_seat, seat_at, with_seat}
-use Rattle.plain_state.specs.Steps.{Does}
-use Rattle.plain_state.proofs.Kit.{times_push, times_loses, entry_push, entry_loses}
-use Rattle.script_desk.specs.declared.handle.Handle.{Handle}
-use Rattle.script_desk.specs.declared.handle.Handle.TheVariants.{Strong, Weak, Snapshot}
-use Rattle.script_desk.specs.Holding.{owned_by, weakly_owned_by, announced_by, SameSizes, HasMore, HasSame, giving}
+use Rattle.script_desk.specs.Holding.{SameSizes, HasSame}
 
 -- seat 0 after a write
 pub seat_written : (p : Plain) (w : PlainSeat) → 0 < length p.seats → seat_at (with_seat p 0 w) 0 ≡ w

@@ -1,5 +1,5 @@
 -- What it means that names are bound to what they must be.
-use Rattle.std.proofs.Common.{◌≡◌, ◌≢◌, ◌⊎◌, inl, inr, ⊎_elim, ℕ, ◌+◌, ◌<◌, Bool, true, false, List, [], ◌∷◌, ◌++◌, refl, ap, sym, ◌∙◌, subst, arith, Option, Some, None, IsSomeAnd, All}
+use Rattle.std.proofs.Common.{◌≡◌, inl, ℕ, Bool, true, false, List, [], ◌∷◌, ◌++◌, refl, sym, ◌∙◌, subst, arith, Option, Some, None, IsSomeAnd}
 use Rattle.std.proofs.lemmas.List.Elements.{All-nil, All-head, All-tail, All-cons}
 use Rattle.std.specs.List.{Any}
 use Rattle.plain_state.specs.declared.slot.SlotId.{SlotId}
@@ -11,7 +11,7 @@ use Rattle.script_desk.specs.declared.handle.Handle.{Handle}
 use Rattle.script_desk.specs.declared.handle.Handle.TheVariants.{Strong, Weak, Snapshot}
 use Rattle.script_desk.specs.Desks.{Desk, bound}
 use Rattle.script_desk.specs.Faults.{Need, needs, IsMissing, IsOther, IsFaultless}
-use Rattle.script_desk.specs.Handles.{slot_of, is_strong, is_weak, is_snapshot, is_firm, is_any}
+use Rattle.script_desk.specs.Handles.{slot_of, is_firm, is_any}
 use Rattle.script_desk.specs.Holding.{HasHandle}
 use Rattle.script_desk.specs.Places.{AreMet, IsBoundTo}
 

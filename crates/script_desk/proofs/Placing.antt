@@ -1,9 +1,8 @@
 -- A handle that is put into a place of its kind.
-use Rattle.std.proofs.Common.{[], MatchOption, ◌≡◌, ◌≢◌, ◌⊎◌, ⊎_elim, ℕ, ◌<◌, Bool, true, false, List, length, refl, ap, sym, ◌∙◌, subst, arith, Option, Some, None, IfSome}
+use Rattle.std.proofs.Common.{[], MatchOption, ◌≡◌, ⊎_elim, ℕ, ◌<◌, Bool, true, List, length, refl, ap, sym, ◌∙◌, subst, Option, Some, None, IfSome}
 use Rattle.std.specs.Map.{values_of}
 use Rattle.std.specs.Option.{option_and_then}
 use Rattle.plain_state.specs.declared.act.EventPlace.{EventPlace}
-use Rattle.plain_state.specs.declared.slot.Kind.{Kind}
 use Rattle.plain_state.specs.declared.slot.Kind.TheVariants as kind
 use Rattle.plain_state.specs.declared.slot.SlotId.{SlotId}
 use Rattle.plain_state.specs.Places.{place_kind}
@@ -27,7 +26,7 @@ use Rattle.script_lines.specs.declared.command.TextPlace.{TextPlace}
 use Rattle.script_lines.specs.declared.command.TextPlace.TheVariants as text
 use Rattle.script_desk.proofs.Naming.{desk_of, has_there}
 use Rattle.script_desk.proofs.Needs.{bound_so, first_met, kind_of}
-use Rattle.script_desk.proofs.Gaining.{handle_of, is_strong_kind, replaces_fewer, replaces_same}
+use Rattle.script_desk.proofs.Gaining.{is_strong_kind, replaces_fewer, replaces_same}
 use Rattle.script_desk.proofs.Sums.{kept_fewer, kept_same}
 
 -- what a place of the heap takes

@@ -1,11 +1,10 @@
 -- The ranks of the slots, and the names of the makes that made them.
-use Rattle.std.proofs.Common.{◌≡◌, ℕ, ◌+◌, ◌<◌, ◌≤◌, List, [], ◌∷◌, ◌++◌, length, get_or, take, map, refl, ap, sym, ◌∙◌, subst, arith, All, string_bytes}
-use Rattle.std.specs.Prelude.{slice_index, slice_index_or}
+use Rattle.std.proofs.Common.{◌≡◌, ℕ, ◌+◌, ◌<◌, ◌≤◌, List, [], ◌∷◌, ◌++◌, length, get_or, take, map, ap, sym, ◌∙◌, subst, arith}
+use Rattle.std.specs.Prelude.{slice_index}
 use Rattle.std.proofs.lemmas.List.{take_more, take_all, map-append, length-map, get_or-map}
-use Rattle.plain_state.specs.declared.slot.SlotId.{SlotId}
 use Rattle.plain_state.specs.State.{Plain}
 use Rattle.script_desk.specs.Audits.{AreRanks}
-use Rattle.script_desk.specs.Desks.{Desk, Names, Maker, nobody, maker_of}
+use Rattle.script_desk.specs.Desks.{Desk, Names, Maker, nobody}
 use Rattle.script_desk.specs.Holding.{Kept}
 use Rattle.script_desk.proofs.Naming.{desk_of}
 

@@ -1,17 +1,16 @@
 -- A heap that settles leaves what the seat has.
-use Rattle.std.proofs.Common.{◌≡◌, ℕ, ◌+◌, ◌<◌, List, [], ◌∷◌, ◌++◌, length, refl, ap, sym, subst, ◌∙◌, arith, Option, Some, None}
+use Rattle.std.proofs.Common.{◌≡◌, ℕ, ◌<◌, List, [], ◌∷◌, ◌++◌, length, refl, ap, sym, subst, ◌∙◌, None}
 use Rattle.std.proofs.lemmas.List.{length-set}
-use Rattle.std.specs.Prelude.{slice_set}
 use Rattle.plain_state.specs.declared.act.EventPlace.{EventPlace}
 use Rattle.plain_state.specs.declared.act.PlainAct.{PlainAct}
 use Rattle.plain_state.specs.declared.act.PlainAct.TheVariants as act
 use Rattle.plain_state.specs.declared.slot.SlotId.{SlotId}
 use Rattle.plain_state.specs.declared.slot.PlainSlot.{PlainSlot}
-use Rattle.plain_state.specs.State.{Plain, PlainSeat, seat_at, slot_at, with_seat, with_slot}
+use Rattle.plain_state.specs.State.{Plain, PlainSeat, seat_at, with_seat, with_slot}
 use Rattle.plain_state.specs.Places.{place_kind, content}
 use Rattle.plain_state.specs.Steps.{Does, joined}
 use Rattle.plain_store.specs.Settling.{Settles, SettlesBy, SettlesTo}
-use Rattle.script_desk.specs.Holding.{SameSizes, HasSame}
+use Rattle.script_desk.specs.Holding.{HasSame}
 use Rattle.script_desk.proofs.Grows.{has_lists, same_by, seat_written, placed, placed_same_sizes}
 
 pub same_refl : (p : Plain) → HasSame p p

@@ -1,18 +1,15 @@
 -- What the seat has for the handles of its names.
-use Rattle.std.proofs.Common.{◌≡◌, ◌≢◌, ℕ, ◌+◌, ◌<◌, ◌≤◌, Bool, true, false, cond, List, [], ◌∷◌, refl, ap, sym, ◌∙◌, arith, Option, Some, None}
+use Rattle.std.proofs.Common.{◌≡◌, ℕ, ◌≤◌, Bool, true, false, List, [], ◌∷◌, refl, ap, sym, ◌∙◌, arith, Some}
 use Rattle.std.specs.List.{sum_by}
-use Rattle.std.specs.Map.{lookup, values_of}
+use Rattle.std.specs.Map.{values_of}
 use Rattle.std.specs.Str.{bytes_eq}
 use Rattle.std.proofs.lemmas.List.Sums.{sum_by-cons}
-use Rattle.plain_state.specs.declared.slot.Kind.TheVariants as kind
-use Rattle.plain_state.specs.declared.slot.SlotId.{SlotId}
-use Rattle.plain_state.specs.Lists.{times, entry_times}
-use Rattle.plain_state.specs.State.{Plain, seat_at}
+use Rattle.plain_state.specs.State.{Plain}
 use Rattle.plain_state.proofs.Kit.{held_self}
 use Rattle.script_desk.specs.declared.handle.Handle.{Handle}
 use Rattle.script_desk.specs.declared.handle.Handle.TheVariants.{Strong, Weak, Snapshot}
 use Rattle.script_desk.specs.Desks.{Names, Maker, bound}
-use Rattle.script_desk.specs.Holding.{owned_by, weakly_owned_by, announced_by, HoldsFor, HasHandle, SameSizes, HasMore, HasSame, CountsMore, Kept}
+use Rattle.script_desk.specs.Holding.{owned_by, weakly_owned_by, announced_by, HoldsFor, HasHandle, HasMore, HasSame, CountsMore, Kept}
 
 -- what a handle that is bound counts for is in the sum
 at_most : (f : Handle → ℕ) (names : Names) (name : List ℕ) (h : Handle) → bound names name ≡ Some h → f h ≤ sum_by f (values_of names)

@@ -1,5 +1,5 @@
 -- A map of names as the list of them: what is looked up, and what the handles count for.
-use Rattle.std.proofs.Common.{◌≡◌, ◌≢◌, ℕ, ◌+◌, Bool, true, false, cond, List, [], ◌∷◌, refl, ap, sym, ◌∙◌, arith, Option, Some, None}
+use Rattle.std.proofs.Common.{◌≡◌, ℕ, Bool, cond, List, [], ◌∷◌, refl, ap, sym, ◌∙◌, arith, Option, Some, None}
 use Rattle.std.specs.BTreeMap.{BTreeMap, IsOrdered, UpdatesBy, get_by_text, insert_entry, is_at}
 use Rattle.std.specs.Option.{unwrap_or, option_map, IfSome}
 use Rattle.std.specs.Global.{Global}

@@ -1,4 +1,4 @@
-use Rattle.std.proofs.Common.{◌≡◌, ◌+◌, ◌≤◌, All, length, vec_capacity}
+use Rattle.std.proofs.Common.{◌≡◌, ◌≤◌, All, length, vec_capacity}
 use Rattle.script_desk.specs.Desks.{Maker, nobody}
 use Rattle.script_desk.proofs.opening.no_makers.Given as goal
 

@@ -1,4 +1,4 @@
-use Rattle.std.proofs.Common.{◌≡◌, [], ◌∷◌, ◌++◌}
+use Rattle.std.proofs.Common.{[], ◌∷◌, ◌++◌}
 use Rattle.script_desk.specs.Faults.{need_of, place_needs, taken_by}
 use Rattle.script_desk.specs.Handles.{is_strong, is_weak, is_snapshot, is_firm, is_any}
 use Rattle.script_desk.proofs.Needs.{first_met, met_left, met_right, faultless_met}

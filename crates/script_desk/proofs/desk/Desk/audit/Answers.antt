@@ -1,4 +1,4 @@
-use Rattle.std.proofs.Common.{◌≡◌, ◌∙◌, refl, ap, List, map}
+use Rattle.std.proofs.Common.{◌∙◌, refl, ap, List, map}
 use Rattle.plain_state.specs.declared.slot.SlotId.{SlotId}
 use Rattle.script_desk.specs.Desks.{maker_of}
 use Rattle.script_desk.proofs.Auditing.{walk_of_desk, audit_told}

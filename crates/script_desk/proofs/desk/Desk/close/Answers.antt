@@ -1,4 +1,4 @@
-use Rattle.std.proofs.Common.{◌≡◌, List, subst}
+use Rattle.std.proofs.Common.{subst}
 use Rattle.std.specs.Map.{values_of}
 use Rattle.script_desk.specs.Desks.{Names}
 use Rattle.script_desk.specs.Holding.{HoldsFor}

@@ -1,6 +1,3 @@
-use Rattle.std.proofs.Common.{◌≡◌, subst, sym}
-use Rattle.plain_state.specs.declared.slot.SlotId.{SlotId}
-use Rattle.plain_store.specs.Heaps.{OwnsWeakly}
 use Rattle.script_desk.specs.declared.handle.Handle.TheVariants.{Weak}
 use Rattle.script_desk.proofs.Sums.{has_more}
 use Rattle.script_desk.proofs.Gaining.{weakly_gains_more}

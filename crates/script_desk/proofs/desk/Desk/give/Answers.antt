@@ -1,4 +1,4 @@
-use Rattle.std.proofs.Common.{◌≡◌, ◌∙◌, sym}
+use Rattle.std.proofs.Common.{◌∙◌, sym}
 use Rattle.script_desk.proofs.Sums.{has_bound, kept_fewer}
 use Rattle.script_desk.proofs.Gaining.{gives_fewer}
 use Rattle.script_desk.proofs.desk.Desk.give.Goals as goal

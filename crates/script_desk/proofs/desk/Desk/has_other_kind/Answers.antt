@@ -1,4 +1,4 @@
-use Rattle.std.proofs.Common.{◌≡◌, ◌↔◌, subst, Bool, List, [], ◌∷◌, ◌++◌, IsTrue}
+use Rattle.std.proofs.Common.{◌↔◌, subst, Bool, [], ◌∷◌, ◌++◌, IsTrue}
 use Rattle.script_desk.specs.declared.handle.Handle.{Handle}
 use Rattle.script_desk.specs.Faults.{Need, IsOther, need_of, place_needs, taken_by}
 use Rattle.script_desk.specs.Handles.{is_firm, is_strong}

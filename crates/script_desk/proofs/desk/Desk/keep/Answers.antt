@@ -1,4 +1,3 @@
-use Rattle.std.proofs.Common.{◌≡◌}
 use Rattle.script_desk.specs.declared.handle.Handle.TheVariants.{Strong}
 use Rattle.script_desk.proofs.Sums.{has_more}
 use Rattle.script_desk.proofs.Gaining.{gains_more}

@@ -1,4 +1,3 @@
-use Rattle.std.proofs.Common.{◌≡◌}
 use Rattle.script_desk.specs.Faults.{IsMissing}
 use Rattle.script_desk.proofs.Anys.{tests_one}
 use Rattle.script_desk.proofs.desk.Desk.lacks.Goals as goal

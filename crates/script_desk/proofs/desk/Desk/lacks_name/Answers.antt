@@ -1,5 +1,4 @@
-use Rattle.std.proofs.Common.{◌≡◌, ⊎_elim, ◌↔◌, Bool, [], ◌∷◌, ◌++◌, IsTrue}
-use Rattle.std.specs.List.{Any}
+use Rattle.std.proofs.Common.{⊎_elim, Bool, [], ◌∷◌, ◌++◌}
 use Rattle.script_desk.specs.declared.handle.Handle.{Handle}
 use Rattle.script_desk.specs.Faults.{IsMissing, need_of, place_needs, taken_by}
 use Rattle.script_desk.specs.Handles.{is_strong, is_weak, is_snapshot, is_firm, is_any}

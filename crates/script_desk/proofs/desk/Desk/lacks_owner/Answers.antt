@@ -1,4 +1,4 @@
-use Rattle.std.proofs.Common.{◌≡◌, ⊎_elim}
+use Rattle.std.proofs.Common.{⊎_elim}
 use Rattle.script_desk.specs.Faults.{IsMissing}
 use Rattle.script_desk.specs.Handles.{is_firm}
 use Rattle.script_desk.proofs.Anys.{tests_one}

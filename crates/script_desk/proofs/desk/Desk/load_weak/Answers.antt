@@ -1,4 +1,3 @@
-use Rattle.std.proofs.Common.{◌≡◌}
 use Rattle.plain_store.specs.Calls.{weak_place}
 use Rattle.script_desk.proofs.Told.{weakly_loads_told}
 use Rattle.script_desk.specs.declared.handle.Handle.TheVariants.{Weak}

@@ -1,4 +1,4 @@
-use Rattle.std.proofs.Common.{◌≡◌, ◌∙◌, ap, ℕ, List}
+use Rattle.std.proofs.Common.{◌∙◌, ap, ℕ, List}
 use Rattle.script_desk.specs.declared.handle.Handle.TheVariants.{Strong}
 use Rattle.script_desk.proofs.Sums.{has_more}
 use Rattle.script_desk.proofs.Gaining.{makes_more}

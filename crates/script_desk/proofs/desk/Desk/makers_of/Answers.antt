@@ -1,7 +1,7 @@
-use Rattle.std.proofs.Common.{◌≡◌, ◌∙◌, refl, ap, ℕ, List, map, get_or, string_bytes, rules}
+use Rattle.std.proofs.Common.{◌∙◌, refl, ap, map, string_bytes, rules}
 use Rattle.std.proofs.lemmas.List.{map_push}
 use Rattle.plain_state.specs.declared.slot.SlotId.{SlotId}
-use Rattle.script_desk.specs.Desks.{Maker, maker_of}
+use Rattle.script_desk.specs.Desks.{maker_of}
 use Rattle.script_desk.proofs.Ranking.{mapped_more, mapped_all}
 use Rattle.script_desk.proofs.desk.Desk.makers_of.Goals as goal
 

@@ -1,4 +1,4 @@
-use Rattle.std.proofs.Common.{◌≡◌, ◌∙◌, ap, ℕ, List, map, take, rules}
+use Rattle.std.proofs.Common.{◌∙◌, ap, List, map, rules}
 use Rattle.script_desk.specs.Desks.{Maker}
 use Rattle.script_desk.proofs.Ranking.{number_of, mapped_more, mapped_all, are_ranks}
 use Rattle.script_desk.proofs.desk.Desk.ranks.Goals as goal

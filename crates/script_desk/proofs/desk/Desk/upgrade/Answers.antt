@@ -1,7 +1,4 @@
-use Rattle.std.proofs.Common.{◌≡◌, subst, sym}
-use Rattle.plain_state.specs.declared.slot.SlotId.{SlotId}
-use Rattle.plain_store.specs.Heaps.{OwnsWeakly}
-use Rattle.script_desk.specs.declared.handle.Handle.TheVariants.{Strong, Weak}
+use Rattle.script_desk.specs.declared.handle.Handle.TheVariants.{Strong}
 use Rattle.script_desk.proofs.Sums.{has_more}
 use Rattle.script_desk.proofs.Gaining.{gains_more}
 use Rattle.script_desk.proofs.Naming.{kept_bound, kept_undone}

@@ -1,4 +1,4 @@
-use Rattle.std.proofs.Common.{◌≡◌, ◌∙◌, Some, string_bytes}
+use Rattle.std.proofs.Common.{◌∙◌, Some, string_bytes}
 use Rattle.script_desk.proofs.Tables.{bound-get, binds_after, counts_inserted}
 use Rattle.script_desk.proofs.names.NameTable.bind.Goals as goal
 use Rattle.script_desk.proofs.names.NameTable.bind.Goals.{in-Ok-insert, in-Err}

@@ -1,6 +1,4 @@
-use Rattle.std.proofs.Common.{◌≡◌, ◌∙◌, ap, List, ℕ}
-use Rattle.script_desk.specs.Desks.{bound}
-use Rattle.script_desk.specs.Tables.{names_of}
+use Rattle.std.proofs.Common.{◌∙◌}
 use Rattle.script_desk.proofs.Tables.{bound-get}
 use Rattle.script_desk.proofs.names.NameTable.get.Goals as goal
 

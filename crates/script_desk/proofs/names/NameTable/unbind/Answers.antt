@@ -1,6 +1,4 @@
-use Rattle.std.proofs.Common.{None, ◌≡◌, ◌∙◌, ap, List, ℕ}
-use Rattle.script_desk.specs.Desks.{bound}
-use Rattle.script_desk.specs.Tables.{names_of}
+use Rattle.std.proofs.Common.{None, ◌∙◌}
 use Rattle.script_desk.proofs.Tables.{bound-get, binds_after, counts_removed}
 use Rattle.script_desk.proofs.names.NameTable.unbind.Goals as goal
 
