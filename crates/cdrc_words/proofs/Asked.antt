@@ -1,7 +1,7 @@
 -- The words of a command line name one task and one file.
 use Rattle.std.proofs.Common.{ℕ, ◌≡◌, ◌<◌, ◌≤◌, subst, ap, List, [], ◌∷◌, codes, get_or, length, map, inl, inr, refl, arith}
 use Rattle.cdrc_words.specs.declared.command.Task.{Task}
-use Rattle.cdrc_words.specs.declared.command.Task.TheVariants.{Words, Steps}
+use Rattle.cdrc_words.specs.declared.command.Task.TheVariants.{Words, Script, Steps}
 use Rattle.cdrc_words.specs.Commands.{Asks, IsOneFile, IsOperand}
 
 -- a list of two, from its items
@@ -35,15 +35,28 @@ abbrev letter : ℕ → List (List ℕ) → ℕ
 letter i [] = 0
 letter i (word ∷ words) = get_or word i 0
 
-words_or_steps : (n : ℕ) → n ≡ 119 → n ≡ 115 → ⊥
-words_or_steps n words steps = omega arith
+words_or_script : (n : ℕ) → n ≡ 119 → n ≡ 115 → ⊥
+words_or_script n words script = omega arith
+
+script_or_steps : (n : ℕ) → n ≡ 99 → n ≡ 116 → ⊥
+script_or_steps n script steps = omega arith
 
 pub one_asked : (line : List (List ℕ)) (t u : Task) (f g : List ℕ) → Asks line t f → Asks line u g →
     (t ≡ u) × (f ≡ g)
 one_asked line Words Words f g (a, p) (b, q) = (refl, cc (a, b))
+one_asked line Words Script f g (a, p) (rest, b, q) =
+    absurd (words_or_script (letter 0 line) (ap (letter 0) a) (ap (letter 0) b))
 one_asked line Words Steps f g (a, p) (rest, b, q) =
-    absurd (words_or_steps (letter 0 line) (ap (letter 0) a) (ap (letter 0) b))
+    absurd (words_or_script (letter 0 line) (ap (letter 0) a) (ap (letter 0) b))
+one_asked line Script Words f g (rest, a, p) (b, q) =
+    absurd (words_or_script (letter 0 line) (ap (letter 0) b) (ap (letter 0) a))
+one_asked line Script Script f g (rest, a, p) (more, b, q) =
+    (refl, one_file rest f g p (subst (λ (words : List (List ℕ)). IsOneFile words g) (cc (a, b)) q))
+one_asked line Script Steps f g (rest, a, p) (more, b, q) =
+    absurd (script_or_steps (letter 1 line) (ap (letter 1) a) (ap (letter 1) b))
 one_asked line Steps Words f g (rest, a, p) (b, q) =
-    absurd (words_or_steps (letter 0 line) (ap (letter 0) b) (ap (letter 0) a))
+    absurd (words_or_script (letter 0 line) (ap (letter 0) b) (ap (letter 0) a))
+one_asked line Steps Script f g (rest, a, p) (more, b, q) =
+    absurd (script_or_steps (letter 1 line) (ap (letter 1) b) (ap (letter 1) a))
 one_asked line Steps Steps f g (rest, a, p) (more, b, q) =
     (refl, one_file rest f g p (subst (λ (words : List (List ℕ)). IsOneFile words g) (cc (a, b)) q))

@@ -1,7 +1,7 @@
 -- The command lines that are understood.
 use Rattle.std.specs.Prelude.{ℕ, ◌≡◌, ◌≢◌, ◌<◌, ◌⊎◌, List, [], ◌∷◌, length, slice_index, codes}
 use Rattle.cdrc_words.specs.declared.command.Task.{Task}
-use Rattle.cdrc_words.specs.declared.command.Task.TheVariants.{Words, Steps}
+use Rattle.cdrc_words.specs.declared.command.Task.TheVariants.{Words, Script, Steps}
 
 -- a word that is no option: shorter than two bytes, or not begun by `-`
 abbrev pub IsOperand : List ℕ → Type 0
@@ -13,9 +13,10 @@ IsOneFile words file =
     ((words ≡ file ∷ []) × IsOperand file)
     ⊎ ((words ≡ codes "--" ∷ file ∷ []) ⊎ ((words ≡ file ∷ codes "--" ∷ []) × IsOperand file))
 
--- the words ask for this work on this file: `words FILE`, where `--` is no word, or `steps FILE`
+-- the words ask for this work on this file: `words FILE`, where `--` is no word, `script FILE`, or `steps FILE`
 abbrev pub Asks : List (List ℕ) → Task → List ℕ → Type 0
 Asks line Words file = (line ≡ codes "words" ∷ file ∷ []) × IsOperand file
+Asks line Script file = (rest : List (List ℕ)) × (line ≡ codes "script" ∷ rest) × IsOneFile rest file
 Asks line Steps file = (rest : List (List ℕ)) × (line ≡ codes "steps" ∷ rest) × IsOneFile rest file
 
 -- the words are understood

@@ -4,19 +4,22 @@ use Rattle.std.specs.Io.KnownBytes.{append_known}
 use Rattle.std.specs.declared.option.Option.{Option}
 use Rattle.cdrc_text.specs.Pieces.{pieces_of}
 use Rattle.cdrc_text.specs.Text.{IsText}
+use Rattle.cdrc_scripts.specs.Meaning.{IsScript}
 use Rattle.cdrc_steps.specs.Meaning.{IsSteps}
 use Rattle.lane_gate.specs.Causes.{Rose}
 use Rattle.cdrc_words.specs.declared.command.Task.{Task}
-use Rattle.cdrc_words.specs.declared.command.Task.TheVariants.{Words, Steps}
+use Rattle.cdrc_words.specs.declared.command.Task.TheVariants.{Words, Script, Steps}
 
 -- the content is within the limits of the task: at most 67,108,864 bytes, and 1,000,000 pieces to be counted
 abbrev pub IsWithinLimits : Task → List ℕ → Type 0
 IsWithinLimits Words content = (length content ≤ 67108864) × (length (pieces_of content) ≤ 1000000)
+IsWithinLimits Script content = length content ≤ 67108864
 IsWithinLimits Steps content = length content ≤ 67108864
 
 -- it passes one of them
 abbrev pub PassesLimit : Task → List ℕ → Type 0
 PassesLimit Words content = (67108864 < length content) ⊎ (1000000 < length (pieces_of content))
+PassesLimit Script content = 67108864 < length content
 PassesLimit Steps content = 67108864 < length content
 
 -- the content that a run went by: the one that the source tells, where it tells it
@@ -24,9 +27,10 @@ abbrev pub IsContent : Option (List ℕ) → List ℕ → Type 0
 IsContent told content = IfSome told (λ known. content ≡ known)
 
 -- the output of a task on a content, and whether a line of it is refused: the text of one file, counted once; what a
--- list of steps writes
+-- script writes; what a list of steps writes
 abbrev pub IsOutput : Task → List ℕ → List ℕ → Bool → Type 0
 IsOutput Words content bytes refused = IsText (content ∷ []) 1 bytes × (refused ≡ false)
+IsOutput Script content bytes refused = IsScript content bytes refused
 IsOutput Steps content bytes refused = IsSteps content bytes refused
 
 -- the output on the content that the run went by, which is within the limits

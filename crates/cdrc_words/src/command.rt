@@ -7,6 +7,8 @@ ghost use Rattle.cdrc_words.specs.Commands.{Asks, IsCommand, IsOneFile, IsOperan
 pub enum Task {
     /// Count its words.
     Words,
+    /// Run its pointer commands.
+    Script,
     /// Check its atomic steps.
     Steps,
 }
@@ -45,6 +47,7 @@ pub fn asked(words: &[String]) -> Option<(Task, &str)>
             [file] if is_operand(file.as_str()) => Some((Task::Words, file.as_str())),
             _ => None,
         },
+        "script" => Some((Task::Script, one_file(rest)?)),
         "steps" => Some((Task::Steps, one_file(rest)?)),
         _ => None,
     }

@@ -1,5 +1,5 @@
 //! `cdrc_words` counts the words of a file, with an audit of the heap of its records before and after all handles are
-//! dropped; and checks a list of atomic steps.
+//! dropped; runs a script of pointer commands; and checks a list of atomic steps.
 //!
 //! The work is `run`, a call over any source, sink and gate, which answers a status. Its contract says that with status
 //! 0 or 8 the bytes taken are the output that the file's content means, and of every other status but want of memory
@@ -8,6 +8,7 @@
 //!
 //! ```text
 //! cdrc_words words FILE
+//! cdrc_words script FILE
 //! cdrc_words steps FILE
 //! ```
 #![tactic(auto)]

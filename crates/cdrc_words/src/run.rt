@@ -17,12 +17,12 @@ use std::alloc::Global;
 use std::sync::Wait;
 use std::thread::Threads;
 
-/// Does what the words say: reads the file by its name, counts its words or checks its steps, and offers the output to
-/// the sink.
+/// Does what the words say: reads the file by its name, counts its words, runs its script or checks its steps, and
+/// offers the output to the sink.
 ///
 /// The status is 0 where the work was done; 2 exactly where the words aren't understood; 3 only where the source's
 /// count of faults rose in this call; 4 only where the sink's did; 5 exactly where the content passes a limit, which is
-/// 67,108,864 bytes, or 1,000,000 pieces to be counted; 8 where a line of steps is refused, which the
+/// 67,108,864 bytes, or 1,000,000 pieces to be counted; 8 where a line of a script or of steps is refused, which the
 /// output's last line tells; 9 where there was no memory, which may come in place of any but 2. Over a source that
 /// doesn't tell the content, what is said of it is said of some content.
 ///

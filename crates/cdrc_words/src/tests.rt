@@ -68,12 +68,17 @@ fn words_that_are_not_understood(rt: HostRuntime) -> Result<(), Fail> {
         "words --slots= f",
         "words f --",
         "gen 1 2",
+        "script",
+        "script f g",
+        "script --",
+        "script -x",
+        "script --lanes=2 f",
+        "script -x --",
+        "script -- f g",
+        "scripts f",
         "steps",
         "steps f g",
         "steps -- -- f",
-        "steps --",
-        "steps -x --",
-        "script f",
         "steps --batch f",
     ] {
         let status = status_of(&rt, rt.alloc(), line, &mut files, &mut sink)?;
@@ -98,11 +103,13 @@ fn operands_are_names(rt: HostRuntime) -> Result<(), Fail> {
 #[test]
 fn dashes_end_the_options(rt: HostRuntime) -> Result<(), Fail> {
     for line in [
+        "script f",
+        "script -",
+        "script -- -x",
+        "script -- --",
+        "script f --",
         "steps f",
-        "steps -",
-        "steps -- -x",
-        "steps -- --",
-        "steps f --",
+        "steps -- f",
         "steps - --",
     ] {
         let mut files = HonestFiles::new(Vec::new(rt.alloc()));
@@ -115,8 +122,15 @@ fn dashes_end_the_options(rt: HostRuntime) -> Result<(), Fail> {
 }
 
 #[test]
-fn lists_of_steps(rt: HostRuntime) -> Result<(), Fail> {
+fn scripts_and_steps(rt: HostRuntime) -> Result<(), Fail> {
     for (line, content, status, output) in [
+        ("script f", "heap 1 0 0\nmake a 1\n", 0, "make a ok\n"),
+        (
+            "script f",
+            "heap 1 0 0\nmake a 1\ndrop z",
+            8,
+            "make a ok\nline 3 refused: name\n",
+        ),
         (
             "steps f",
             "shape 1 1 0 0 4\n0 claim 0\n0 start",

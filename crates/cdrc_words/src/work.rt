@@ -6,6 +6,7 @@ ghost use Rattle.cdrc_words.specs.declared.outcome.Refusal.TheVariants as refusa
 use crate::command::Task;
 use crate::outcome::Refusal;
 use crate::report::report_text;
+use cdrc_scripts::script;
 use cdrc_steps::steps;
 use lane_gate::Gate;
 use line_machine::Written;
@@ -35,6 +36,7 @@ pub fn output_of<R: Wait, G: Gate>(
                 refused: false,
             })
         }
+        Task::Script => Ok(script(alloc, content)?),
         Task::Steps => Ok(steps(alloc, content)?),
     }
 }

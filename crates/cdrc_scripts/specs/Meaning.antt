@@ -1,0 +1,60 @@
+-- What a script writes.
+use Rattle.std.specs.Prelude.{ℕ, ◌≡◌, ◌≤◌, Bool, true, false, List, [], Option, Some, None}
+use Rattle.plain_state.specs.declared.slot.SlotId.{SlotId}
+use Rattle.plain_state.specs.State.{empty}
+use Rattle.line_words.specs.declared.reason.Reason.{Reason}
+use Rattle.line_words.specs.declared.reason.Reason.TheVariants.{Syntax, Range, Name, Kind}
+use Rattle.line_words.specs.Refused.{refused_line}
+use Rattle.line_machine.specs.Runs.{IsRun}
+use Rattle.script_lines.specs.declared.command.Command.{Command}
+use Rattle.script_lines.specs.declared.command.ScriptLine.TheVariants.{Heap}
+use Rattle.script_lines.specs.Spelling.{Spells, SpellsCommand}
+use Rattle.script_desk.specs.declared.said.Said.{Said}
+use Rattle.script_desk.specs.Desks.{Desk, maker_of, nobody}
+use Rattle.script_desk.specs.Faults.{IsInRange, HasNameFault, HasKindFault}
+use Rattle.script_desk.specs.Effects.{Runs}
+use Rattle.cdrc_scripts.specs.SaidLines.{said_line}
+
+-- the numbers of a heap
+abbrev pub IsHeapInRange : ℕ → ℕ → ℕ → Type 0
+IsHeapInRange slots cells weak_cells =
+    (1 ≤ slots) × (slots ≤ 4194304) × (cells ≤ 65536) × (weak_cells ≤ 4194304)
+
+-- the desk of a heap with nothing in it: no name is bound, and nothing was made
+abbrev pub IsOpened : ℕ → ℕ → ℕ → Desk → Type 0
+IsOpened slots cells weak_cells d =
+    (d.plain ≡ empty 1 slots cells weak_cells) × (d.names ≡ []) × (d.makes ≡ 0)
+    × ((s : SlotId) → maker_of d s ≡ nobody)
+
+-- the first line gives a heap its numbers and writes nothing; every later line is a command without a fault, which runs
+abbrev pub Takes : Option Desk → List (List ℕ) → List ℕ → Option Desk → Type 0
+Takes None words out next =
+    (slots : ℕ) × (cells : ℕ) × (weak_cells : ℕ) × (d : Desk) × Spells (Heap slots cells weak_cells) words
+    × IsHeapInRange slots cells weak_cells × IsOpened slots cells weak_cells d
+    × (out ≡ []) × (next ≡ Some d)
+Takes (Some d) words out next =
+    (c : Command) × (answer : Said) × (e : Desk) × SpellsCommand c words × IsInRange d c
+    × (HasNameFault d c → ⊥) × (HasKindFault d c → ⊥) × Runs d c answer e
+    × (out ≡ said_line c answer) × (next ≡ Some e)
+
+-- the reasons, in the order in which they are tested
+abbrev pub Refuses : Option Desk → List (List ℕ) → Reason → Type 0
+Refuses None words Syntax = (slots cells weak_cells : ℕ) → Spells (Heap slots cells weak_cells) words → ⊥
+Refuses None words Range =
+    (slots : ℕ) × (cells : ℕ) × (weak_cells : ℕ) × Spells (Heap slots cells weak_cells) words
+    × (IsHeapInRange slots cells weak_cells → ⊥)
+Refuses (Some d) words Syntax = (c : Command) → SpellsCommand c words → ⊥
+Refuses (Some d) words Range = (c : Command) × SpellsCommand c words × (IsInRange d c → ⊥)
+Refuses (Some d) words Name = (c : Command) × SpellsCommand c words × IsInRange d c × HasNameFault d c
+Refuses (Some d) words Kind =
+    (c : Command) × SpellsCommand c words × IsInRange d c × (HasNameFault d c → ⊥) × HasKindFault d c
+Refuses _ words _ = ⊥
+
+-- a text without a heap is refused at its first line
+abbrev pub Ends : Option Desk → List ℕ → Bool → Type 0
+Ends None out refused = (out ≡ refused_line 1 Syntax) × (refused ≡ true)
+Ends (Some d) out refused = (out ≡ []) × (refused ≡ false)
+
+-- the text writes these bytes; `refused` tells whether a line of it is refused
+abbrev pub IsScript : List ℕ → List ℕ → Bool → Type 0
+IsScript text bytes refused = IsRun Takes Refuses Ends None text bytes refused
