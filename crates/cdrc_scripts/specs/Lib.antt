@@ -1,2 +1,3 @@
 pub mod SaidLines
 pub mod Meaning
+pub mod Settled

@@ -3,7 +3,7 @@ use Rattle.std.specs.Prelude.{ℕ, ◌≡◌, ◌≤◌, Bool, true, false, List
 use Rattle.plain_state.specs.declared.slot.SlotId.{SlotId}
 use Rattle.plain_state.specs.State.{empty}
 use Rattle.line_words.specs.declared.reason.Reason.{Reason}
-use Rattle.line_words.specs.declared.reason.Reason.TheVariants.{Syntax, Range, Name, Kind}
+use Rattle.line_words.specs.declared.reason.Reason.TheVariants.{Syntax, Range, Name, Kind, NotEnabled}
 use Rattle.line_words.specs.Refused.{refused_line}
 use Rattle.line_machine.specs.Runs.{IsRun}
 use Rattle.script_lines.specs.declared.command.Command.{Command}
@@ -11,7 +11,7 @@ use Rattle.script_lines.specs.declared.command.ScriptLine.TheVariants.{Heap}
 use Rattle.script_lines.specs.Spelling.{Spells, SpellsCommand}
 use Rattle.script_desk.specs.declared.said.Said.{Said}
 use Rattle.script_desk.specs.Desks.{Desk, maker_of, nobody}
-use Rattle.script_desk.specs.Faults.{IsInRange, HasNameFault, HasKindFault}
+use Rattle.script_desk.specs.Faults.{IsFault, IsFaultless}
 use Rattle.script_desk.specs.Effects.{Runs}
 use Rattle.cdrc_scripts.specs.SaidLines.{said_line}
 
@@ -26,6 +26,10 @@ IsOpened slots cells weak_cells d =
     (d.plain ≡ empty 1 slots cells weak_cells) × (d.names ≡ []) × (d.makes ≡ 0)
     × ((s : SlotId) → maker_of d s ≡ nobody)
 
+-- a command without a fault runs, writes its line and leaves e
+abbrev pub RunsTo : Desk → Command → List ℕ → Desk → Type 0
+RunsTo d c out e = (answer : Said) × IsFaultless d c × Runs d c answer e × (out ≡ said_line c answer)
+
 -- the first line gives a heap its numbers and writes nothing; every later line is a command without a fault, which runs
 abbrev pub Takes : Option Desk → List (List ℕ) → List ℕ → Option Desk → Type 0
 Takes None words out next =
@@ -33,22 +37,23 @@ Takes None words out next =
     × IsHeapInRange slots cells weak_cells × IsOpened slots cells weak_cells d
     × (out ≡ []) × (next ≡ Some d)
 Takes (Some d) words out next =
-    (c : Command) × (answer : Said) × (e : Desk) × SpellsCommand c words × IsInRange d c
-    × (HasNameFault d c → ⊥) × (HasKindFault d c → ⊥) × Runs d c answer e
-    × (out ≡ said_line c answer) × (next ≡ Some e)
+    (c : Command) × (e : Desk) × SpellsCommand c words × RunsTo d c out e × (next ≡ Some e)
 
--- the reasons, in the order in which they are tested
+-- no heap, or no command, is spelled; a number of the heap is out of range; or the command has a fault, which is the
+-- first of range, name and kind that holds
 abbrev pub Refuses : Option Desk → List (List ℕ) → Reason → Type 0
 Refuses None words Syntax = (slots cells weak_cells : ℕ) → Spells (Heap slots cells weak_cells) words → ⊥
 Refuses None words Range =
     (slots : ℕ) × (cells : ℕ) × (weak_cells : ℕ) × Spells (Heap slots cells weak_cells) words
     × (IsHeapInRange slots cells weak_cells → ⊥)
+Refuses None words Name = ⊥
+Refuses None words Kind = ⊥
+Refuses None words NotEnabled = ⊥
 Refuses (Some d) words Syntax = (c : Command) → SpellsCommand c words → ⊥
-Refuses (Some d) words Range = (c : Command) × SpellsCommand c words × (IsInRange d c → ⊥)
-Refuses (Some d) words Name = (c : Command) × SpellsCommand c words × IsInRange d c × HasNameFault d c
-Refuses (Some d) words Kind =
-    (c : Command) × SpellsCommand c words × IsInRange d c × (HasNameFault d c → ⊥) × HasKindFault d c
-Refuses _ words _ = ⊥
+Refuses (Some d) words Range = (c : Command) × SpellsCommand c words × IsFault d c (Some Range)
+Refuses (Some d) words Name = (c : Command) × SpellsCommand c words × IsFault d c (Some Name)
+Refuses (Some d) words Kind = (c : Command) × SpellsCommand c words × IsFault d c (Some Kind)
+Refuses (Some d) words NotEnabled = ⊥
 
 -- a text without a heap is refused at its first line
 abbrev pub Ends : Option Desk → List ℕ → Bool → Type 0

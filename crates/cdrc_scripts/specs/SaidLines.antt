@@ -1,5 +1,5 @@
 -- The line that a command writes, by what it answered.
-use Rattle.std.specs.Prelude.{ℕ, ◌==◌, List, [], ◌∷◌, ◌++◌, codes, map, string_bytes, if◌then◌else◌}
+use Rattle.std.specs.Prelude.{ℕ, ◌<◌, ◌^◌, ⊤, ◌==◌, List, [], ◌∷◌, ◌++◌, codes, string_bytes, if◌then◌else◌}
 use Rattle.std.specs.Fmt.{decimal}
 use Rattle.std.specs.List.{flat_map}
 use Rattle.cdrc_text.specs.Report.{audit_line}
@@ -20,16 +20,19 @@ walk_line shown =
     then []
     else codes "walk" ++ flat_map (λ name. codes " " ++ string_bytes name) shown.walk.items ++ codes "\n"
 
--- `audit live L deferred D cyclic C bytes Y`, and the walk
-abbrev pub audit_lines : Shown → List ℕ
-audit_lines shown =
-    audit_line (codes "audit") (record {
+-- `NAME live L deferred D cyclic C bytes Y`
+abbrev pub numbers_line : List ℕ → Shown → List ℕ
+numbers_line name shown =
+    audit_line name (record {
       live = shown.live;
       deferred = shown.deferred;
       cyclic = shown.cyclic;
       bytes = shown.bytes;
     })
-    ++ walk_line shown
+
+-- the numbers, and the walk
+abbrev pub audit_lines : Shown → List ℕ
+audit_lines shown = numbers_line (codes "audit") shown ++ walk_line shown
 
 abbrev pub said_line : Command → Said → List ℕ
 said_line (command.Make name weight) said.Made = told (codes "make") name (codes "ok")
@@ -49,3 +52,8 @@ said_line (command.Counts name) (said.Counts strong weak) =
     told (codes "counts") name (codes "strong " ++ decimal strong ++ codes " weak " ++ decimal weak)
 said_line command.Audit (said.Audited shown) = audit_lines shown
 said_line _ _ = []
+
+-- the word that a command reads is a number of 64 bits, as one in range is
+abbrev pub HasSmallWord : Command → Type 0
+HasSmallWord (command.Read name word) = word < 2 ^ 64
+HasSmallWord _ = ⊤

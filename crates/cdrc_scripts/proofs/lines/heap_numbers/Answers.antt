@@ -1,0 +1,9 @@
+use Rattle.std.proofs.Common.{◌≡◌, Err, rules}
+use Rattle.script_lines.specs.declared.command.ScriptLine.TheVariants.{Heap}
+use Rattle.script_lines.specs.declared.refused.LineRefused.TheVariants.{Syntax}
+use Rattle.cdrc_scripts.proofs.lines.heap_numbers.Goals as goal
+
+pub returns-in_err-line-clause-syntax : goal.returns-in_err-line-clause-syntax
+returns-in_err-line-clause-syntax c is slots cells weak_cells spells =
+    let refused : c.script_line.result ≡ Err Syntax = search rules in
+    c.script_line.ensures.syntax refused (Heap slots cells weak_cells) spells

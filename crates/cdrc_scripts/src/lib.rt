@@ -1,0 +1,27 @@
+//! Scripts of pointer commands: what the command `script` writes of a text.
+//!
+//! The rule: the first line opens a heap, and each later line is a command of one seat on names. A command makes its
+//! plain steps, the heap settles, and the command's line is written; the first line that isn't spelled so, leaves a
+//! range, or names what isn't bound so is refused, and its number and reason are the last line. A number that is told of
+//! references is the sum over all lists that the plain state has.
+//!
+//! Nothing is promised of which slot a make takes. Handles that are left at the end are dropped.
+//!
+//! ```text
+//! let written = script(alloc, b"heap 1 0 0\nmake a 7\nread a 0\n")?;
+//! // make a ok
+//! // read a 0 7
+//! ```
+#![tactic(auto)]
+
+mod lines;
+mod machine;
+mod run;
+mod said;
+mod scripting;
+mod shown;
+#[cfg(test)]
+mod tests;
+
+pub use line_machine::Written;
+pub use run::script;
