@@ -116,7 +116,10 @@ fn dashes_end_the_options(rt: HostRuntime) -> Result<(), Fail> {
         let mut sink = HonestSink::new(rt.alloc());
         let status = status_of(&rt, rt.alloc(), line, &mut files, &mut sink)?;
         assert!(rt; status == 8, "{line}");
-        assert!(rt; sink.taken() == b"line 1 refused: syntax\n".as_slice(), "{line}");
+        assert!(rt;
+            sink.taken() == b"line 1 refused: syntax\n".as_slice(),
+            "{line}"
+        );
     }
     Ok(())
 }
