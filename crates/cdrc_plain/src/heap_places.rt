@@ -100,7 +100,8 @@ impl<W: PayloadKind> PlainHeap<W> {
     ) -> Result<bool, Back<Option<Hand>>>
         requires opened { IsOpen self.old 0 (strong_place place) }
         requires given { MayGive Strong h (seat_at self.old 0) }
-        ensures tries { IfOk result (λ done. Tries self.old (strong_place place) expected h done self.new) }
+        ensures tries { IfOk result (λ done.
+            Tries self.old (strong_place place) expected h done self.new) }
         ensures err { OnErr result (self.new ≡ self.old) }
         ensures back { IfErr result (λ e. e.back ≡ h) }
     {

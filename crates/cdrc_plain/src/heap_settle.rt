@@ -58,8 +58,8 @@ impl<W: PayloadKind> PlainHeap<W> {
     /// entries as many copies of each stay as there are snapshots of it. A want of memory changes nothing.
     ///
     /// It looks at each object that it destroys and at each entry that it ejects or keeps once, and at each entry
-    /// counts the snapshots. Where references to more than one slot were dropped since it settled last, it looks at each
-    /// slot besides; else at that slot alone. The first time it takes memory for four entries a slot.
+    /// counts the snapshots. Where references to more than one slot were dropped since it settled last, it looks at
+    /// each slot besides; else at that slot alone. The first time it takes memory for four entries a slot.
     pub fn settle(&mut self) -> Result<u64, OutOfMemory>
         ensures settles { IfOk result (λ total. SettlesTo W.weight self.old total self.new) }
         ensures settled { OnOk result (IsSettled self.new) }

@@ -1,5 +1,5 @@
-//! Tests of a heap that settles: what it answers, which slots it gives again, and that it goes over all slots only where
-//! it must. Each of the long ones would take hours if each settling looked at each slot.
+//! Tests of a heap that settles: what it answers, which slots it gives again, and that it goes over all slots only
+//! where it must. Each of the long ones would take hours if each settling looked at each slot.
 ghost use Rattle.std.specs.Prelude.{◌≡◌, ◌≤◌, ◌^◌, slice_index};
 
 use crate::heap::PlainHeap;

@@ -2,8 +2,8 @@
 //!
 //! The rule: the first line opens a heap, and each later line is a command of one seat on names. A command makes its
 //! plain steps, the heap settles, and the command's line is written; the first line that isn't spelled so, leaves a
-//! range, or names what isn't bound so is refused, and its number and reason are the last line. A number that is told of
-//! references is the sum over all lists that the plain state has.
+//! range, or names what isn't bound so is refused, and its number and reason are the last line. A number that is told
+//! of references is the sum over all lists that the plain state has.
 //!
 //! Nothing is promised of which slot a make takes. Handles that are left at the end are dropped.
 //!

@@ -30,7 +30,8 @@ pub(crate) struct HeapNumbers {
 /// The numbers that a line gives a heap, if it is such a line.
 fn numbers_of(line: ScriptLine) -> Option<HeapNumbers>
     ensures some { IfSome result (λ n. line ≡ Heap n.slots n.cells n.weak_cells) }
-    ensures none { result ≡ None → (slots cells weak_cells : ℕ) → line ≢ Heap slots cells weak_cells }
+    ensures none { result ≡ None
+        → (slots cells weak_cells : ℕ) → line ≢ Heap slots cells weak_cells }
 {
     match line {
         ScriptLine::Heap(slots, cells, weak_cells) => Some(HeapNumbers {
@@ -45,7 +46,8 @@ fn numbers_of(line: ScriptLine) -> Option<HeapNumbers>
 /// The numbers that the words give a heap. Syntax exactly where they spell no heap.
 #[tactic(auto, using(crate::proofs::OneLine::one_line))]
 pub(crate) fn heap_numbers(alloc: Global, words: &[&[u8]]) -> Result<HeapNumbers, LineRefused>
-    ensures ok { IfOk result (λ n. Spells (Heap n.slots n.cells n.weak_cells) (texts_of words.now)) }
+    ensures ok { IfOk result (λ n.
+        Spells (Heap n.slots n.cells n.weak_cells) (texts_of words.now)) }
     ensures syntax { result ≡ Err Syntax → (slots cells weak_cells : ℕ)
         → Spells (Heap slots cells weak_cells) (texts_of words.now) → ⊥ }
 {

@@ -63,7 +63,8 @@ fn take_command(
 fn begin(alloc: Global, words: &[&[u8]]) -> Result<Result<Desk, Reason>, OutOfMemory>
     ensures taken { IfOk result (λ found. IfOk found (λ desk.
         Takes None (texts_of words.now) [] (Some desk) × IsSettled desk.plain)) }
-    ensures refused { IfOk result (λ found. IfErr found (λ reason. Refuses None (texts_of words.now) reason)) }
+    ensures refused { IfOk result (λ found.
+        IfErr found (λ reason. Refuses None (texts_of words.now) reason)) }
 {
     let numbers = match heap_numbers(alloc, words) {
         Ok(numbers) => numbers,

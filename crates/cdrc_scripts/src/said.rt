@@ -51,7 +51,8 @@ fn push_counts(text: &mut Vec<u8>, name: &Name, strong: u64, weak: u64) -> Resul
 
 /// Appends what is told of a command on a place that is replaced.
 fn push_replaced(text: &mut Vec<u8>, answer: &[u8]) -> Result<(), OutOfMemory>
-    ensures { OnOk result (text.new.items ≡ text.old.items ++ codes "cas " ++ answer.now ++ codes "\n") }
+    ensures { OnOk result (text.new.items
+        ≡ text.old.items ++ codes "cas " ++ answer.now ++ codes "\n") }
 {
     text.extend_from_slice(b"cas ")?;
     text.extend_from_slice(answer)?;

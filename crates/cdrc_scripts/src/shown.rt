@@ -10,7 +10,8 @@ use script_desk::Shown;
 /// Appends a space and each of the names.
 fn push_names(text: &mut Vec<u8>, names: &[String]) -> Result<(), OutOfMemory>
     ensures { OnOk result
-        (text.new.items ≡ text.old.items ++ flat_map (λ name. codes " " ++ string_bytes name) names.now) }
+        (text.new.items
+        ≡ text.old.items ++ flat_map (λ name. codes " " ++ string_bytes name) names.now) }
 {
     for name in names {
         text.push(b' ')?;

@@ -49,7 +49,8 @@ const WHOLE: [Row; 10] = [
     ),
     // A replacement stores where the place holds what is expected.
     (
-        "heap 2 1 0\nmake a 1\nmake b 1\ncopy a c\nput @0 c\ncas @0 null b\ncas @0 a b\nload @0 d\ncounts d\ncounts a\n",
+        "heap 2 1 0\nmake a 1\nmake b 1\ncopy a c\nput @0 c\ncas @0 null b\ncas @0 a b\nload @0 d\n\
+         counts d\ncounts a\n",
         "make a ok\nmake b ok\ncas lost\ncas done\nload d ok\ncounts d strong 2 weak 1\ncounts a strong 1 weak 1\n",
     ),
     // Every kind of handle, of one object.

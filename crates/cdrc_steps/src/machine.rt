@@ -20,7 +20,8 @@ impl Running {
         ensures taken { result ≡ Ok None → (out : List ℕ) × (text.new.items ≡ text.old.items ++ out)
             × Takes (Some self.old) (texts_of words.now) out (Some self.new) }
         ensures refused { (reason : Reason) → result ≡ Ok (Some reason) →
-            (text.new.items ≡ text.old.items) × Refuses (Some self.old) (texts_of words.now) reason }
+            (text.new.items ≡ text.old.items)
+            × Refuses (Some self.old) (texts_of words.now) reason }
     {
         let shape = self.core.shape();
         let event = match event_line(words) {

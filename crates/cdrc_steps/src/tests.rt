@@ -167,64 +167,67 @@ events 19
     Ok(())
 }
 
+/// Texts whose first line that isn't made is refused, each with the line that tells so.
+const REFUSED: [(&str, &str); 36] = [
+    ("", "line 1 refused: syntax\n"),
+    ("\n# shape 1 1 0 0 4\n \t\n#", "line 1 refused: syntax\n"),
+    ("0 claim 0\n", "line 1 refused: syntax\n"),
+    (
+        "\n#\n0 claim 0\nshape 1 1 0 0 4\n",
+        "line 3 refused: syntax\n",
+    ),
+    ("shape 1 1 0 0\n", "line 1 refused: syntax\n"),
+    ("shape 1 1 0 0 4294967296 x\n", "line 1 refused: syntax\n"),
+    (
+        "shape 1 1 0 0 4\nshape 1 1 0 0 4\n",
+        "line 2 refused: syntax\n",
+    ),
+    ("shape 0 1 0 0 4\n", "line 1 refused: range\n"),
+    ("shape 33 1 0 0 4\n", "line 1 refused: range\n"),
+    ("shape 4294967295 1 0 0 4\n", "line 1 refused: range\n"),
+    ("shape 1 0 0 0 4\n", "line 1 refused: range\n"),
+    ("shape 1 4194305 0 0 4\n", "line 1 refused: range\n"),
+    ("shape 1 1 65537 0 4\n", "line 1 refused: range\n"),
+    ("shape 1 1 0 4194305 4\n", "line 1 refused: range\n"),
+    ("shape 1 1 0 0 0\n", "line 1 refused: range\n"),
+    ("shape 1 1 0 0 1025\n", "line 1 refused: range\n"),
+    ("shape 1 1 0 0 4294967296\n", "line 1 refused: range\n"),
+    ("shape 1 1 0 0 4\n0 finish", "line 2 refused: not enabled\n"),
+    ("shape 1 1 0 0 4\n0 finsh", "line 2 refused: syntax\n"),
+    ("shape 1 1 0 0 4\n1 finish", "line 2 refused: range\n"),
+    (
+        "shape 1 1 0 0 4\n4294967296 finish",
+        "line 2 refused: range\n",
+    ),
+    ("shape 1 1 0 0 4\n0 claim 1", "line 2 refused: range\n"),
+    ("shape 1 1 0 0 4\n0 look @0", "line 2 refused: range\n"),
+    ("shape 1 1 0 0 4\n0 look 1:0", "line 2 refused: range\n"),
+    ("shape 1 1 0 0 4\n0 release 4", "line 2 refused: range\n"),
+    ("shape 1 1 0 0 4\n0 see 0 16", "line 2 refused: range\n"),
+    (
+        "shape 1 1 0 0 4\n0 fill 0 18446744073709551616",
+        "line 2 refused: range\n",
+    ),
+    (
+        "shape 1 1 1 0 4\n0 cas @0 1 null",
+        "line 2 refused: range\n",
+    ),
+    ("shape 1 1 0 1 4\n0 look ~0", "line 2 refused: syntax\n"),
+    ("shape 1 1 0 1 4\n0 look 0:w", "line 2 refused: syntax\n"),
+    ("shape 1 1 0 0 4\n0 free", "line 2 refused: syntax\n"),
+    ("shape 1 1 0 0 4\n7 destroy 7", "line 2 refused: syntax\n"),
+    ("shape 2 1 0 0 4\n0 leave 1", "line 2 refused: syntax\n"),
+    ("shape 1 1 0 0 4\n0 wcount 0", "line 2 refused: syntax\n"),
+    ("shape 1 1 0 0 4\n0 wdrop 0", "line 2 refused: syntax\n"),
+    (
+        "shape 1 1 0 0 4\n0 announce 1 disposal 0",
+        "line 2 refused: syntax\n",
+    ),
+];
+
 #[test]
 fn refused_lines(rt: HostRuntime) -> Result<(), Fail> {
-    for (text, reason) in [
-        ("", "line 1 refused: syntax\n"),
-        ("\n# shape 1 1 0 0 4\n \t\n#", "line 1 refused: syntax\n"),
-        ("0 claim 0\n", "line 1 refused: syntax\n"),
-        (
-            "\n#\n0 claim 0\nshape 1 1 0 0 4\n",
-            "line 3 refused: syntax\n",
-        ),
-        ("shape 1 1 0 0\n", "line 1 refused: syntax\n"),
-        ("shape 1 1 0 0 4294967296 x\n", "line 1 refused: syntax\n"),
-        (
-            "shape 1 1 0 0 4\nshape 1 1 0 0 4\n",
-            "line 2 refused: syntax\n",
-        ),
-        ("shape 0 1 0 0 4\n", "line 1 refused: range\n"),
-        ("shape 33 1 0 0 4\n", "line 1 refused: range\n"),
-        ("shape 4294967295 1 0 0 4\n", "line 1 refused: range\n"),
-        ("shape 1 0 0 0 4\n", "line 1 refused: range\n"),
-        ("shape 1 4194305 0 0 4\n", "line 1 refused: range\n"),
-        ("shape 1 1 65537 0 4\n", "line 1 refused: range\n"),
-        ("shape 1 1 0 4194305 4\n", "line 1 refused: range\n"),
-        ("shape 1 1 0 0 0\n", "line 1 refused: range\n"),
-        ("shape 1 1 0 0 1025\n", "line 1 refused: range\n"),
-        ("shape 1 1 0 0 4294967296\n", "line 1 refused: range\n"),
-        ("shape 1 1 0 0 4\n0 finish", "line 2 refused: not enabled\n"),
-        ("shape 1 1 0 0 4\n0 finsh", "line 2 refused: syntax\n"),
-        ("shape 1 1 0 0 4\n1 finish", "line 2 refused: range\n"),
-        (
-            "shape 1 1 0 0 4\n4294967296 finish",
-            "line 2 refused: range\n",
-        ),
-        ("shape 1 1 0 0 4\n0 claim 1", "line 2 refused: range\n"),
-        ("shape 1 1 0 0 4\n0 look @0", "line 2 refused: range\n"),
-        ("shape 1 1 0 0 4\n0 look 1:0", "line 2 refused: range\n"),
-        ("shape 1 1 0 0 4\n0 release 4", "line 2 refused: range\n"),
-        ("shape 1 1 0 0 4\n0 see 0 16", "line 2 refused: range\n"),
-        (
-            "shape 1 1 0 0 4\n0 fill 0 18446744073709551616",
-            "line 2 refused: range\n",
-        ),
-        (
-            "shape 1 1 1 0 4\n0 cas @0 1 null",
-            "line 2 refused: range\n",
-        ),
-        ("shape 1 1 0 1 4\n0 look ~0", "line 2 refused: syntax\n"),
-        ("shape 1 1 0 1 4\n0 look 0:w", "line 2 refused: syntax\n"),
-        ("shape 1 1 0 0 4\n0 free", "line 2 refused: syntax\n"),
-        ("shape 1 1 0 0 4\n7 destroy 7", "line 2 refused: syntax\n"),
-        ("shape 2 1 0 0 4\n0 leave 1", "line 2 refused: syntax\n"),
-        ("shape 1 1 0 0 4\n0 wcount 0", "line 2 refused: syntax\n"),
-        ("shape 1 1 0 0 4\n0 wdrop 0", "line 2 refused: syntax\n"),
-        (
-            "shape 1 1 0 0 4\n0 announce 1 disposal 0",
-            "line 2 refused: syntax\n",
-        ),
-    ] {
+    for (text, reason) in REFUSED {
         assert!(rt; writes(rt.alloc(), text, reason, true)?, "{text}");
     }
     Ok(())

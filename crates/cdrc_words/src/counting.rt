@@ -50,7 +50,8 @@ fn tallied<R: Wait, G: Gate>(
     requires texts { map (bytes_at text.now) found.now ≡ pieces_of text.now }
     requires sizes { All (IsPlace (length text.now)) found.now }
     requires few { length (pieces_of text.now) ≤ 1000000 }
-    ensures { IfOk result (λ tally. (w : List ℕ) → count_of tally w ≡ times w (pieces_of text.now)) }
+    ensures { IfOk result (λ tally.
+        (w : List ℕ) → count_of tally w ≡ times w (pieces_of text.now)) }
 {
     let mut tally = Tally::new(alloc);
     for turn in 0..found.len() {

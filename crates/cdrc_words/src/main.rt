@@ -3,8 +3,8 @@
 //!
 //! The work is `run`, a call over any source, sink and gate, which answers a status. Its contract says that with status
 //! 0 or 8 the bytes taken are the output that the file's content means, and of every other status but want of memory
-//! what caused it. It doesn't say that a run ends: the gate may wait. `main` hands it the words after the program's name, the host's files and
-//! standard output.
+//! what caused it. It doesn't say that a run ends: the gate may wait. `main` hands it the words after the program's
+//! name, the host's files and standard output.
 //!
 //! ```text
 //! cdrc_words words FILE

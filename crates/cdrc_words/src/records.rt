@@ -53,7 +53,8 @@ fn make_records(
     requires room { length list.now < length heap.old.slots }
     requires sizes { All HasSize list.now }
     ensures count { IfOk result (λ hands. length hands.items ≡ length list.now) }
-    ensures held { IfOk result (λ hands. HoldsRecords heap.new hands.items (sum_by size_of list.now)) }
+    ensures held { IfOk result (λ hands.
+        HoldsRecords heap.new hands.items (sum_by size_of list.now)) }
 {
     let mut hands = Vec::new(alloc);
     for counted in list {

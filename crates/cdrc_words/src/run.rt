@@ -52,7 +52,8 @@ pub fn run<R: Threads + Wait + Sync, F: Files, K: Sink, G: Gate + Sync>(
     ensures large { result.status ≡ 5 →
         (task : Work) (file : List ℕ) → Asks (map string_bytes words.now) task file →
         IsTooLarge task (F.told files.old file) (F.overlong files.old) (F.overlong files.new) }
-    ensures large_exactly { (task : Work) (file : List ℕ) → Asks (map string_bytes words.now) task file →
+    ensures large_exactly { (task : Work) (file : List ℕ) →
+        Asks (map string_bytes words.now) task file →
         IfSome (F.told files.old file) (λ content. PassesLimit task content →
         Stood (F.faults files.old) (F.faults files.new) →
         (result.status ≡ 5) ⊎ (result.status ≡ 9)) }

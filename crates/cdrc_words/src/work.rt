@@ -13,8 +13,8 @@ use line_machine::Written;
 use std::alloc::Global;
 use std::sync::Wait;
 
-/// The output of the task on this content of at most 67,108,864 bytes. TooLarge exactly where it has more than 1,000,000
-/// pieces that are to be counted.
+/// The output of the task on this content of at most 67,108,864 bytes. TooLarge exactly where it has more than
+/// 1,000,000 pieces that are to be counted.
 pub fn output_of<R: Wait, G: Gate>(
     rt: &R,
     alloc: Global,
@@ -23,7 +23,8 @@ pub fn output_of<R: Wait, G: Gate>(
     gate: &G,
 ) -> Result<Written, Refusal>
     requires { length content.now ≤ 67108864 }
-    ensures output { IfOk result (λ written. IsOutput task content.now written.text.items written.refused) }
+    ensures output { IfOk result (λ written.
+        IsOutput task content.now written.text.items written.refused) }
     ensures within { OnOk result (IsWithinLimits task content.now) }
     ensures large { result ≡ Err refusal.TooLarge → PassesLimit task content.now }
     ensures only { IfErr result (λ e. (e ≡ refusal.TooLarge) ⊎ (e ≡ refusal.OutOfMemory)) }

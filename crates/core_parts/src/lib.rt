@@ -1,5 +1,5 @@
-//! The parts of a seat's half of the table of events, as functions over plain values: what a word says, where a word is,
-//! the first copy in a list, and the split of what is retired.
+//! The parts of a seat's half of the table of events, as functions over plain values: what a word says, where a word
+//! is, the first copy in a list, and the split of what is retired.
 //!
 //! Each answers what the definition of that name in `core_events` says; `core_seats` makes of them what a seat does.
 //! Nothing is promised of a word that its callers don't ask for.

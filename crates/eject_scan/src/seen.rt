@@ -47,7 +47,8 @@ impl Seen {
     /// as holds where fewer were noted at all.
     pub fn note(&mut self, word: u64)
         requires { length self.old.words < self.old.room }
-        ensures { self.new ≡ record self.old { words = self.old.words ++ announcements (word ∷ []) } }
+        ensures { self.new
+            ≡ record self.old { words = self.old.words ++ announcements (word ∷ []) } }
     {
         if word != 0 {
             self.words.push_reserved(word);

@@ -25,7 +25,8 @@ pub fn count_unreached(heap: &Heap, reached: &[bool], rank: &[u64]) -> Unreached
     requires few { length heap.now.slots.items ≤ 2 ^ 22 }
     requires table { AreReached heap.now reached.now }
     requires ranked { length rank.now ≡ length heap.now.slots.items }
-    ensures many { HowMany (λ n. IsUnreached heap.now (slot n)) (length heap.now.slots.items) result.many }
+    ensures many { HowMany (λ n. IsUnreached heap.now (slot n))
+        (length heap.now.slots.items) result.many }
     ensures least { IsLeastIfAny rank.now (IsUnreached heap.now) result.least }
 {
     let mut many = 0;

@@ -11,7 +11,8 @@ ghost use Rattle.line_words.specs.declared.reason.Reason.TheVariants.{Name, NotE
 /// No line has a line feed, and the lines with a line feed behind each are the text, where the last one may lack its
 /// own.
 pub fn lines_are_the_text()
-    ensures no_line_feed { (text : List ℕ) → All (λ line. All (λ byte. byte ≢ 10) line) (lines_of text) }
+    ensures no_line_feed { (text : List ℕ)
+        → All (λ line. All (λ byte. byte ≢ 10) line) (lines_of text) }
     ensures joined { (text : List ℕ) →
         (joined_lines (lines_of text) ≡ text) ⊎ (joined_lines (lines_of text) ≡ text ++ 10 ∷ []) }
 {}

@@ -13,8 +13,8 @@ use std::alloc::Global;
 /// where its walk begins. Where all ranks are different, one walk alone is the one that is found; of two slots of equal
 /// rank either may count as the least.
 ///
-/// It takes memory for the heap's image and for a few numbers a slot. It is linear in slots, cells and deferred entries,
-/// with one call of `weigh` for each Live slot. `OutOfMemory` comes only for want of memory.
+/// It takes memory for the heap's image and for a few numbers a slot. It is linear in slots, cells and deferred
+/// entries, with one call of `weigh` for each Live slot. `OutOfMemory` comes only for want of memory.
 pub fn audit_heap<W: PayloadKind, F: Fn(&[u64; 16]) -> u64>(
     alloc: Global,
     heap: &PlainHeap<W>,

@@ -10,11 +10,13 @@ ghost use Rattle.plain_audit.specs.Reached.{IsUnreached};
 
 /// In a settled state all of whose fields are null nothing is unreached.
 pub fn only_fields_make_cycles()
-    ensures { (p : Plain) → IsSettled p → All HasNullFields p.slots → (s : SlotId) → IsUnreached p s → ⊥ }
+    ensures { (p : Plain) → IsSettled p → All HasNullFields p.slots
+        → (s : SlotId) → IsUnreached p s → ⊥ }
 {}
 
 /// Where no two Live slots have one rank, all audits of a state find the same.
 pub fn one_audit_is_found()
-    ensures { (p : Plain) (weight : List ℕ → ℕ) (ranks : List ℕ) (one other : Audit) → HasDistinctRanks p ranks
+    ensures { (p : Plain) (weight : List ℕ → ℕ) (ranks : List ℕ) (one other : Audit)
+        → HasDistinctRanks p ranks
         → IsAudit weight ranks p one → IsAudit weight ranks p other → FindsSame one other }
 {}

@@ -1,10 +1,10 @@
 //! The audit of a plain heap: what of it lives, what waits, and what only cycles of strong references keep.
 //!
-//! The rules, which `specs/` has as definitions over the plain state: a slot is *reached* where a slot that a seat owns,
-//! that a strong cell holds or that stands in a deferred strong entry leads to it along strong fields of Live slots, in
-//! any number of steps, none among them. A Live slot that isn't reached is *unreached*. `audit_heap` counts the Live
-//! slots, the deferred entries and the unreached slots, adds up the weights of the Live ones, and finds a walk round a
-//! cycle of unreached slots, if there are any.
+//! The rules, which `specs/` has as definitions over the plain state: a slot is *reached* where a slot that a seat
+//! owns, that a strong cell holds or that stands in a deferred strong entry leads to it along strong fields of Live
+//! slots, in any number of steps, none among them. A Live slot that isn't reached is *unreached*. `audit_heap` counts
+//! the Live slots, the deferred entries and the unreached slots, adds up the weights of the Live ones, and finds a walk
+//! round a cycle of unreached slots, if there are any.
 //!
 //! It asks for a heap that has settled: before, an object without references may still be Live. Nothing is promised of
 //! cycles but the one that the search from the unreached slot of least rank comes to.

@@ -8,6 +8,8 @@ ghost use Rattle.plain_state.specs.Runs.{Runs};
 
 /// The state with nothing in it is lawful, and every step of every seat keeps it so.
 pub fn steps_keep_sound()
-    ensures start { (seats slots cells weak_cells : ℕ) → Sound (empty seats slots cells weak_cells) }
-    ensures step { (p q : Plain) (n : ℕ) (act : PlainAct) (found : ℕ) → Sound p → Does p n act found q → Sound q }
+    ensures start { (seats slots cells weak_cells : ℕ)
+        → Sound (empty seats slots cells weak_cells) }
+    ensures step { (p q : Plain) (n : ℕ) (act : PlainAct) (found : ℕ)
+        → Sound p → Does p n act found q → Sound q }
 {}

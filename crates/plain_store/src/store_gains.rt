@@ -40,7 +40,8 @@ impl Store {
         requires kept { Kept self.old }
         requires there { slot.0 < length self.old.slots.items }
         requires sound { Sound (weakly_gained (plain_of self.old) slot) }
-        ensures owns { IfOk result (λ _. plain_of self.new ≡ weakly_gained (plain_of self.old) slot) }
+        ensures owns { IfOk result (λ _.
+            plain_of self.new ≡ weakly_gained (plain_of self.old) slot) }
         ensures slots { self.new.slots.items ≡ self.old.slots.items }
         ensures err { OnErr result (plain_of self.new ≡ plain_of self.old) }
         ensures kept { Kept self.new }
@@ -82,7 +83,8 @@ impl Store {
     pub fn weak_gain(&mut self, slot: SlotId) -> Result<WeakHand, OutOfMemory>
         requires kept { Kept self.old }
         requires held { Holds (seat_at (plain_of self.old) 0) slot }
-        ensures gains { IfOk result (λ w. WeaklyGains (plain_of self.old) slot w (plain_of self.new)) }
+        ensures gains { IfOk result (λ w.
+            WeaklyGains (plain_of self.old) slot w (plain_of self.new)) }
         ensures slots { self.new.slots.items ≡ self.old.slots.items }
         ensures err { OnErr result (plain_of self.new ≡ plain_of self.old) }
         ensures kept { Kept self.new }
@@ -113,7 +115,8 @@ impl Store {
     pub fn upgrade(&mut self, slot: SlotId) -> Result<Option<Hand>, OutOfMemory>
         requires kept { Kept self.old }
         requires held { Holds (seat_at (plain_of self.old) 0) slot }
-        ensures upgrades { IfOk result (λ r. Upgrades (plain_of self.old) slot r (plain_of self.new)) }
+        ensures upgrades { IfOk result (λ r.
+            Upgrades (plain_of self.old) slot r (plain_of self.new)) }
         ensures slots { self.new.slots.items ≡ self.old.slots.items }
         ensures err { OnErr result (plain_of self.new ≡ plain_of self.old) }
         ensures kept { Kept self.new }

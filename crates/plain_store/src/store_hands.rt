@@ -22,7 +22,8 @@ const MOST_ADDS: u64 = ZERO - 2;
 /// The first free slot from `from` on.
 fn free_from(slots: &[PlainSlot], from: usize) -> Option<usize>
     requires { from ≤ length slots.now }
-    ensures found { IfSome result (λ i. (i < length slots.now) × ((slice_index_or slots.now i new_slot).stage ≡ Free)) }
+    ensures found { IfSome result (λ i. (i < length slots.now)
+        × ((slice_index_or slots.now i new_slot).stage ≡ Free)) }
     ensures none { IfNone result ((i : ℕ) → from ≤ i → i < length slots.now
         → (slice_index_or slots.now i new_slot).stage ≢ Free) }
 {
@@ -37,7 +38,8 @@ fn free_from(slots: &[PlainSlot], from: usize) -> Option<usize>
 /// Where `slot` stands last in the list, if it stands there: what was gained last is mostly given up first.
 fn index_of(list: &[SlotId], slot: SlotId) -> Option<usize>
     ensures none { IfNone result (times slot list.now ≡ 0) }
-    ensures found { IfSome result (λ i. (i < length list.now) × (slice_index_or list.now i slot ≡ slot)) }
+    ensures found { IfSome result (λ i. (i < length list.now)
+        × (slice_index_or list.now i slot ≡ slot)) }
 {
     for i in (0..list.len()).rev() {
         if list[i].0 == slot.0 {
@@ -60,7 +62,8 @@ pub(crate) fn take_one(list: &mut Vec<SlotId>, slot: SlotId)
 /// The slot with an object of this payload. None where its lives are counted out.
 fn made_from(slots: &Vec<PlainSlot>, slot: SlotId, payload: &[u64; 16]) -> Option<PlainSlot>
     requires { slot.0 < length slots.now.items }
-    ensures { IfSome result (λ x. x ≡ made_slot (slice_index_or slots.now.items slot.0 new_slot) payload.now) }
+    ensures { IfSome result (λ x.
+        x ≡ made_slot (slice_index_or slots.now.items slot.0 new_slot) payload.now) }
 {
     let old = slots[slot.0 as usize];
     let life = old.life.checked_add(1)?;
@@ -99,7 +102,8 @@ impl Store {
 
     pub fn make(&mut self, payload: &[u64; 16]) -> Result<Hand, MakeRefused>
         requires { Kept self.old }
-        ensures made { IfOk result (λ s. Makes (plain_of self.old) s payload.now (plain_of self.new)) }
+        ensures made { IfOk result (λ s.
+            Makes (plain_of self.old) s payload.now (plain_of self.new)) }
         ensures slots { IfOk result (λ s. self.new.slots.items ≡ slice_set self.old.slots.items s.0
             (made_slot (slot_at (plain_of self.old) s) payload.now)) }
         ensures full { (result ≡ Err MakeRefused.Full) ↔ NoneFree (plain_of self.old) }

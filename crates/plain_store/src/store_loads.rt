@@ -35,7 +35,8 @@ impl Store {
         requires kept { Kept self.old }
         requires opened { IsOpen (plain_of self.old) 0 place }
         requires weak { place_kind place ≡ Weak }
-        ensures loads { IfOk result (λ w. WeaklyLoads (plain_of self.old) place w (plain_of self.new)) }
+        ensures loads { IfOk result (λ w.
+            WeaklyLoads (plain_of self.old) place w (plain_of self.new)) }
         ensures slots { self.new.slots.items ≡ self.old.slots.items }
         ensures err { OnErr result (plain_of self.new ≡ plain_of self.old) }
         ensures kept { Kept self.new }

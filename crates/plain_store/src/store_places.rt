@@ -147,7 +147,8 @@ impl Store {
         requires kept { Kept self.old }
         requires opened { IsOpen (plain_of self.old) 0 place }
         requires given { MayGive (place_kind place) new (seat_at (plain_of self.old) 0) }
-        ensures tries { IfOk result (λ done. Tries (plain_of self.old) place expected new done (plain_of self.new)) }
+        ensures tries { IfOk result (λ done.
+            Tries (plain_of self.old) place expected new done (plain_of self.new)) }
         ensures objects { SameObjects (plain_of self.old) (plain_of self.new) }
         ensures err { OnErr result (plain_of self.new ≡ plain_of self.old) }
         ensures kept { Kept self.new }

@@ -206,7 +206,8 @@ impl Store {
         ensures calm { (s : SlotId) → IsCalm (plain_of self.new) s }
         ensures stays { result ≤ length self.new.deferred.items }
         ensures needed { AllNeeded (take result self.new.deferred.items) self.new.snapshots.items }
-        ensures fewer { length self.new.deferred.items + stays < length self.old.deferred.items + result }
+        ensures fewer { length self.new.deferred.items + stays
+            < length self.old.deferred.items + result }
     {
         let entry = entry_at(&self.deferred, stays);
         let before = entry_count(&self.deferred[..stays], entry.0, entry.1);
@@ -225,13 +226,16 @@ impl Store {
         requires calm { (s : SlotId) → IsCalm (plain_of self.old) s }
         ensures none { IfNone result ((plain_of self.new ≡ plain_of self.old)
             × (self.new.dying.items ≡ [])) }
-        ensures some { IfSome result (λ words. Destroys (plain_of self.old) words (plain_of self.new)) }
-        ensures object { IfSome result (λ words. (s : SlotId) × (stage_at (plain_of self.old) s ≡ Ended)
+        ensures some { IfSome result (λ words.
+            Destroys (plain_of self.old) words (plain_of self.new)) }
+        ensures object { IfSome result (λ words. (s : SlotId)
+            × (stage_at (plain_of self.old) s ≡ Ended)
             × (words ≡ (slot_at (plain_of self.old) s).payload)) }
         ensures kept { Kept self.new }
         ensures room { HasRoom self.new }
         ensures calm { (s : SlotId) → IsCalm (plain_of self.new) s }
-        ensures deferred { (more : List Entry) × (self.new.deferred.items ≡ self.old.deferred.items ++ more)
+        ensures deferred { (more : List Entry)
+            × (self.new.deferred.items ≡ self.old.deferred.items ++ more)
             × (length more ≤ 3) }
         ensures snapshots { self.new.snapshots ≡ self.old.snapshots }
     {
@@ -246,20 +250,25 @@ impl Store {
     fn empty(&mut self, slot: SlotId, object: PlainSlot)
         requires there { slot.0 < length self.old.slots.items }
         requires room { length self.old.deferred.items + 3 ≤ vec_capacity self.old.deferred }
-        requires counted { (slot.0 < length self.old.weak.items) × (0 < slice_index_or self.old.weak.items slot.0 0) }
-        ensures slots { self.new.slots.items ≡ slice_set self.old.slots.items slot.0 (husk_of object) }
+        requires counted { (slot.0 < length self.old.weak.items)
+            × (0 < slice_index_or self.old.weak.items slot.0 0) }
+        ensures slots { self.new.slots.items
+            ≡ slice_set self.old.slots.items slot.0 (husk_of object) }
         ensures deferred { self.new.deferred.items ≡ joined kinds.Weak object.weak_field
-            (joined kinds.Strong object.second (joined kinds.Strong object.first self.old.deferred.items)) }
+            (joined kinds.Strong object.second
+            (joined kinds.Strong object.first self.old.deferred.items)) }
         ensures len { length self.new.deferred.items ≤ length self.old.deferred.items + 3 }
         ensures capacity { vec_capacity self.new.deferred ≡ vec_capacity self.old.deferred }
-        ensures weak { self.new.weak.items ≡ fewer kinds.Weak kinds.Weak slot.0 self.old.weak.items }
+        ensures weak { self.new.weak.items
+            ≡ fewer kinds.Weak kinds.Weak slot.0 self.old.weak.items }
         ensures dying { self.new.dying ≡ self.old.dying }
         ensures snapshots { self.new.snapshots ≡ self.old.snapshots }
-        ensures owned { (self.new.owned.items ≡ self.old.owned.items) × (self.new.weaks.items ≡ self.old.weaks.items) }
+        ensures owned { (self.new.owned.items ≡ self.old.owned.items)
+            × (self.new.weaks.items ≡ self.old.weaks.items) }
         ensures cells { (self.new.cells.items ≡ self.old.cells.items)
             × (self.new.weak_cells.items ≡ self.old.weak_cells.items) }
-        ensures rest { (self.new.strong.items ≡ self.old.strong.items) × (self.new.adds ≡ self.old.adds)
-            × (self.new.next ≡ self.old.next) }
+        ensures rest { (self.new.strong.items ≡ self.old.strong.items)
+            × (self.new.adds ≡ self.old.adds) × (self.new.next ≡ self.old.next) }
     {
         self.slots[slot.0 as usize] = husk(object);
         defer(&mut self.deferred, Kind::Strong, object.first);

@@ -77,7 +77,8 @@ impl Store {
     pub fn end_snapshot(&mut self, slot: SlotId)
         requires kept { Kept self.old }
         requires under { 0 < entry_times Strong slot self.old.snapshots.items }
-        ensures does { Does (plain_of self.old) 0 (act.EndSnapshot Strong slot) 0 (plain_of self.new) }
+        ensures does { Does (plain_of self.old) 0 (act.EndSnapshot Strong slot) 0
+            (plain_of self.new) }
         ensures slots { self.new.slots.items ≡ self.old.slots.items }
         ensures kept { Kept self.new }
     {

@@ -7,7 +7,8 @@ use plain_state::SlotId;
 pub(crate) fn count_more(sums: &mut Vec<u64>, slot: SlotId)
     requires there { slot.0 < length sums.old.items }
     requires fits { slice_index sums.old.items slot.0 + 1 < 2 ^ 64 }
-    ensures { sums.new.items ≡ slice_set sums.old.items slot.0 (slice_index sums.old.items slot.0 + 1) }
+    ensures { sums.new.items
+        ≡ slice_set sums.old.items slot.0 (slice_index sums.old.items slot.0 + 1) }
 {
     sums[slot.0 as usize] += 1;
 }
@@ -16,7 +17,8 @@ pub(crate) fn count_more(sums: &mut Vec<u64>, slot: SlotId)
 pub(crate) fn count_less(sums: &mut Vec<u64>, slot: SlotId)
     requires there { slot.0 < length sums.old.items }
     requires some { 0 < slice_index sums.old.items slot.0 }
-    ensures { sums.new.items ≡ slice_set sums.old.items slot.0 (slice_index sums.old.items slot.0 - 1) }
+    ensures { sums.new.items
+        ≡ slice_set sums.old.items slot.0 (slice_index sums.old.items slot.0 - 1) }
 {
     sums[slot.0 as usize] -= 1;
 }

@@ -25,10 +25,16 @@ impl Model for Batch {
 
     ghost Value = { Entries };
 
-    ghost view = { λ batch. record { retired = batch.retired.items; owed = batch.owed.items; room = batch.room } };
+    ghost view = { λ batch. record {
+      retired = batch.retired.items;
+      owed = batch.owed.items;
+      room = batch.room;
+    } };
 
-    ghost invariant = { λ batch. (vec_len batch.retired + deque_len batch.owed ≤ batch.room) × (batch.room < 2 ^ 32)
-        × (batch.room ≤ vec_capacity batch.retired) × (batch.room ≤ deque_capacity batch.owed) };
+    ghost invariant = { λ batch. (vec_len batch.retired + deque_len batch.owed ≤ batch.room)
+        × (batch.room < 2 ^ 32)
+        × (batch.room ≤ vec_capacity batch.retired)
+        × (batch.room ≤ deque_capacity batch.owed) };
 }
 
 impl Batch {
@@ -70,7 +76,8 @@ impl Batch {
     /// Takes the first owed entry, for its decrement. None exactly where nothing is owed.
     pub fn next_owed(&mut self) -> Option<(Kind, SlotId)>
         ensures none { IsNone result ↔ (self.old.owed ≡ []) }
-        ensures first { IfSome result (λ e. self.old ≡ record self.new { owed = e ∷ self.new.owed }) }
+        ensures first { IfSome result (λ e.
+            self.old ≡ record self.new { owed = e ∷ self.new.owed }) }
         ensures unchanged { IsNone result → self.new ≡ self.old }
     {
         self.owed.pop_front()

@@ -9,7 +9,8 @@ pub fn laws_of_ejection()
     ensures whole { (es : List Entry) (seen : Announcements) → LosesNothing es seen }
     ensures earlier { (front : List Entry) (seen : Announcements) → KeepsTheEarlier front seen }
     ensures kept_in_order { (es : List Entry) (seen : Announcements) → IsSublist (kept es seen) es }
-    ensures ejected_in_order { (es : List Entry) (seen : Announcements) → IsSublist (ejected es seen) es }
+    ensures ejected_in_order { (es : List Entry) (seen : Announcements)
+        → IsSublist (ejected es seen) es }
     ensures lengths { (es : List Entry) (seen : Announcements)
         → length (kept es seen) + length (ejected es seen) ≡ length es }
 {}

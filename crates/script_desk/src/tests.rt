@@ -123,7 +123,7 @@ fn references_of_every_kind(rt: HostRuntime) -> Result<(), Fail> {
 }
 
 #[test]
-fn places_and_snapshots(rt: HostRuntime) -> Result<(), Fail> {
+fn places_under_snapshots(rt: HostRuntime) -> Result<(), Fail> {
     let alloc = rt.alloc();
     let mut desk = Desk::open(alloc, 2, 1, 1)?;
     let of = |text: &str| name(&rt, alloc, text);
@@ -148,7 +148,19 @@ fn places_and_snapshots(rt: HostRuntime) -> Result<(), Fail> {
     quiet(&rt, &mut desk, Command::EndSnapshot(of("r")));
     quiet(&rt, &mut desk, Command::EndSnapshot(of("t")));
     assert_eq!(rt; counts(&rt, alloc, &mut desk, "a"), (2, 1));
-    let load = Command::Load(TextPlace::Cell(0), of("b"));
+    Ok(())
+}
+
+#[test]
+fn places_that_hold_null_or_a_weak_reference(rt: HostRuntime) -> Result<(), Fail> {
+    let alloc = rt.alloc();
+    let mut desk = Desk::open(alloc, 2, 1, 1)?;
+    let of = |text: &str| name(&rt, alloc, text);
+    assert!(rt; make(&rt, alloc, &mut desk, "a", 5));
+    assert!(rt; make(&rt, alloc, &mut desk, "b", 6));
+    quiet(&rt, &mut desk, Command::Copy(of("b"), of("c")));
+    quiet(&rt, &mut desk, Command::Put(TextPlace::Cell(0), of("c")));
+    let load = Command::Load(TextPlace::Cell(0), of("d"));
     assert!(rt; matches!(said(&rt, &mut desk, load), Said::Loaded));
     quiet(&rt, &mut desk, Command::Clear(TextPlace::Cell(0)));
     let load = Command::Load(TextPlace::Cell(0), of("n"));
@@ -166,7 +178,7 @@ fn places_and_snapshots(rt: HostRuntime) -> Result<(), Fail> {
         &mut desk,
         Command::Put(TextPlace::WeakCell(0), of("w")),
     );
-    assert_eq!(rt; counts(&rt, alloc, &mut desk, "b"), (1, 3));
+    assert_eq!(rt; counts(&rt, alloc, &mut desk, "b"), (2, 3));
     Ok(())
 }
 

@@ -44,7 +44,8 @@ pub fn parse_number(word: &[u8]) -> Result<u128, LineRefused>
 // A word that ends in a colon and one more byte: what stands before the colon, and this byte.
 fn split_field(word: &[u8]) -> Option<(&[u8], u8)>
     ensures some { IfSome result (λ parts. word.now ≡ parts.0.now ++ 58 ∷ parts.1 ∷ []) }
-    ensures none { IsNone result → (front : List ℕ) (last : ℕ) → word.now ≡ front ++ 58 ∷ last ∷ [] → ⊥ }
+    ensures none { IsNone result
+        → (front : List ℕ) (last : ℕ) → word.now ≡ front ++ 58 ∷ last ∷ [] → ⊥ }
 {
     match word {
         [front @ .., b':', last] => Some((front, *last)),
