@@ -1,12 +1,10 @@
 -- Which step of the plain state each event shows.
-use Rattle.std.specs.Prelude.{ℕ, ◌≡◌, ◌<◌, ◌==◌, nat_lt, Bool, false, List, [], ◌∷◌, length, if◌then◌else◌}
+use Rattle.std.specs.Prelude.{ℕ, ◌==◌, nat_lt, Bool, false, List, [], ◌∷◌, if◌then◌else◌}
 use Rattle.plain_state.specs.declared.act.EventPlace.{EventPlace}
 use Rattle.plain_state.specs.declared.act.EventPlace.TheVariants.{Cell, Field, WeakCell, WeakField}
 use Rattle.plain_state.specs.declared.act.PlainAct.{PlainAct}
 use Rattle.plain_state.specs.declared.act.PlainAct.TheVariants as plain
 use Rattle.plain_state.specs.Lists.{Entry, times}
-use Rattle.plain_state.specs.State.{Plain, PlainSeat, seat_at}
-use Rattle.plain_state.specs.Steps.{IsReordering}
 use Rattle.core_events.specs.declared.act.Act.{Act}
 use Rattle.core_events.specs.declared.act.Act.TheVariants as act
 use Rattle.core_events.specs.declared.shape.Shape.{Shape}
@@ -72,16 +70,3 @@ shown_number (act.Check j p) w = w
 shown_number (act.Swap p new) w = w
 shown_number (act.Cas p old new) w = w
 shown_number a w = 0
-
--- the same seat, but for the order of its snapshots: a core has them in the order of their words
-abbrev pub IsSameSeat : PlainSeat → PlainSeat → Type 0
-IsSameSeat v w =
-    IsReordering v.snapshots w.snapshots × (w ≡ record v { snapshots = w.snapshots })
-
--- the same state, but for the order of snapshots
-pub record IsSame (p q : Plain) : Type 0 where
-  pub cells : q.cells ≡ p.cells
-  pub weak_cells : q.weak_cells ≡ p.weak_cells
-  pub slots : q.slots ≡ p.slots
-  pub count : length q.seats ≡ length p.seats
-  pub seats : (n : ℕ) → n < length p.seats → IsSameSeat (seat_at p n) (seat_at q n)

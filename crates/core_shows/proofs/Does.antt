@@ -1,37 +1,30 @@
 -- The rows of the plain steps, where the seat and the slot are known.
 use Rattle.std.proofs.Common.{◌≡◌, ◌⊎◌, inl, inr, ℕ, ◌+◌, ◌<◌, true, false, List, [], ◌∷◌, ◌++◌, length, refl, ap, ◌∙◌}
 use Rattle.std.specs.Prelude.{slice_set, Some, None}
+use Rattle.plain_state.specs.declared.act.EventPlace.{EventPlace}
 use Rattle.plain_state.specs.declared.act.PlainAct.TheVariants as plain
 use Rattle.plain_state.specs.declared.slot.Kind.{Kind}
 use Rattle.plain_state.specs.declared.slot.SlotId.{SlotId}
 use Rattle.plain_state.specs.declared.slot.PlainSlot.{PlainSlot}
 use Rattle.plain_state.specs.declared.slot.Stage.TheVariants.{Free, Blank, Live, Ended, Husk}
-use Rattle.plain_state.specs.Lists.{Entry, times, Loses}
+use Rattle.plain_state.specs.Lists.{Entry, times, Loses, Gains}
 use Rattle.plain_state.specs.State.{Plain, PlainSeat, seat_at, slot_at, with_seat, with_slot}
-use Rattle.plain_state.specs.Places.{Holds, held_times}
+use Rattle.plain_state.specs.Places.{Holds, held_times, IsOpen, place_kind, content}
 use Rattle.plain_state.specs.References.{strong_refs, weak_refs}
 use Rattle.plain_state.specs.Lawful.{IsCovered, HasNullFields}
-use Rattle.plain_state.specs.Steps.{Row, IsReordering}
+use Rattle.plain_state.specs.Steps.{Row, word_of, IsReordering}
 use Rattle.core_events.specs.declared.act.Act.{Act}
 use Rattle.core_events.specs.declared.shape.Shape.{Shape}
 use Rattle.core_events.specs.Runs.{Core, view_at, found, after}
 use Rattle.core_events.specs.Shows.{shows}
-use Rattle.core_events.specs.ShownSteps.{shown_act, shown_number, IsSame}
+use Rattle.core_events.specs.ShownSteps.{shown_act, shown_number}
 
--- seat n's act shows the row of its plain step, exactly
+-- seat n's act shows exactly the row of its plain step
 abbrev pub ShowsRow : Shape → Core → ℕ → Act → Type 0
 ShowsRow z c n a =
     Row (shows z c) n (shown_act z a (found z c n a) (view_at c n))
     (shown_number a (found z c n a))
     (shows z (after z c n a))
-
--- seat n's act shows the row of its plain step, but for the order of snapshots
-abbrev pub LikeRow : Shape → Core → ℕ → Act → Type 0
-LikeRow z c n a =
-    (q : Plain)
-    × Row (shows z c) n (shown_act z a (found z c n a) (view_at c n))
-    (shown_number a (found z c n a)) q
-    × IsSame q (shows z (after z c n a))
 
 module _ (p q : Plain) (n : ℕ) (y : PlainSeat) (is : seat_at p n ≡ y) where
   -- a seat with its own view written back is the seat
@@ -56,6 +49,14 @@ module _ (p q : Plain) (n : ℕ) (y : PlainSeat) (is : seat_at p n ≡ y) where
   pub does_weak_drop : (s : SlotId) (xs : List SlotId) → Loses y.weaks s xs
       → q ≡ with_seat p n (record y { weaks = xs }) → Row p n (plain.WeakDrop s) 0 q
   does_weak_drop s xs loses e = (xs, rw is loses, refl, rw is e)
+
+  -- a check that finds what is announced
+  pub does_check : (j m : ℕ) (place : EventPlace) (s : SlotId) (es : List Entry)
+      → IsOpen p n place → m ≡ word_of (content p place) → content p place ≡ Some s
+      → Gains y.snapshots (place_kind place, s) es
+      → q ≡ with_seat p n (record y { snapshots = es }) → Row p n (plain.Check j place) m q
+  does_check j m place s es open' found' holds gains e =
+      (open', found', inr (s, holds, (es, rw is gains, rw is e)))
 
   pub does_end_snapshot : (k : Kind) (s : SlotId) (es : List Entry) → Loses y.snapshots (k, s) es
       → q ≡ with_seat p n (record y { snapshots = es }) → Row p n (plain.EndSnapshot k s) 0 q

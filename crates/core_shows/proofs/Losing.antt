@@ -1,10 +1,10 @@
--- Lists that lose an element.
+-- Lists that lose or gain an element.
 use Rattle.std.proofs.Common.{◌≡◌, ◌≢◌, ℕ, zero, suc, ◌<◌, Bool, true, false, List, [], ◌∷◌, length, get_or, set, refl, ap, sym, ◌∙◌, arith}
 use Rattle.std.specs.Prelude.{if◌then◌else◌}
 use Rattle.std.proofs.lemmas.Bool.Decides.{nat_tests}
 use Rattle.plain_state.specs.declared.slot.Kind.{Kind}
 use Rattle.plain_state.specs.declared.slot.SlotId.{SlotId}
-use Rattle.plain_state.specs.Lists.{Entry, times, is_slot, Loses}
+use Rattle.plain_state.specs.Lists.{Entry, times, is_slot, Loses, Gains}
 use Rattle.core_events.specs.declared.view.Note.{Note}
 use Rattle.core_events.specs.declared.view.Note.TheVariants as note
 use Rattle.core_events.specs.Views.{valid_of, without}
@@ -70,3 +70,12 @@ valid_loses [] j k s h e = absurd (omega arith)
 valid_loses (n ∷ ns) zero k s h e = ([], valid_of ns, ap (λ (m : Note). valid_of (m ∷ ns)) e, refl)
 valid_loses (n ∷ ns) (suc j) k s h e = loses_first n ns (set ns j note.Idle) (k, s)
     (valid_loses ns j k s (omega arith) e)
+
+-- a note that becomes valid
+pub valid_gains : (ns : List Note) (j : ℕ) (k : Kind) (s : SlotId) → j < length ns
+    → IsNotValid (get_or ns j note.Idle)
+    → Gains (valid_of ns) (k, s) (valid_of (set ns j (note.Valid k s)))
+valid_gains [] j k s h off = absurd (omega arith)
+valid_gains (n ∷ ns) zero k s h off = ([], valid_of ns, refl, valid_skip n ns off)
+valid_gains (n ∷ ns) (suc j) k s h off = loses_first n (set ns j (note.Valid k s)) ns (k, s)
+    (valid_gains ns j k s (omega arith) off)

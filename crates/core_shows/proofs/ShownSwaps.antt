@@ -1,9 +1,7 @@
 -- A swap, a compare-exchange and a check show a plain step each.
-use Rattle.std.proofs.Common.{◌≡◌, ◌≢◌, ◌⊎◌, inl, inr, ⊎_elim, ℕ, ◌+◌, ◌<◌, Bool, true, false, List, [], ◌∷◌, ◌++◌, length, get_or, set, refl, ap, sym, ◌∙◌, subst, arith, append_assoc}
+use Rattle.std.proofs.Common.{◌≡◌, ◌≢◌, ◌⊎◌, inl, inr, ⊎_elim, ℕ, ◌+◌, ◌<◌, Bool, true, false, List, [], ◌∷◌, ◌++◌, length, set, refl, ap, sym, ◌∙◌, subst, arith, append_assoc}
 use Rattle.std.specs.Prelude.{slice_index, ◌==◌, nat_lt, if◌then◌else◌, Option, Some, None}
 use prog.Atomic.{either}
-use Rattle.std.proofs.lemmas.List.{length-set, length-map, get_or-set_same, get_or-set_other}
-use Rattle.std.proofs.lemmas.Bool.{cases_eq}
 use Rattle.std.proofs.lemmas.Bool.Decides.{nat_tests}
 use Rattle.plain_state.specs.declared.act.EventPlace.{EventPlace}
 use Rattle.plain_state.specs.declared.act.EventPlace.TheVariants.{Cell, Field, WeakCell, WeakField}
@@ -11,9 +9,9 @@ use Rattle.plain_state.specs.declared.act.PlainAct.TheVariants as plain
 use Rattle.plain_state.specs.declared.slot.Kind.{Kind}
 use Rattle.plain_state.specs.declared.slot.Kind.TheVariants.{Strong, Weak}
 use Rattle.plain_state.specs.declared.slot.SlotId.{SlotId}
-use Rattle.plain_state.specs.Lists.{Entry, times, entry_times}
+use Rattle.plain_state.specs.Lists.{Entry, times, Gains}
 use Rattle.plain_state.specs.Places.{place_kind, content, with_content}
-use Rattle.plain_state.specs.State.{Plain, PlainSeat, seat_at, with_seat, new_seat}
+use Rattle.plain_state.specs.State.{PlainSeat, seat_at, with_seat}
 use Rattle.plain_state.specs.Steps.{Row, word_of, joined, GivesUp, Replaces, Clears}
 use Rattle.core_events.specs.declared.act.Act.TheVariants as act
 use Rattle.core_events.specs.declared.outcome.Outcome.TheVariants as outcome
@@ -23,21 +21,22 @@ use Rattle.core_events.specs.declared.view.Move.{Move}
 use Rattle.core_events.specs.declared.view.Note.{Note}
 use Rattle.core_events.specs.declared.view.Note.TheVariants as note
 use Rattle.core_events.specs.Words.{slot_in, place_at}
-use Rattle.core_events.specs.Views.{valid_of, without, IsOpen, IsDyingField, HoldsStrongly}
+use Rattle.core_events.specs.Views.{note_of, valid_of, without, IsOpen, IsDyingField, HoldsStrongly}
 use Rattle.core_events.specs.Steps.{CanGive, exchanged, without_given, noted, is_valid, validated, with_note}
 use Rattle.core_events.specs.Runs.{Core, Enabled, view_at, after}
 use Rattle.core_events.specs.Shows.{shows, show_seat}
-use Rattle.core_events.specs.ShownSteps.{is_dying_field, IsSame, IsSameSeat}
-use Rattle.core_shows.proofs.Does.{ShowsRow, LikeRow}
+use Rattle.core_events.specs.ShownSteps.{is_dying_field}
 use Rattle.core_law.specs.Slots.{numbers}
 use Rattle.core_law.specs.Sound.{Sound}
-use Rattle.core_law.proofs.Kit.{total_at, entry_push, valid_set, valid_one}
+use Rattle.core_law.proofs.Kit.{total_at}
 use Rattle.core_law.proofs.Held.{strongly_refs}
 use Rattle.core_law.proofs.Keeps.{open_there, dying_there}
 use Rattle.core_law.proofs.Put.{put, at_seat}
 use Rattle.core_law.proofs.Writes.{IsPlace}
 use Rattle.core_shows.proofs.Bridge.{shown_seat}
-use Rattle.core_shows.proofs.Losing.{loses_without}
+use Rattle.core_shows.proofs.Does as does
+use Rattle.core_shows.proofs.Does.{ShowsRow}
+use Rattle.core_shows.proofs.Losing.{loses_without, valid_gains}
 use Rattle.core_shows.proofs.Quiet.{Quiet, still_quiet}
 use Rattle.core_shows.proofs.Ranges.{strong_not_dying}
 use Rattle.core_shows.proofs.ShownCounters.{same_plain}
@@ -232,110 +231,51 @@ module _ (z : Shape) (c : Core) (n : ℕ) (so : Sound z c) (hn : n < z.seats) wh
                 (λ x. record { fill = refl; dyi = refl; made = refl })) (sym is),
           )
 
--- the same state is the same
-pub same_self : (p : Plain) → IsSame p p
-same_self p = record {
-  cells = refl;
-  weak_cells = refl;
-  slots = refl;
-  count = refl;
-  seats = λ n hn. (λ k s. refl, refl);
-}
-
-same_seat_put : (p : Plain) (n : ℕ) (y y' : PlainSeat) → n < length p.seats → IsSameSeat y y'
-    → IsSame (with_seat p n y) (with_seat p n y')
-same_seat_put p n y y' hn same = record {
-  cells = refl;
-  weak_cells = refl;
-  slots = refl;
-  count = length-set p.seats n y' ∙ sym (length-set p.seats n y);
-  seats = λ m hm. ⊎_elim
-      (λ (e : m ≡ n). subst (λ (k : ℕ). IsSameSeat (get_or (set p.seats n y) k new_seat)
-      (get_or (set p.seats n y') k new_seat)) (sym e)
-      (subst (λ (a : PlainSeat). IsSameSeat a (get_or (set p.seats n y') n new_seat))
-      (sym (get_or-set_same p.seats n y new_seat hn))
-      (subst (λ (b : PlainSeat). IsSameSeat y b) (sym (get_or-set_same p.seats n y' new_seat hn))
-      same)))
-      (λ (ne : m ≢ n).
-      subst (λ (a : PlainSeat). IsSameSeat a (get_or (set p.seats n y') m new_seat))
-      (sym (get_or-set_other p.seats n m y new_seat ne))
-      (subst (λ (b : PlainSeat). IsSameSeat (get_or p.seats m new_seat) b)
-      (sym (get_or-set_other p.seats n m y' new_seat ne))
-      (λ k s. refl, refl)))
-      (cases_eq m n);
-}
-
-module _ (z : Shape) (c : Core) (n : ℕ) (so : Sound z c) (hn : n < z.seats) where
-  abbrev v' : CoreView
-  v' = view_at c n
-
-  is' : seat_at (shows z c) n ≡ show_seat (view_at c n)
-  is' = shown_seat z c n (at_seat z c n so hn)
-
   pub check_shows : (j : ℕ) (q : EventPlace) → Enabled z c n (act.Check j q)
-      → LikeRow z c n (act.Check j q)
+      → ShowsRow z c n (act.Check j q)
   check_shows j q on = subst
-      (λ (x : Note). (r : Plain) × Row (shows z c) n (plain.Check j q)
-      (slice_index c.words (place_at z q)) r
-      × IsSame r (shows z (put c n (noted (act.Check j q)
-      (if is_valid (slice_index c.words (place_at z q)) x then outcome.Valid else outcome.Moved
-      (slot_in (slice_index c.words (place_at z q))))
-      (if is_valid (slice_index c.words (place_at z q)) x then with_note j
-      (validated x) v' else v'))
-      (place_at z q) (slice_index c.words (place_at z q)))))
-      (sym on.1.2.1) (go (slice_index c.words (place_at z q) == on.1.2.0.0 + 1) refl)
+      (λ (x : Note). Row (shows z c) n (plain.Check j q) w
+      (shows z (put c n (noted (act.Check j q)
+      (if is_valid w x then outcome.Valid else outcome.Moved (slot_in w))
+      (if is_valid w x then with_note j (validated x) v else v)) (place_at z q) w)))
+      (sym noted_as) (go (w == s.0 + 1) refl)
     where
+      w : ℕ
+      w = slice_index c.words (place_at z q)
+
       there : IsPlace z q
       there = open_there z c n so hn q on.1.3
 
-      order : (k : Kind) (x : SlotId)
-          → entry_times k x (valid_of (set v'.notes j (note.Valid (place_kind q) on.1.2.0)))
-          ≡ entry_times k x (valid_of v'.notes ++ (place_kind q, on.1.2.0) ∷ [])
-      order k x =
+      -- what the seat announced
+      s : SlotId
+      s = on.1.2.0
+
+      noted_as : note_of v j ≡ note.Announced (place_kind q) s
+      noted_as = on.1.2.1
+
+      gains : Gains (valid_of v.notes) (place_kind q, s)
+          (valid_of (set v.notes j (note.Valid (place_kind q) s)))
+      gains =
           let four = (so.seats n hn).four in
           let small = on.1.1 in
-          let a = valid_set k x v'.notes j (note.Valid (place_kind q) on.1.2.0) (omega arith) in
-          let b = ap (valid_one k x) on.1.2.1 in
-          let e = entry_push k x (valid_of v'.notes) (place_kind q, on.1.2.0) in omega arith
+          valid_gains v.notes j (place_kind q) s (omega arith) (λ k x e. absurd (cc (noted_as, e)))
 
-      go : (b : Bool) → (slice_index c.words (place_at z q) == on.1.2.0.0 + 1) ≡ b
-          → (r : Plain) × Row (shows z c) n (plain.Check j q)
-          (slice_index c.words (place_at z q)) r
-          × IsSame r (shows z (put c n (noted (act.Check j q)
-          (if b then outcome.Valid else outcome.Moved (slot_in
-          (slice_index c.words (place_at z q))))
-          (if b then with_note j (note.Valid (place_kind q) on.1.2.0) v' else v'))
-          (place_at z q) (slice_index c.words (place_at z q))))
+      go : (b : Bool) → (w == s.0 + 1) ≡ b
+          → Row (shows z c) n (plain.Check j q) w
+          (shows z (put c n (noted (act.Check j q)
+          (if b then outcome.Valid else outcome.Moved (slot_in w))
+          (if b then with_note j (note.Valid (place_kind q) s) v else v)) (place_at z q) w))
       go true test =
-          let w_is : slice_index c.words (place_at z q) ≡ on.1.2.0.0
-          + 1 = grind (arith, nat_tests) in
-          let l = length-map c.views show_seat in
-          let hv = at_seat z c n so hn in (
-            with_seat (shows z c) n (record (show_seat v')
-                { snapshots = valid_of v'.notes ++ (place_kind q, on.1.2.0) ∷ [] }),
-            (
-              shown_open z c n q so hn on.1.3,
-              shown_word z c q there,
-              inr (
-                on.1.2.0,
-                shown_content z c q there ∙ (ap slot_in w_is ∙ slot_word (Some on.1.2.0)),
-                rw is' refl,
-              ),
-            ),
-            subst (λ (r : Plain). IsSame (with_seat (shows z c) n
-                (record (show_seat v') {
-                  snapshots = valid_of v'.notes ++ (place_kind q, on.1.2.0)
-                      ∷ [];
-                })) r)
-                (sym (still_quiet z c n _ (place_at z q) so hn
-                (λ x. record { fill = refl; dyi = refl; made = refl })))
-                (same_seat_put (shows z c) n _ _ (omega arith) (order, refl)),
-          )
+          let found' : w ≡ s.0 + 1 = grind (arith, nat_tests) in
+          does.does_check (shows z c) _ n (show_seat v) is j w q s
+          (valid_of (set v.notes j (note.Valid (place_kind q) s)))
+          (shown_open z c n q so hn on.1.3) (shown_word z c q there)
+          (shown_content z c q there ∙ (ap slot_in found' ∙ slot_word (Some s))) gains
+          (still_quiet z c n _ (place_at z q) so hn
+          (λ x. record { fill = refl; dyi = refl; made = refl }))
       go false test = (
-        shows z c,
-        (shown_open z c n q so hn on.1.3, shown_word z c q there, inl refl),
-        subst (λ (r : Plain). IsSame (shows z c) r)
-            (sym (same_plain (shows z c) _ n _ (still_quiet z c n _ (place_at z q) so hn
-            (λ x. record { fill = refl; dyi = refl; made = refl })) (sym is')))
-            (same_self (shows z c)),
+        shown_open z c n q so hn on.1.3,
+        shown_word z c q there,
+        inl (same_plain (shows z c) _ n _ (still_quiet z c n _ (place_at z q) so hn
+            (λ x. record { fill = refl; dyi = refl; made = refl })) (sym is)),
       )

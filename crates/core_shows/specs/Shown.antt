@@ -3,7 +3,7 @@ use Rattle.std.specs.Prelude.{ℕ, ◌≡◌, ◌≢◌, ◌⊎◌, false, List,
 use Rattle.plain_state.specs.declared.slot.SlotId.{SlotId}
 use Rattle.plain_state.specs.declared.slot.Stage.TheVariants.{Free, Live}
 use Rattle.plain_state.specs.References.{strong_refs, weak_refs}
-use Rattle.plain_state.specs.State.{Plain, slot_at, stage_at}
+use Rattle.plain_state.specs.State.{slot_at, stage_at}
 use Rattle.plain_state.specs.Steps.{Does}
 use Rattle.core_events.specs.declared.act.Act.{Act}
 use Rattle.core_events.specs.declared.act.Event.{Event}
@@ -13,27 +13,19 @@ use Rattle.core_events.specs.Views.{Holds, HoldsStrongly}
 use Rattle.core_events.specs.Counts.{strong, weak, fillers, givers}
 use Rattle.core_events.specs.Runs.{Core, view_at, found, after}
 use Rattle.core_events.specs.Shows.{shows}
-use Rattle.core_events.specs.ShownSteps.{shown_act, shown_number, IsSame}
+use Rattle.core_events.specs.ShownSteps.{shown_act, shown_number}
 
--- seat n's act shows its plain step, exactly
+-- seat n's act shows exactly its plain step
 abbrev pub ShowsStep : Shape → Core → ℕ → Act → Type 0
 ShowsStep z c n a =
     Does (shows z c) n (shown_act z a (found z c n a) (view_at c n))
     (shown_number a (found z c n a))
     (shows z (after z c n a))
 
--- seat n's act shows its plain step, but for the order of snapshots
-abbrev pub ShowsLike : Shape → Core → ℕ → Act → Type 0
-ShowsLike z c n a =
-    (q : Plain)
-    × Does (shows z c) n (shown_act z a (found z c n a) (view_at c n))
-    (shown_number a (found z c n a)) q
-    × IsSame q (shows z (after z c n a))
-
 -- so does each of these events in its turn
 abbrev pub AllShow : Shape → Core → List Event → Type 0
 AllShow z c [] = Unit {0}
-AllShow z c (e ∷ es) = ShowsLike z c e.seat e.act × AllShow z (after z c e.seat e.act) es
+AllShow z c (e ∷ es) = ShowsStep z c e.seat e.act × AllShow z (after z c e.seat e.act) es
 
 -- a slot's words count the references of the plain state that the core shows
 abbrev pub CountsShown : Shape → Core → SlotId → Type 0

@@ -9,7 +9,7 @@ ghost use Rattle.core_events.specs.declared.shape.Quota.{Quota};
 ghost use Rattle.core_events.specs.Runs.{AreEnabled, AreQuotas, Core, Enabled, IsShape, run, start};
 ghost use Rattle.core_events.specs.Shows.{shows};
 ghost use Rattle.core_law.specs.Sound.{Sound};
-ghost use Rattle.core_shows.specs.Shown.{AllShow, CountsShown, HeldStays, ShowsLike};
+ghost use Rattle.core_shows.specs.Shown.{AllShow, CountsShown, HeldStays, ShowsStep};
 
 /// After every list of events that are enabled in turn the core shows a lawful plain state.
 pub fn always_lawful()
@@ -23,7 +23,7 @@ pub fn sound_is_lawful()
     ensures { (z : Shape) (c : Core) → Sound z c → Lawful (shows z c) }
 {}
 
-/// Each of these events shows one plain step.
+/// Each of these events shows exactly one plain step.
 pub fn always_shows()
     ensures { (z : Shape) (qs : List Quota) (es : List Event) → IsShape z → AreQuotas z qs
         → AreEnabled z (start z qs) es → AllShow z (start z qs) es }
@@ -32,7 +32,7 @@ pub fn always_shows()
 /// So does each event that is enabled in a core of which the invariant holds.
 pub fn event_shows()
     ensures { (z : Shape) (c : Core) (n : ℕ) (a : Act) → Sound z c → Enabled z c n a
-        → ShowsLike z c n a }
+        → ShowsStep z c n a }
 {}
 
 /// A slot's two words count the references of the plain state, or mark the slot as free.

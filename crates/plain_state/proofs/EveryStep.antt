@@ -74,8 +74,10 @@ step_sound p q n (act.Check j place) found so d =
     ⊎_elim
     (λ same. subst Sound (sym same) so)
     (λ taken.
-    subst Sound (sym taken.2)
-    (check_sound p n place taken.0 so d.0.0 (open_there p n place so d.0.0 d.1.0) taken.1))
+    let gain = taken.2 in
+    let there = open_there p n place so d.0.0 d.1.0 in
+    subst Sound (sym gain.2)
+    (check_sound p n place taken.0 gain.0 so d.0.0 there taken.1 gain.1))
     d.1.2
 step_sound p q n (act.EndSnapshot k s) found so d =
     subst Sound (sym d.1.3) (end_snapshot_sound p n k s d.1.0 so d.0.0 d.1.1)

@@ -9,14 +9,14 @@ use Rattle.plain_state.specs.declared.slot.Kind.TheVariants.{Strong, Weak}
 use Rattle.plain_state.specs.declared.slot.SlotId.{SlotId}
 use Rattle.plain_state.specs.declared.slot.PlainSlot.{PlainSlot}
 use Rattle.plain_state.specs.declared.slot.Stage.TheVariants.{Free, Live}
-use Rattle.plain_state.specs.Lists.{Entry, Loses}
+use Rattle.plain_state.specs.Lists.{Entry, Loses, Gains}
 use Rattle.plain_state.specs.State.{Plain, PlainSeat, new_slot, seat_at, slot_at, stage_at, with_seat}
 use Rattle.plain_state.specs.Places.{Holds, HoldsStrongly, place_kind, content, IsOpen}
 use Rattle.plain_state.specs.References.{held_in, places}
 use Rattle.plain_state.specs.Lawful.{IsCovered}
 use Rattle.plain_state.specs.Steps.{IsReordering}
 use Rattle.plain_state.specs.Sound.{Sound}
-use Rattle.plain_state.proofs.Kit.{none_or_some, cases_slot, held_self, held_other, held_once, times_push, times_loses, entry_push, entry_loses}
+use Rattle.plain_state.proofs.Kit.{none_or_some, cases_slot, held_self, held_other, held_once, times_push, times_loses, entry_loses}
 use Rattle.plain_state.proofs.Changes.{IsThere, seat_change, seat_part, place_part}
 use Rattle.plain_state.proofs.SlotLaw.{SlotLaw, NoMore, numbers, slot_law, sound_by, no_more_here, live_unmarked, none_strong, none_weak, none_under, none_under_weak, strong_sum, one_strong, one_weak}
 
@@ -215,17 +215,16 @@ weak_drop_sound p n s xs so hn loses =
       weak_covered = λ k h. omega arith;
     })
 
--- a snapshot of a slot that a place of its kind holds
-abbrev with_snapshot : Entry → PlainSeat → PlainSeat
-with_snapshot e v = record v { snapshots = v.snapshots ++ e ∷ [] }
-
-snapshot_sound : (p : Plain) (n : ℕ) (k : Kind) (s : SlotId) → Sound p → n < length p.seats
-    → 0 < places k p s → Sound (with_seat p n (with_snapshot (k, s) (seat_at p n)))
-snapshot_sound p n Strong s so hn held =
-    less_sound p n (with_snapshot (Strong, s) (seat_at p n)) so (λ t.
-    let c = seat_change p n (with_snapshot (Strong, s) (seat_at p n)) t hn in
-    let a = entry_push Strong t (Strong, s) (seat_at p n).snapshots in
-    let b = entry_push Weak t (Strong, s) (seat_at p n).snapshots in record {
+-- one more snapshot, of a slot that a place of its kind holds
+snapshot_sound : (p : Plain) (n : ℕ) (k : Kind) (s : SlotId) (es : List Entry) → Sound p
+    → n < length p.seats
+    → 0 < places k p s → Gains (seat_at p n).snapshots (k, s) es
+    → Sound (with_seat p n (record (seat_at p n) { snapshots = es }))
+snapshot_sound p n Strong s es so hn held gains =
+    less_sound p n (record (seat_at p n) { snapshots = es }) so (λ t.
+    let c = seat_change p n (record (seat_at p n) { snapshots = es }) t hn in
+    let a = entry_loses Strong t (Strong, s) es (seat_at p n).snapshots gains in
+    let b = entry_loses Weak t (Strong, s) es (seat_at p n).snapshots gains in record {
       strong = omega arith;
       weak = omega arith;
       adds = omega arith;
@@ -237,11 +236,11 @@ snapshot_sound p n Strong s so hn held =
           (cases_slot t s);
       weak_covered = λ q h. omega arith;
     })
-snapshot_sound p n Weak s so hn held =
-    less_sound p n (with_snapshot (Weak, s) (seat_at p n)) so (λ t.
-    let c = seat_change p n (with_snapshot (Weak, s) (seat_at p n)) t hn in
-    let a = entry_push Strong t (Weak, s) (seat_at p n).snapshots in
-    let b = entry_push Weak t (Weak, s) (seat_at p n).snapshots in record {
+snapshot_sound p n Weak s es so hn held gains =
+    less_sound p n (record (seat_at p n) { snapshots = es }) so (λ t.
+    let c = seat_change p n (record (seat_at p n) { snapshots = es }) t hn in
+    let a = entry_loses Strong t (Weak, s) es (seat_at p n).snapshots gains in
+    let b = entry_loses Weak t (Weak, s) es (seat_at p n).snapshots gains in record {
       strong = omega arith;
       weak = omega arith;
       adds = omega arith;
@@ -254,17 +253,16 @@ snapshot_sound p n Weak s so hn held =
           (cases_slot t s);
     })
 
-pub check_sound : (p : Plain) (n : ℕ) (place : EventPlace) (s : SlotId) → Sound p
+pub check_sound : (p : Plain) (n : ℕ) (place : EventPlace) (s : SlotId) (es : List Entry) → Sound p
     → n < length p.seats
     → IsThere p place → content p place ≡ Some s
-    → Sound (with_seat p n (record (seat_at p n) {
-      snapshots = (seat_at p n).snapshots ++ (place_kind place, s) ∷ [];
-    }))
-check_sound p n place s so hn there holds =
+    → Gains (seat_at p n).snapshots (place_kind place, s) es
+    → Sound (with_seat p n (record (seat_at p n) { snapshots = es }))
+check_sound p n place s es so hn there holds gains =
     let part = place_part p place s there in
     let is : held_in s (content p place) ≡ held_in s (Some s) = ap (held_in s) holds in
     let o = held_self s in
-    snapshot_sound p n (place_kind place) s so hn (omega arith)
+    snapshot_sound p n (place_kind place) s es so hn (omega arith) gains
 
 pub end_snapshot_sound : (p : Plain) (n : ℕ) (k : Kind) (s : SlotId) (es : List Entry) → Sound p
     → n < length p.seats

@@ -1,4 +1,5 @@
--- Lists of references, as multisets: how often a slot stands in one, and what a list becomes when it loses one.
+-- Lists of references, as multisets: how often a slot stands in one, and what a list becomes when it loses or gains
+-- one.
 use Rattle.std.specs.Prelude.{ℕ, ◌≡◌, ◌==◌, ◌&&◌, Bool, true, false, List, ◌∷◌, ◌++◌, count_by, Option, Some, None}
 use Rattle.plain_state.specs.declared.slot.Kind.{Kind}
 use Rattle.plain_state.specs.declared.slot.Kind.TheVariants.{Strong, Weak}
@@ -41,3 +42,7 @@ cell_times s cs = count_by (holds s) cs
 abbrev pub Loses : {A : Type 0} → List A → A → List A → Type 0
 Loses {A = A} xs x ys =
     (front : List A) × (back : List A) × (xs ≡ front ++ x ∷ back) × (ys ≡ front ++ back)
+
+-- ys is xs with one x more, wherever it stands
+abbrev pub Gains : {A : Type 0} → List A → A → List A → Type 0
+Gains {A = A} xs x ys = Loses ys x xs

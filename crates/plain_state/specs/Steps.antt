@@ -7,7 +7,7 @@ use Rattle.plain_state.specs.declared.slot.Kind.{Kind}
 use Rattle.plain_state.specs.declared.slot.Kind.TheVariants.{Strong, Weak}
 use Rattle.plain_state.specs.declared.slot.SlotId.{SlotId}
 use Rattle.plain_state.specs.declared.slot.Stage.TheVariants.{Free, Blank, Live, Ended, Husk}
-use Rattle.plain_state.specs.Lists.{Entry, times, entry_times, Loses}
+use Rattle.plain_state.specs.Lists.{Entry, times, entry_times, Loses, Gains}
 use Rattle.plain_state.specs.State.{Plain, PlainSeat, seat_at, slot_at, stage_at, with_seat, with_slot}
 use Rattle.plain_state.specs.Places.{Holds, held_times, IsOpen, IsDyingField, place_kind, content, with_content}
 use Rattle.plain_state.specs.References.{strong_refs, weak_refs}
@@ -105,7 +105,8 @@ Row p n (act.Check j place) found q =
     let v = seat_at p n in
     IsOpen p n place × (found ≡ word_of (content p place))
     × ((q ≡ p) ⊎ ((s : SlotId) × (content p place ≡ Some s)
-    × (q ≡ with_seat p n (record v { snapshots = v.snapshots ++ (place_kind place, s) ∷ [] }))))
+    × ((es : List Entry) × Gains v.snapshots (place_kind place, s) es
+    × (q ≡ with_seat p n (record v { snapshots = es })))))
 Row p n (act.EndSnapshot k s) found q =
     let v = seat_at p n in
     (es : List Entry) × Loses v.snapshots (k, s) es × (found ≡ 0)

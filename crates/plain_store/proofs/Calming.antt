@@ -146,7 +146,10 @@ step_calm p q (act.Look place) found so gives d = calm_still p q d.1.2
 step_calm p q (act.Check j place) found so gives d =
     ⊎_elim
     (λ same. calm_still p q same)
-    (λ taken. subst (StaysCalm p) (sym taken.2) (seat_calm p 0 _ d.0.0 (λ t. (omega arith, omega arith))))
+    (λ taken.
+    let gain = taken.2 in
+    subst (StaysCalm p) (sym gain.2)
+    (seat_calm p 0 (record (seat_at p 0) { snapshots = gain.0 }) d.0.0 (λ t. (omega arith, omega arith))))
     d.1.2
 step_calm p q (act.EndSnapshot k s) found so gives d =
     subst (StaysCalm p) (sym d.1.3) (seat_calm p 0 (record (seat_at p 0) { snapshots = d.1.0 }) d.0.0 (λ t. (omega arith, omega arith)))

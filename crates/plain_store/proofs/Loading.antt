@@ -33,7 +33,10 @@ last_lost xs x = (xs, [], refl, sym (append-nil xs))
 
 module _ (h : Store) (place : EventPlace) (s : SlotId) (k : Kept h) (opened : IsOpen (plain_of h) 0 place) (holds : content (plain_of h) place ≡ Some s) where
   pub check_does : Does (plain_of h) 0 (act.Check 0 place) (s.0 + 1) (snapped (plain_of h) place s)
-  check_does = ((lit< tt, refl), (opened, sym (ap word_of holds), inr (s, holds, refl)))
+  check_does = (
+    (lit< tt, refl),
+    (opened, sym (ap word_of holds), inr (s, holds, (_, last_lost h.snapshots.items (place_kind place, s), refl))),
+  )
 
   pub snapped_sound : Sound (snapped (plain_of h) place s)
   snapped_sound = step_sound (plain_of h) (snapped (plain_of h) place s) 0 (act.Check 0 place) (s.0 + 1) k.sound check_does
