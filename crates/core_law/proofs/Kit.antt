@@ -178,17 +178,6 @@ valid_cons k s note.Idle ns = omega arith
 valid_cons k s (note.Announced k' x) ns = omega arith
 valid_cons k s (note.Valid k' x) ns = entry_cons k s (k', x) (valid_of ns)
 
-pub valid_set : (k : Kind) (s : SlotId) (ns : List Note) (j : ℕ) (y : Note) → j < length ns
-    → entry_times k s (valid_of (set ns j y)) + valid_one k s (get_or ns j note.Idle)
-    ≡ entry_times k s (valid_of ns) + valid_one k s y
-valid_set k s [] j y h = absurd (omega arith)
-valid_set k s (n ∷ ns) zero y h =
-    let a = valid_cons k s n ns in let b = valid_cons k s y ns in omega arith
-valid_set k s (n ∷ ns) (suc j) y h =
-    let a = valid_cons k s n ns in
-    let b = valid_cons k s n (set ns j y) in
-    let r = valid_set k s ns j y (omega arith) in omega arith
-
 -- a note that is written, if it is there
 pub noting_set : (s : SlotId) (ns : List Note) (j : ℕ) (y : Note)
     → noting s (set ns j y) ≤ noting s ns + in_note s y
