@@ -1,0 +1,3 @@
+pub mod Steps
+pub mod Codes
+pub mod Ejections
