@@ -1,0 +1,3 @@
+pub mod Owns
+pub mod Acts
+pub mod Laws
