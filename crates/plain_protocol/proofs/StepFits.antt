@@ -1,5 +1,5 @@
 -- Every plain step keeps the payloads of all objects fitting.
-use Rattle.std.proofs.Common.{◌≡◌, ◌⊎◌, inl, inr, ⊎_elim, ℕ, Bool, true, false, List, refl, sym, subst, Option, None}
+use Rattle.std.proofs.Common.{◌≡◌, inl, ⊎_elim, ℕ, Bool, true, false, List, refl, sym, subst, Option, None}
 use Rattle.std.specs.Prelude.{◌==◌, if◌then◌else◌}
 use Rattle.plain_state.specs.declared.act.EventPlace.{EventPlace}
 use Rattle.plain_state.specs.declared.act.EventPlace.TheVariants.{Cell, Field, WeakCell, WeakField}
@@ -7,7 +7,6 @@ use Rattle.plain_state.specs.declared.act.PlainAct.{PlainAct}
 use Rattle.plain_state.specs.declared.act.PlainAct.TheVariants as act
 use Rattle.plain_state.specs.declared.slot.PlainSlot.{PlainSlot}
 use Rattle.plain_state.specs.declared.slot.SlotId.{SlotId}
-use Rattle.plain_state.specs.declared.slot.Stage.TheVariants.{Free, Blank, Live, Ended, Husk}
 use Rattle.plain_state.specs.State.{Plain, slot_at, with_slot}
 use Rattle.plain_state.specs.Lawful.{IsVacant}
 use Rattle.plain_state.specs.Places.{with_field, with_content}
@@ -17,8 +16,10 @@ use Rattle.plain_state.proofs.Fitting.{Fits, slot_fits}
 
 module _ (fits : List ℕ → Type 0) (p : Plain) where
   -- a slot that is without an object has any payload
-  vacant_fits : (s : SlotId) (y : PlainSlot) → IsVacant y → AllFit fits p → AllFit fits (with_slot p s y)
-  vacant_fits s y vacant all = slot_fits fits p s y all (λ has. absurd (⊎_elim vacant.0 vacant.1 has))
+  vacant_fits : (s : SlotId) (y : PlainSlot) → IsVacant y → AllFit fits p
+      → AllFit fits (with_slot p s y)
+  vacant_fits s y vacant all =
+      slot_fits fits p s y all (λ has. absurd (⊎_elim vacant.0 vacant.1 has))
 
   field_fits : (first : Bool) (new : Option SlotId) (x : PlainSlot) → Fits fits x
       → Fits fits (if first then record x { first = new } else record x { second = new })
@@ -37,7 +38,8 @@ module _ (fits : List ℕ → Type 0) (p : Plain) where
       slot_fits fits p s (record (slot_at p s) { weak_field = new }) all (all s)
 
 -- a place is written, and a seat with it
-replaces_fits : (fits : List ℕ → Type 0) (p q : Plain) (n : ℕ) (place : EventPlace) (new : Option SlotId)
+replaces_fits : (fits : List ℕ → Type 0) (p q : Plain) (n : ℕ) (place : EventPlace)
+    (new : Option SlotId)
     → Replaces p n place new q → AllFit fits p → AllFit fits q
 replaces_fits fits p q n place new is all =
     subst (AllFit fits) (sym is.2) (content_fits fits _ place new all)
@@ -49,7 +51,8 @@ clears_fits fits p q n place is all =
 
 pub step_fits : (fits : List ℕ → Type 0) (p q : Plain) (n : ℕ) (step : PlainAct) (found : ℕ)
     → Does p n step found q
-    → ((s : SlotId) → step ≡ act.Make s → fits (slot_at p s).payload) → AllFit fits p → AllFit fits q
+    → ((s : SlotId) → step ≡ act.Make s → fits (slot_at p s).payload)
+    → AllFit fits p → AllFit fits q
 step_fits fits p q n (act.Claim s) found d made all =
     subst (AllFit fits) (sym d.1.3)
     (vacant_fits fits p s _ (λ e. cc, λ e. cc) all)

@@ -6,8 +6,8 @@ use Rattle.plain_state.specs.declared.act.PlainAct.{PlainAct}
 use Rattle.plain_state.specs.declared.act.PlainAct.TheVariants as act
 use Rattle.plain_state.specs.State.{Plain, slot_at}
 
--- the step makes no object, changes no cell and no field of a live object, and no seat leaves; a Clear acts in a slot
--- that has ended
+-- the step makes no object, changes no cell and no field of a live object, and no seat leaves by it: a Clear
+-- acts in a slot that has ended
 abbrev pub IsCalm : PlainAct → Type 0
 IsCalm (act.Claim s) = Unit {0}
 IsCalm (act.Fill s i word) = Unit {0}

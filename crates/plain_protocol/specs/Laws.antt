@@ -12,7 +12,8 @@ use Rattle.plain_protocol.specs.Owns.{OwnPart, own_part}
 use Rattle.plain_protocol.specs.Acts.{IsCalm, Owned, IsForeign}
 
 -- the state is lawful, each seat has a view, and the law holds of the state and all views
-pub record Meets {V : Type 0} (holds : Plain → List V → Type 0) (p : Plain) (views : List V) : Type 0 where
+pub record Meets {V : Type 0} (holds : Plain → List V → Type 0) (p : Plain) (views : List V)
+    : Type 0 where
   pub lawful : Lawful p
   pub count : length views ≡ length p.seats
   pub law : holds p views
@@ -36,7 +37,7 @@ module _ {V : Type 0} (law : Plain → List V → Type 0) where
       (p q : Plain) (n : ℕ) (act : PlainAct) (found : ℕ) (views : List V)
       → Meets law p views → IsForeign owned p act → Does p n act found q → law q views
 
-  -- where seat j leaves, the law is kept with its view joined to seat 0's, and a gone view left behind
+  -- where seat j leaves, the law is kept: its view joins seat 0's, and a gone view stays in its place
   abbrev pub KeptByLeave : (V → V → V) → V → Type 0
   KeptByLeave joined gone =
       (p q : Plain) (j found : ℕ) (views : List V)
@@ -60,4 +61,5 @@ module _ {V : Type 0} (law : Plain → List V → Type 0) where
 abbrev pub KeepsFitting : (List ℕ → Type 0) → Type 0
 KeepsFitting fits =
     (p q : Plain) (n : ℕ) (step : PlainAct) (found : ℕ) → Lawful p → Does p n step found q
-    → ((s : SlotId) → step ≡ act.Make s → fits (slot_at p s).payload) → AllFit fits p → AllFit fits q
+    → ((s : SlotId) → step ≡ act.Make s → fits (slot_at p s).payload)
+    → AllFit fits p → AllFit fits q

@@ -27,7 +27,7 @@ HasSlot v s = has_slot v s ≡ true
 abbrev pub is_alone : Plain → ℕ → Bool
 is_alone p n = n == 0 && list_all (λ v. v.left) (drop 1 p.seats)
 
--- a seat's lists and adds, the object of each slot that it has, and the whole state while it is alone
+-- a seat's lists and adds, the object of each slot that it has, the whole state while it is alone
 pub record OwnPart : Type 0 where
   pub seat : PlainSeat
   pub objects : SlotId → Option Object

@@ -1,6 +1,5 @@
 -- A view that stays as it is.
-use Rattle.std.proofs.Common.{◌≡◌, ℕ, List, refl, sym, subst}
-use Rattle.std.specs.Prelude.{slice_index_or}
+use Rattle.std.proofs.Common.{◌≡◌, List, refl, sym, subst}
 use Rattle.std.proofs.lemmas.List.{set-get_or}
 use Rattle.plain_state.specs.State.{Plain}
 use Rattle.plain_protocol.specs.Acts.{IsCalm}

@@ -1,5 +1,5 @@
 //! What a client does with its view at a step.
-ghost use Rattle.std.specs.Prelude.{◌≡◌, ℕ, ⊤, refl};
+ghost use Rattle.std.specs.Prelude.{◌≡◌, ℕ};
 ghost use Rattle.plain_state.specs.declared.act.PlainAct.{PlainAct};
 ghost use Rattle.plain_state.specs.State.{Plain};
 ghost use Rattle.plain_protocol.specs.Acts.{IsCalm};
@@ -7,8 +7,7 @@ ghost use Rattle.plain_protocol.specs.Owns.{OwnPart};
 ghost use Rattle.plain_protocol.specs.Laws.{Keeps};
 ghost use Rattle.plain_protocol.specs.Views.{still_keeps};
 
-use crate::protocol::{NoLaw, Protocol};
-use plain_state::PayloadKind;
+use crate::protocol::Protocol;
 
 /// What becomes of a seat's view at a step that the seat makes.
 pub trait Deed<P: Protocol>: Copy {
@@ -38,18 +37,4 @@ impl<P: Protocol> Deed<P> for Still {
     ghost allows = { λ it of p q n v w. w ≡ v };
 
     ghost keeps = { λ it of. still_keeps (P.law of) P.gone (P.calm of) };
-}
-
-/// The deed of a client without a law, at whatever step.
-#[derive(Clone, Copy, Debug, Drop)]
-pub struct AnyStep;
-
-impl<K: PayloadKind> Deed<NoLaw<K>> for AnyStep {
-    ghost ready = { λ it of own v act. ⊤ };
-
-    ghost next = { λ it of own v act found. v };
-
-    ghost allows = { λ it of p q n v w. w ≡ v };
-
-    ghost keeps = { λ it of p q views n act found meets at ready does. (tt, refl) };
 }

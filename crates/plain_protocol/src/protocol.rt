@@ -1,10 +1,9 @@
 //! What a client of a domain adds to the rule of its table.
-ghost use Rattle.std.specs.Prelude.{ℕ, List, ⊤};
+ghost use Rattle.std.specs.Prelude.{ℕ, List};
 ghost use Rattle.plain_state.specs.State.{Plain};
 ghost use Rattle.plain_protocol.specs.Laws.{Starts, KeptByCalm, KeptByForeign, KeptByLeave};
 
 use plain_state::PayloadKind;
-use std::marker::PhantomData;
 
 /// A view for each seat, and a law over the plain state and all views.
 pub trait Protocol {
@@ -47,48 +46,8 @@ pub trait Protocol {
     /// Steps that leave alone what the protocol owns keep it, with all views as they were.
     ghost foreign: { (it : Self)
         → KeptByForeign (law it) (record {
-            cell = owns_cell it;
-            weak_cell = owns_weak_cell it;
-            payload = owns_payload it;
+          cell = owns_cell it;
+          weak_cell = owns_weak_cell it;
+          payload = owns_payload it;
         }) };
-}
-
-/// The protocol that asks nothing: its views are empty, and its law always holds.
-#[derive(Debug, Drop)]
-pub struct NoLaw<K> {
-    kind: PhantomData<K>,
-}
-
-impl<K: PayloadKind> NoLaw<K> {
-    pub fn new() -> NoLaw<K> {
-        NoLaw { kind: PhantomData }
-    }
-}
-
-impl<K: PayloadKind> Protocol for NoLaw<K> {
-    type View = ();
-
-    type Kind = K;
-
-    ghost first = { λ it n. tt };
-
-    ghost law = { λ it p views. ⊤ };
-
-    ghost joined = { λ it root v. tt };
-
-    ghost gone = { tt };
-
-    ghost owns_cell = { λ it i. ⊥ };
-
-    ghost owns_weak_cell = { λ it i. ⊥ };
-
-    ghost owns_payload = { λ it words. ⊥ };
-
-    ghost start = { λ it seats slots cells weak_cells. tt };
-
-    ghost calm = { λ it p q n act found views meets is_calm does. tt };
-
-    ghost leave = { λ it p q j found views meets does. tt };
-
-    ghost foreign = { λ it p q n act found views meets is_foreign does. tt };
 }
