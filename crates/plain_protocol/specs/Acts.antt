@@ -6,8 +6,8 @@ use Rattle.plain_state.specs.declared.act.PlainAct.{PlainAct}
 use Rattle.plain_state.specs.declared.act.PlainAct.TheVariants as act
 use Rattle.plain_state.specs.State.{Plain, slot_at}
 
--- the step makes no object, changes no cell and no field of a live object, and no seat leaves by it: a Clear
--- acts in a slot that has ended
+-- the step makes no object, changes no cell and no field of a live object, and isn't a leave; a Clear acts
+-- in a slot that has ended
 abbrev pub IsCalm : PlainAct → Type 0
 IsCalm (act.Claim s) = Unit {0}
 IsCalm (act.Fill s i word) = Unit {0}
@@ -47,7 +47,7 @@ OwnsPlace owned p (Field s i) = owned.payload (slot_at p s).payload
 OwnsPlace owned p (WeakCell i) = owned.weak_cell i
 OwnsPlace owned p (WeakField s) = owned.payload (slot_at p s).payload
 
--- the step changes no owned place and makes no owned object, and no seat leaves
+-- the step makes no owned object, changes no owned place, and isn't a leave
 abbrev pub IsForeign : Owned → Plain → PlainAct → Type 0
 IsForeign owned p (act.Claim s) = Unit {0}
 IsForeign owned p (act.Fill s i word) = Unit {0}

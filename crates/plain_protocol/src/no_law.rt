@@ -13,6 +13,7 @@ pub struct NoLaw<K> {
 }
 
 impl<K: PayloadKind> NoLaw<K> {
+    /// It is the same for every kind of payloads.
     pub fn new() -> NoLaw<K> {
         NoLaw { kind: PhantomData }
     }
