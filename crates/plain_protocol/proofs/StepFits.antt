@@ -74,7 +74,7 @@ step_fits fits p q n (act.Look place) found d made all = subst (AllFit fits) (sy
 step_fits fits p q n (act.Check j place) found d made all =
     ⊎_elim
     (λ same. subst (AllFit fits) (sym same) all)
-    (λ taken. subst (AllFit fits) (sym taken.2) all)
+    (λ taken. subst (AllFit fits) (sym taken.2.2) all)
     d.1.2
 step_fits fits p q n (act.EndSnapshot k s) found d made all = subst (AllFit fits) (sym d.1.3) all
 step_fits fits p q n (act.Replace place new) found d made all =

@@ -60,6 +60,6 @@ module _ {V : Type 0} (law : Plain → List V → Type 0) where
 -- the payloads of all objects fit after a step, where an object that it makes has one that fits
 abbrev pub KeepsFitting : (List ℕ → Type 0) → Type 0
 KeepsFitting fits =
-    (p q : Plain) (n : ℕ) (step : PlainAct) (found : ℕ) → Lawful p → Does p n step found q
+    (p q : Plain) (n : ℕ) (step : PlainAct) (found : ℕ) → Does p n step found q
     → ((s : SlotId) → step ≡ act.Make s → fits (slot_at p s).payload)
     → AllFit fits p → AllFit fits q
