@@ -1,2 +1,2 @@
-mod StepFits
-mod Calm
+pub mod StepFits
+pub mod Calm
