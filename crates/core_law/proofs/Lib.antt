@@ -25,3 +25,4 @@ pub mod Starts
 pub mod Parts
 pub mod Always
 pub mod Trails
+pub mod InRange
