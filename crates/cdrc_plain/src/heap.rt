@@ -7,7 +7,8 @@ ghost use Rattle.plain_state.specs.Places.{Holds};
 ghost use Rattle.plain_state.specs.References.{strong_refs, weak_refs};
 ghost use Rattle.plain_state.specs.Lawful.{Lawful};
 ghost use Rattle.plain_state.specs.Steps.{Does};
-ghost use Rattle.plain_store.specs.Heaps.{Owns, Makes, NoneFree, AllFit};
+ghost use Rattle.plain_state.specs.Fits.{AllFit};
+ghost use Rattle.plain_store.specs.Heaps.{Owns, Makes, NoneFree};
 ghost use Rattle.plain_store.specs.Stores.{plain_of, Kept};
 ghost use Rattle.cdrc_plain.specs.Watching.{IsRestlessOnly};
 

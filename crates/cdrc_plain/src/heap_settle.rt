@@ -1,7 +1,7 @@
 //! A plain heap settles.
 ghost use Rattle.std.specs.Prelude.{◌≡◌, ◌+◌, IfOk, OnOk, OnErr};
 ghost use Rattle.plain_state.specs.declared.slot.SlotId.{SlotId};
-ghost use Rattle.plain_store.specs.Heaps.{AllFit};
+ghost use Rattle.plain_state.specs.Fits.{AllFit};
 ghost use Rattle.plain_store.specs.Settling.{SettlesTo, IsSettled};
 ghost use Rattle.plain_store.specs.Stores.{plain_of, Kept};
 ghost use Rattle.cdrc_plain.specs.Watching.{IsRestlessOnly};

@@ -3,7 +3,8 @@
 //! The rule: the first line opens a core of a shape, and each later line is an event of one seat. An event is made
 //! exactly where the core's table has it, and its outcome is the table's; the first line that isn't spelled so, names
 //! what isn't there, or isn't enabled is refused, and its number and reason are the last line. At the end each slot
-//! that isn't free is told with its two words, and then how many events there were.
+//! that isn't free is told with its two words, and then how many events there were. So a text has one output
+//! (`steps_write_one`).
 //!
 //! Nothing is promised of interleavings that a text doesn't list.
 //!
@@ -17,6 +18,7 @@
 #![tactic(auto)]
 
 mod closing;
+mod laws;
 mod machine;
 mod opening;
 mod ranges;
@@ -25,5 +27,6 @@ mod running;
 mod tests;
 mod text;
 
+pub use laws::steps_write_one;
 pub use line_machine::Written;
 pub use text::steps;

@@ -25,7 +25,7 @@ module _ {S : Type 0} (Takes : S → List (List ℕ) → List ℕ → S → Type
   leads_start s all bytes refused goes = goes
 
   -- what a line that isn't blank does
-  abbrev Done : S → ℕ × List ℕ → List (ℕ × List ℕ) → List ℕ → Bool → Type 0
+  abbrev pub Done : S → ℕ × List ℕ → List (ℕ × List ℕ) → List ℕ → Bool → Type 0
   Done s line rest bytes refused =
       ((out : List ℕ) × (more : List ℕ) × (next : S) × Takes s (words_of line.1) out next
       × Goes Takes Refuses Ends next rest more refused × (bytes ≡ out ++ more))

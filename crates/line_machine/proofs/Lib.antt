@@ -1,1 +1,3 @@
+-- The lemmas that the contracts stand on.
 pub mod Leads
+pub mod Ones

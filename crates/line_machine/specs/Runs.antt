@@ -25,3 +25,18 @@ module _ {S : Type 0} (Takes : S → List (List ℕ) → List ℕ → S → Type
   -- so does the whole text
   abbrev pub IsRun : S → List ℕ → List ℕ → Bool → Type 0
   IsRun s text bytes refused = Goes s (numbered_lines text) bytes refused
+
+  -- nothing is left open: in each state,
+  pub record IsDefinite : Type 0 where
+    -- words that are taken write one output and lead to one state,
+    pub one_step : (s : S) (words : List (List ℕ)) (out others : List ℕ) (next after : S)
+        → Takes s words out next → Takes s words others after → (out ≡ others) × (next ≡ after)
+    -- and aren't refused;
+    pub not_refused : (s : S) (words : List (List ℕ)) (out : List ℕ) (next : S) (reason : Reason)
+        → Takes s words out next → Refuses s words reason → ⊥
+    -- words are refused for one reason;
+    pub one_reason : (s : S) (words : List (List ℕ)) (reason other : Reason)
+        → Refuses s words reason → Refuses s words other → reason ≡ other
+    -- and the end of the text writes one output, and is a refusal or isn't
+    pub one_end : (s : S) (out others : List ℕ) (refused other : Bool)
+        → Ends s out refused → Ends s others other → (out ≡ others) × (refused ≡ other)

@@ -2,7 +2,8 @@
 //!
 //! The rule: lines are taken in order, blank ones are skipped but counted, and what each writes is appended. The first
 //! line that is refused ends the run with `line N refused: REASON` as the last line; without one the end of the text
-//! has the last word. Nothing is promised of what a line means: that is the machine's.
+//! has the last word. A machine that leaves nothing open writes one output of a text (`runs_are_one`). Nothing is
+//! promised of what a line means: that is the machine's.
 //!
 //! ```text
 //! let written = run_lines(alloc, &mut machine, text)?;
@@ -12,10 +13,12 @@
 //! ```
 #![tactic(auto)]
 
+mod laws;
 mod machine;
 mod run;
 #[cfg(test)]
 mod tests;
 
+pub use laws::runs_are_one;
 pub use machine::LineMachine;
 pub use run::{Written, run_lines};

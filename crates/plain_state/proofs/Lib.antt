@@ -9,3 +9,4 @@ pub mod Leaves
 pub mod EveryStep
 pub mod Start
 pub mod Records
+pub mod Fitting

@@ -1,5 +1,6 @@
 pub mod Lists
 pub mod State
+pub mod Fits
 pub mod Places
 pub mod References
 pub mod Lawful

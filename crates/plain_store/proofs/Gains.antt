@@ -12,7 +12,8 @@ use Rattle.plain_state.specs.declared.act.PlainAct.TheVariants as act
 use Rattle.plain_state.specs.declared.slot.Kind.TheVariants.{Strong}
 use Rattle.plain_state.specs.Places.{Holds, HoldsStrongly}
 use Rattle.plain_state.specs.Steps.{Does}
-use Rattle.plain_store.specs.Heaps.{OwnsWeakly, AllFit, IsHeap}
+use Rattle.plain_state.specs.Fits.{AllFit}
+use Rattle.plain_store.specs.Heaps.{OwnsWeakly, IsHeap}
 use Rattle.plain_store.specs.Stores.{plain_of, Tallied, Kept}
 use Rattle.plain_store.specs.Calls.{gained, weakly_gained, spent}
 use Rattle.plain_state.proofs.Kit.{times_push, times_loses, none_by, none_or_some}

@@ -6,7 +6,7 @@ use Rattle.plain_state.specs.declared.slot.Stage.TheVariants.{Ended}
 use Rattle.plain_store.specs.declared.store.Store.{Store}
 use Rattle.plain_state.specs.Lists.{Entry, entry_times}
 use Rattle.plain_state.specs.State.{Plain, seat_at, slot_at, stage_at}
-use Rattle.plain_store.specs.Heaps.{AllFit}
+use Rattle.plain_state.specs.Fits.{AllFit}
 use Rattle.plain_store.specs.Stores.{plain_of, Kept}
 use Rattle.plain_store.specs.Settling.{SettlesTo, IsSettled}
 use Rattle.plain_store.specs.Draining.{SettlesFreely, Destroys, IsCalm, HasRoom, AllNeeded, per_object}

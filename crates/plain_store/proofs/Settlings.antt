@@ -13,7 +13,7 @@ use Rattle.plain_state.specs.Places.{with_field}
 use Rattle.plain_state.specs.References.{over_slots}
 use Rattle.plain_state.specs.Steps.{Does}
 use Rattle.plain_state.specs.Sound.{Sound}
-use Rattle.plain_store.specs.Heaps.{AllFit}
+use Rattle.plain_state.specs.Fits.{AllFit}
 use Rattle.plain_store.specs.Settling.{Settles, freed, SettlesBy, SettlesTo}
 use Rattle.plain_store.specs.Draining.{SettlesFreely, Destroys, if_object, per_object, ended_of, freed_of}
 use Rattle.plain_state.proofs.Kit.{slots_set, times_lost}

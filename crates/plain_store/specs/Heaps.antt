@@ -6,6 +6,7 @@ use Rattle.plain_state.specs.declared.slot.SlotId.{SlotId}
 use Rattle.plain_state.specs.declared.slot.PlainSlot.{PlainSlot}
 use Rattle.plain_state.specs.declared.slot.Stage.TheVariants.{Free, Live, Ended}
 use Rattle.plain_state.specs.Lists.{times}
+use Rattle.plain_state.specs.Fits.{AllFit}
 use Rattle.plain_state.specs.State.{Plain, seat_at, slot_at, stage_at}
 use Rattle.plain_state.specs.Sound.{Sound, all_adds}
 use Rattle.plain_state.specs.Runs.{Runs}
@@ -32,10 +33,6 @@ made_slot x payload = record x { stage = Live; marked = false; life = x.life + 1
 -- s is claimed, filled with the payload, and made
 abbrev pub Makes : Plain → SlotId → List ℕ → Plain → Type 0
 Makes p s payload q = Runs p 0 (act.Claim s ∷ fills s 0 payload ++ act.Make s ∷ []) q
-
--- the payloads of all objects fit
-abbrev pub AllFit : (List ℕ → Type 0) → Plain → Type 0
-AllFit fits p = (s : SlotId) → (stage_at p s ≡ Live) ⊎ (stage_at p s ≡ Ended) → fits (slot_at p s).payload
 
 -- what holds of every plain heap whose payloads are of a kind: it has one seat, and so few slots and adds that no
 -- count reaches the zero flag of a word

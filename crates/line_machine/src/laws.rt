@@ -1,0 +1,14 @@
+//! What holds of the definitions themselves.
+ghost use Rattle.std.specs.Prelude.{◌≡◌, ℕ, Bool, List};
+ghost use Rattle.line_machine.specs.Runs.{IsDefinite, IsRun};
+
+use crate::machine::LineMachine;
+
+/// Where a machine leaves nothing open, a text has one output from each of its states: the bytes are one, and whether a
+/// line is refused.
+pub fn runs_are_one<M: LineMachine>()
+    ensures { IsDefinite M.takes M.refuses M.ends → (s : M) (text bytes others : List ℕ)
+        (refused other : Bool) → IsRun M.takes M.refuses M.ends s text bytes refused
+        → IsRun M.takes M.refuses M.ends s text others other
+        → (bytes ≡ others) × (refused ≡ other) }
+{}

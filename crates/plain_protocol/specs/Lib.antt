@@ -1,0 +1,4 @@
+pub mod Owns
+pub mod Acts
+pub mod Laws
+pub mod Views
