@@ -32,6 +32,7 @@ mod tests_settle;
 
 pub use heap::PlainHeap;
 pub use out_of_memory::{Back, OutOfMemory};
+pub use plain_protocol::{AnyStep, Deed, NoLaw, Protocol, Still};
 pub use plain_state::{
     Announced, EventPlace, Heap, Kind, PayloadKind, PlainAct, PlainSlot, RecordKind, SlotId,
     SlotImage, Stage, ZERO, record_of, steps_keep_sound,

@@ -1,1 +1,2 @@
 mod StepFits
+mod Calm

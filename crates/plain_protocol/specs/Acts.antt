@@ -1,9 +1,12 @@
 -- Which steps leave what a protocol speaks of.
-use Rattle.std.specs.Prelude.{ℕ, List}
+use Rattle.std.specs.Prelude.{ℕ, ◌≡◌, List}
 use Rattle.plain_state.specs.declared.act.EventPlace.{EventPlace}
 use Rattle.plain_state.specs.declared.act.EventPlace.TheVariants.{Cell, Field, WeakCell, WeakField}
 use Rattle.plain_state.specs.declared.act.PlainAct.{PlainAct}
 use Rattle.plain_state.specs.declared.act.PlainAct.TheVariants as act
+use Rattle.plain_state.specs.declared.slot.PlainSlot.{PlainSlot}
+use Rattle.plain_state.specs.declared.slot.SlotId.{SlotId}
+use Rattle.plain_state.specs.declared.slot.Stage.TheVariants.{Live}
 use Rattle.plain_state.specs.State.{Plain, slot_at}
 
 -- the step makes no object, changes no cell and no field of a live object, and isn't a leave; a Clear acts
@@ -33,6 +36,22 @@ IsCalm (act.Give s) = Unit {0}
 IsCalm (act.Leave j) = ⊥
 IsCalm act.Split = Unit {0}
 IsCalm act.Still = Unit {0}
+
+-- what a calm step leaves of a slot: its life, and, where it is live, its payload and its fields; and it makes no
+-- slot live
+pub record IsKeptAs (x y : PlainSlot) : Type 0 where
+  pub life : y.life ≡ x.life
+  pub live : y.stage ≡ Live → x.stage ≡ Live
+  pub payload : x.stage ≡ Live → y.payload ≡ x.payload
+  pub fields :
+      x.stage ≡ Live
+      → (y.first ≡ x.first) × (y.second ≡ x.second) × (y.weak_field ≡ x.weak_field)
+
+-- what it leaves of a state: every cell, and so much of every slot
+pub record IsCalmed (p q : Plain) : Type 0 where
+  pub cells : q.cells ≡ p.cells
+  pub weak_cells : q.weak_cells ≡ p.weak_cells
+  pub slots : (s : SlotId) → IsKeptAs (slot_at p s) (slot_at q s)
 
 -- what a protocol owns: cells, weak cells, and the objects with certain payloads
 pub record Owned : Type 1 where

@@ -20,6 +20,6 @@ mod protocol;
 mod tests;
 
 pub use deed::{Deed, Still};
-pub use laws::fits_stay;
+pub use laws::{calm_steps_leave, fits_stay};
 pub use no_law::{AnyStep, NoLaw};
 pub use protocol::Protocol;
