@@ -1,0 +1,5 @@
+use Rattle.domain_rule.proofs.Others as lemma
+use Rattle.domain_rule.proofs.laws.step_keeps.Goals as goal
+
+pub returns : goal.returns
+returns g c = ?
