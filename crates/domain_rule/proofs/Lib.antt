@@ -1,3 +1,4 @@
 pub mod Objects
 pub mod Acts
 pub mod Others
+pub mod Owns
