@@ -133,4 +133,4 @@ module _ (z : Shape) (c : Core) (so : Sound z c) where
   others_keep n m a s on hm ne has =
       object_changes _ _ n s _ _ (shown_there s (has_there m s hm has)) (event_shows z c n a so on)
       ∙ (act_leaves z _ (view_at c n) s a on.1
-      (λ fills. fills_alone n m s on.0 hm ne fills has)).object _
+      (λ fills. fills_alone n m s on.0 hm ne fills has)) _
