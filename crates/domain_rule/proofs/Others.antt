@@ -53,6 +53,13 @@ has_how s v has =
     (cases_lt 0 (times s v.dying)))
     (cases_lt 0 (held_times s v))
 
+pub fills_has : (s : SlotId) (v : CoreView) → v.phase ≡ phase.Blank s → HasSlot (show_seat v) s
+fills_has s v fills =
+    let f = filled_counts s v.phase in
+    let o = one_same s s refl in
+    let g : filling s v.phase ≡ one s s = ap (λ (p : Phase). filling s p) fills in
+    grind (arith, nat_tests)
+
 -- what a seat has it names
 filling_named : (s : SlotId) (p : Phase) → filling s p ≤ in_phase s p
 filling_named s phase.Idle = omega arith

@@ -39,7 +39,7 @@ stepped_view z d a w client v =
     }
 
 -- what a seat's own view tells is all that its act asks
-rest_may : (z : Shape) (c : Core) (a : Act) → IsOwn a → RestMay z c a
+pub rest_may : (z : Shape) (c : Core) (a : Act) → IsOwn a → RestMay z c a
 rest_may z c (act.Add s) own = tt
 rest_may z c (act.Drop s) own = tt
 rest_may z c act.Pay own = tt
