@@ -153,3 +153,86 @@ module _ {V : Type 0} (law : Plain → List V → Type 0) (first : ℕ → V) (g
         let l = in_seats z qs s k m u t.1 in
         other_tells z c so n a on own m u (omega arith) t.0 (k.tells m u t.1))
         (at_set s.views n m v' u e)
+
+    abbrev after_step : List (ℕ × Unit {0}) → State (Unit {0}) (SeatView V)
+    after_step carried = stepped s (place z a v.core) (next a w) n carried v' keeps
+
+    root : (u : SeatView V) → get_elem? (set s.views n v') 0 ≡ some u
+        → (u.gone ≡ false) × (u.opened ≡ length (set s.views n v'))
+    root u e = ⊎_elim
+        (λ (t : (0 ≡ n) × (v' ≡ u)).
+        let first_at = subst (λ (m : ℕ). get_elem? s.views m ≡ some v) (sym t.0) at in
+        (ap (λ (x : SeatView V). x.gone) (sym t.1),
+        ap (λ (x : SeatView V). x.opened) (sym t.1)
+        ∙ ((k.root v first_at).1 ∙ sym (length-set s.views n v'))))
+        (λ (t : (0 ≢ n) × (get_elem? s.views 0 ≡ some u)).
+        let r = k.root u t.1 in (r.0, r.1 ∙ sym (length-set s.views n v')))
+        (at_set s.views n 0 v' u e)
+
+    still_kept : (carried : List (ℕ × Unit {0})) → Kept law first fits z qs (after_step carried)
+    still_kept carried = record {
+      shape = k.shape;
+      quotas = k.quotas;
+      events = record { seat = n; act = a } ∷ k.events;
+      core = d;
+      history = (c, k.history, (on, refl));
+      words = λ i. set (k.words i) (place z a (told.core i)) (next a (found_is i));
+      few = rw (length-set s.views n v') k.few;
+      tells = tells;
+      root = root;
+      unopened = λ m le lt.
+          let l = length-set s.views n v' in
+          let there = at_less s.views n v at in
+          other_after z c so n a on own m (omega arith) ∙ k.unopened m (omega arith) lt;
+      fit = step_fits fits (shows z c) (shows z d) n step number shown made_fits k.fit;
+      client = subst (law (shows z d)) (sym (clients_set first z.seats s.views n v'
+          (at_less s.views n v at))) owed.0;
+    }
+
+    told_step : Told z qs next_view allows a v w v'
+    told_step = record {
+      core = refl;
+      client = refl;
+      objects = λ x had has. told_object (shows z d) v' x refl
+          ∙ (object_changes (shows z c) (shows z d) n x step number
+          (shown_there z c so x (there x had)) shown
+          ∙ ap (changed_object step x) (sym (told.objects x had)));
+      whole = refl;
+      opened = refl;
+      left_adds = refl;
+      left_makes = refl;
+      here = refl;
+      law = subst (λ (m : ℕ). SeatLaw z m v'.core) (sym seat_is)
+          (subst (SeatLaw z n) (sym (core_after z c so n a on own v told w found_is))
+          ((step_keeps z c n a so on).seats n (in_seats z qs s k n v at)));
+      happened = subst (λ (m : ℕ). Happened z qs m a w (λ p q. allows p q m v.client client'))
+          (sym seat_is) (record {
+            events = k.events;
+            before = c;
+            history = k.history;
+            enabled = on;
+            found = found_is;
+            fact = owed.1;
+          });
+    }
+      where
+        seat_is : v.core.seat ≡ n
+        seat_is = number_of z qs s k n v at here
+
+        there : (x : SlotId) → HasSlot (show_seat v.core) x → x.0 < z.slots
+        there x had = has_there z c so n x hn
+            (subst (λ (u : CoreView). HasSlot (show_seat u) x) told.core had)
+
+  pub step_allowed : (z : Shape) (qs : List Quota) (a : Act) (slots n : ℕ)
+      (me : Me (Unit {0}) (SeatView V))
+      → me.0.gone ≡ false → KnowsAll me.0 → IsOwn a → May z a me.0.core → FitsStart fits a me.0
+      → ((m : ℕ) → ready (own_of me.0) me.0.client (shown_act z a m me.0.core))
+      → Allows (Kept law first fits z qs) slots n me (place z a me.0.core) (next a)
+      (λ m then. Told z qs next_view allows a me.0 m then.0 × (then.1 ≡ me.1))
+  step_allowed z qs a slots n me here knows own may starts is_ready s k len at small = (
+    v' z qs s k n me.0 at here knows a own may starts is_ready,
+    keeps,
+    tt,
+    still_kept z qs s k n me.0 at here knows a own may starts is_ready me.1,
+    (told_step z qs s k n me.0 at here knows a own may starts is_ready, refl),
+  )
