@@ -43,7 +43,8 @@ module _ (p : Plain) (s : SlotId) where
       ≡ (if is_slot x s then f (object_at p s) else object_at p s)
   slot_changes f x y there is = ⊎_elim
       (λ (here : s ≡ x).
-      let t : (s.0 == x.0) ≡ true = let e = ap (λ (r : SlotId). r.0) here in grind (arith, nat_tests) in
+      let e : s.0 ≡ x.0 = ap (λ (r : SlotId). r.0) here in
+      let t : (s.0 == x.0) ≡ true = grind (arith, nat_tests) in
       rw t (subst (λ (r : SlotId). r.0 < length p.slots → object_at (with_slot p x y) r
       ≡ f (object_at p r)) (sym here)
       (λ below. ap object_of (get_or-set_same p.slots x.0 y new_slot below) ∙ is) there))
@@ -80,12 +81,14 @@ module _ (p q : Plain) (n : ℕ) (s : SlotId) where
   clears_keeps place is = becomes _ is (content_keeps _ s place None)
 
   -- what becomes of the object in a slot that is there
-  pub object_changes : (step : PlainAct) (found : ℕ) → s.0 < length p.slots → Does p n step found q
+  pub object_changes : (step : PlainAct) (found : ℕ) → s.0 < length p.slots
+      → Does p n step found q
       → object_at q s ≡ changed_object step s (object_at p s)
   object_changes (plain.Claim x) found there d = becomes _ d.1.3 (slot_keeps p s x _ refl)
   object_changes (plain.Fill x i word) found there d =
       ap (λ (r : Plain). object_at r s) d.1.4
-      ∙ slot_changes p s (λ (o : Object). record o { payload = set o.payload i word }) x _ there refl
+      ∙ slot_changes p s (λ (o : Object). record o { payload = set o.payload i word }) x _ there
+      refl
   object_changes (plain.Make x) found there d =
       ap (λ (r : Plain). object_at r s) d.1.3
       ∙ slot_changes p s (λ (o : Object). record o { life = o.life + 1 }) x _ there refl

@@ -1,10 +1,8 @@
 -- What a seat fills no other seat has, so a step leaves the objects in the slots of all others.
 use Rattle.std.proofs.Common.{◌≡◌, ◌≢◌, ◌⊎◌, inl, inr, ⊎_elim, ℕ, ◌+◌, ◌<◌, ◌≤◌, List, length, get_or, set, refl, ap, ◌∙◌, arith}
-use Rattle.std.specs.Prelude.{if◌then◌else◌}
 use Rattle.std.proofs.lemmas.List.{length-set, get_or-set_other}
 use Rattle.std.proofs.lemmas.Bool.{cases_lt}
 use Rattle.std.proofs.lemmas.Bool.Decides.{nat_tests}
-use Rattle.plain_state.specs.declared.slot.Kind.TheVariants.{Strong, Weak}
 use Rattle.plain_state.specs.declared.slot.SlotId.{SlotId}
 use Rattle.plain_state.specs.Lists.{times}
 use Rattle.plain_state.specs.References.{held_in}
@@ -14,7 +12,7 @@ use Rattle.core_events.specs.declared.shape.Shape.{Shape}
 use Rattle.core_events.specs.declared.view.CoreView.{CoreView}
 use Rattle.core_events.specs.declared.view.Phase.{Phase}
 use Rattle.core_events.specs.declared.view.Phase.TheVariants as phase
-use Rattle.core_events.specs.Counts.{one, total, naming, filling, in_phase, fillers, dying_times, adds_used}
+use Rattle.core_events.specs.Counts.{one, total, naming, filling, in_phase, adds_used}
 use Rattle.core_events.specs.Runs.{Core, Enabled, after, view_at}
 use Rattle.core_events.specs.Shows.{filled, show_seat, show_slot, shows}
 use Rattle.core_events.specs.Views.{held_times, no_view}

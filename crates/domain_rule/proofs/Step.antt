@@ -1,9 +1,8 @@
 -- A step of a seat keeps what all views tell.
-use Rattle.std.proofs.Common.{◌≡◌, ◌≢◌, ⊎_elim, ℕ, ◌+◌, ◌<◌, ◌≤◌, Bool, true, false, List, ◌∷◌, length, get_or, set, refl, ap, sym, ◌∙◌, subst, arith}
+use Rattle.std.proofs.Common.{◌≡◌, ◌≢◌, ℕ, ◌<◌, true, false, List, length, get_or, set, refl, ap, sym, ◌∙◌, subst, arith}
 use Rattle.std.specs.Prelude.{Option, Some, None}
 use Rattle.std.specs.Option.{option_map}
 use Rattle.std.proofs.lemmas.List.{length-set, get_or-set_same, get_or-set_other}
-use Rattle.plain_state.specs.declared.slot.SlotId.{SlotId}
 use Rattle.plain_state.specs.State.{PlainSeat}
 use Rattle.plain_protocol.specs.Owns.{HasSlot}
 use Rattle.core_events.specs.declared.act.Act.{Act}
@@ -128,12 +127,14 @@ module _ (z : Shape) (c : Core) (so : Sound z c) (n : ℕ) (a : Act) (on : Enabl
           go (Some b) known e =
               let t = told.whole b known in
               let root = t.1 in
-              let same : all ≡ whole_of (after z (core_in b) v.core.seat a) = cc (e) in
-              (ap core_in same ∙ (λ i. after z (t.0 i) (seat_is i) a), root,
-              λ m pos hm.
-              let l = views_stay in
-              ap (λ (u : CoreView). u.left) (other_after m (λ e. omega arith))
-              ∙ t.2 m pos (omega arith))
+              let same : all ≡ whole_of (after z (core_in b) v.core.seat a) = cc (e) in (
+                ap core_in same ∙ (λ i. after z (t.0 i) (seat_is i) a),
+                root,
+                λ m pos hm.
+                    let l = views_stay in
+                    ap (λ (u : CoreView). u.left) (other_after m (λ e. omega arith))
+                    ∙ t.2 m pos (omega arith),
+              )
 
       pub own_tells : (w : ℕ) (client : V) → w ≡ found z c n a
           → IsTrueOf z (after z c n a) n (stepped_view z (after z c n a) a w client v)

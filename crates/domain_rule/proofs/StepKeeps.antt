@@ -1,6 +1,6 @@
 -- A step of a seat, with a deed that is ready for it, keeps the rule.
-use Rattle.std.proofs.Common.{◌≡◌, ◌≢◌, ⊎_elim, ℕ, ◌+◌, ◌<◌, ◌≤◌, true, false, List, ◌∷◌, length, get_or, set, refl, ap, sym, ◌∙◌, subst, arith}
-use Rattle.std.specs.Prelude.{slice_index, None}
+use Rattle.std.proofs.Common.{◌≡◌, ◌≢◌, ⊎_elim, ℕ, ◌<◌, false, List, ◌∷◌, length, get_or, set, refl, ap, sym, ◌∙◌, subst, arith}
+use Rattle.std.specs.Prelude.{slice_index}
 use Rattle.std.proofs.lemmas.List.{length-map, length-set}
 use mathlib.Core.Option.{some}
 use lib.ListN.{get_elem?}
@@ -10,13 +10,11 @@ use Rattle.plain_state.specs.declared.act.PlainAct.{PlainAct}
 use Rattle.plain_state.specs.declared.act.PlainAct.TheVariants as plain
 use Rattle.plain_state.specs.declared.slot.SlotId.{SlotId}
 use Rattle.plain_state.specs.State.{Plain, slot_at}
-use Rattle.plain_state.specs.Fits.{AllFit}
 use Rattle.plain_state.specs.Steps.{Does}
 use Rattle.plain_protocol.specs.Laws.{Keeps, Meets}
 use Rattle.plain_protocol.specs.Owns.{HasSlot, Object, OwnPart, own_part}
 use Rattle.plain_protocol.proofs.StepFits.{step_fits}
 use Rattle.core_events.specs.declared.act.Act.{Act}
-use Rattle.core_events.specs.declared.act.Act.TheVariants as act
 use Rattle.core_events.specs.declared.shape.Shape.{Shape}
 use Rattle.core_events.specs.declared.shape.Quota.{Quota}
 use Rattle.core_events.specs.declared.view.CoreView.{CoreView}
@@ -25,7 +23,7 @@ use Rattle.core_events.specs.Good.{SeatLaw}
 use Rattle.core_events.specs.Runs.{Core, Enabled, after, found, view_at}
 use Rattle.core_events.specs.Shows.{show_seat, shows}
 use Rattle.core_events.specs.ShownSteps.{shown_act, shown_number}
-use Rattle.core_events.specs.Steps.{May, moved, next, place}
+use Rattle.core_events.specs.Steps.{May, next, place}
 use Rattle.core_events.specs.Views.{slot_of}
 use Rattle.core_law.specs.Sound.{Sound}
 use Rattle.core_law.proofs.Always.{step_keeps}
@@ -34,7 +32,7 @@ use Rattle.core_shows.proofs.Lawful.{shows_lawful}
 use Rattle.domain_rule.specs.declared.view.SeatView.{SeatView}
 use Rattle.domain_rule.specs.Rule.{IsTrueOf, Kept, Tells, clients}
 use Rattle.domain_rule.specs.Told.{FitsStart, Happened, IsOwn, Told, changed_object}
-use Rattle.domain_rule.specs.Views.{KnowsAll, object_in, own_of}
+use Rattle.domain_rule.specs.Views.{KnowsAll, own_of}
 use Rattle.domain_rule.proofs.Acts.{made_by_start}
 use Rattle.domain_rule.proofs.Counting.{others_left}
 use Rattle.domain_rule.proofs.Objects.{object_changes}
@@ -49,8 +47,8 @@ module _ {V : Type 0} (law : Plain → List V → Type 0) (first : ℕ → V) (g
     (next_view : OwnPart → V → PlainAct → ℕ → V) (allows : Plain → Plain → ℕ → V → V → Type 0)
     (keep : Keeps law gone ready next_view allows) where
   -- what the deed owes, where the seat's own part and its view are known
-  deed_keeps : (p q : Plain) (views : List V) (n : ℕ) (step : PlainAct) (m : ℕ) (o : OwnPart) (v : V)
-      → Meets law p views → n < length views → own_part p n ≡ o → get_or views n gone ≡ v
+  deed_keeps : (p q : Plain) (views : List V) (n : ℕ) (step : PlainAct) (m : ℕ) (o : OwnPart)
+      (v : V) → Meets law p views → n < length views → own_part p n ≡ o → get_or views n gone ≡ v
       → ready o v step → Does p n step m q
       → law q (set views n (next_view o v step m)) × allows p q n v (next_view o v step m)
   deed_keeps p q views n step m o v meets hn own_is view_is is_ready does =
@@ -84,6 +82,7 @@ module _ {V : Type 0} (law : Plain → List V → Type 0) (first : ℕ → V) (g
     abbrev number : ℕ
     number = shown_number a (slice_index s.words (place z a v.core))
 
+    -- the invariant holds, and the view of the seat is so: the event is enabled, and shows the step
     so : Sound z c
     so = kept_sound z qs s k
 
@@ -116,6 +115,7 @@ module _ {V : Type 0} (law : Plain → List V → Type 0) (first : ℕ → V) (g
         subst fits (ap (λ (o : Object). o.payload) (told.objects x (fills_has x v.core fills)))
         (starts start.0 x fills)
 
+    -- the rule has what the deed asks
     meets : Meets law (shows z c) (clients first z.seats s.views)
     meets = record {
       lawful = shows_lawful z c so;
@@ -140,6 +140,7 @@ module _ {V : Type 0} (law : Plain → List V → Type 0) (first : ℕ → V) (g
         (others_left z qs k.events c k.shape k.quotas k.history))
         (client_at first z.seats s.views n v gone at) (is_ready w) shown
 
+    -- the seat's new view, among those of all seats
     abbrev v' : SeatView V
     v' = stepped_view z d a w client' v
 
@@ -154,6 +155,7 @@ module _ {V : Type 0} (law : Plain → List V → Type 0) (first : ℕ → V) (g
         other_tells z c so n a on own m u (omega arith) t.0 (k.tells m u t.1))
         (at_set s.views n m v' u e)
 
+    -- the table after the step: the rule holds of it, and the seat is told of its step
     abbrev after_step : List (ℕ × Unit {0}) → State (Unit {0}) (SeatView V)
     after_step carried = stepped s (place z a v.core) (next a w) n carried v' keeps
 
@@ -161,10 +163,11 @@ module _ {V : Type 0} (law : Plain → List V → Type 0) (first : ℕ → V) (g
         → (u.gone ≡ false) × (u.opened ≡ length (set s.views n v'))
     root u e = ⊎_elim
         (λ (t : (0 ≡ n) × (v' ≡ u)).
-        let first_at = subst (λ (m : ℕ). get_elem? s.views m ≡ some v) (sym t.0) at in
-        (ap (λ (x : SeatView V). x.gone) (sym t.1),
-        ap (λ (x : SeatView V). x.opened) (sym t.1)
-        ∙ ((k.root v first_at).1 ∙ sym (length-set s.views n v'))))
+        let first_at = subst (λ (m : ℕ). get_elem? s.views m ≡ some v) (sym t.0) at in (
+          ap (λ (x : SeatView V). x.gone) (sym t.1),
+          ap (λ (x : SeatView V). x.opened) (sym t.1)
+              ∙ ((k.root v first_at).1 ∙ sym (length-set s.views n v')),
+        ))
         (λ (t : (0 ≢ n) × (get_elem? s.views 0 ≡ some u)).
         let r = k.root u t.1 in (r.0, r.1 ∙ sym (length-set s.views n v')))
         (at_set s.views n 0 v' u e)
@@ -193,7 +196,7 @@ module _ {V : Type 0} (law : Plain → List V → Type 0) (first : ℕ → V) (g
     told_step = record {
       core = refl;
       client = refl;
-      objects = λ x had has. told_object (shows z d) v' x refl
+      objects = λ x had. told_object (shows z d) v' x refl
           ∙ (object_changes (shows z c) (shows z d) n x step number
           (shown_there z c so x (there x had)) shown
           ∙ ap (changed_object step x) (sym (told.objects x had)));
@@ -223,6 +226,7 @@ module _ {V : Type 0} (law : Plain → List V → Type 0) (first : ℕ → V) (g
         there x had = has_there z c so n x hn
             (subst (λ (u : CoreView). HasSlot (show_seat u) x) told.core had)
 
+  -- whatever the table is, the step keeps the rule
   pub step_allowed : (z : Shape) (qs : List Quota) (a : Act) (slots n : ℕ)
       (me : Me (Unit {0}) (SeatView V))
       → me.0.gone ≡ false → KnowsAll me.0 → IsOwn a → May z a me.0.core → FitsStart fits a me.0
