@@ -1,7 +1,7 @@
 -- The list of all seats' clients: those of the views, and the first ones of the seats still to be opened.
 use Rattle.std.proofs.Common.{◌≡◌, ◌⊎◌, inl, inr, ⊎_elim, ℕ, zero, suc, ◌+◌, ◌-◌, ◌<◌, ◌≤◌, List, [], ◌∷◌, ◌++◌, length, map, get_or, set, append_assoc, refl, ap, sym, ◌∙◌, arith, length-append}
 use Rattle.std.specs.List.{range_with_len}
-use Rattle.std.proofs.lemmas.List.{length-set, length-map, map-set, map-append, set-append_left}
+use Rattle.std.proofs.lemmas.List.{length-set, length-map, map-set, set-get_or, map-append, set-append_left}
 use Rattle.std.proofs.lemmas.List.FromFn.{length-map-range_with_len}
 use mathlib.Core.Option.{some, some-injective, some-ne-none}
 use lib.ListN.{get_elem?}
@@ -61,6 +61,16 @@ module _ {V : Type 0} (first : ℕ → V) (seats : ℕ) where
       ∙ (ap (λ (vs : List V). vs ++ rest_from (length views)) (map-set client_of views i w)
       ∙ sym (set-append_left (map client_of views) (rest_from (length views)) i w.client
       (omega arith)))
+
+  -- its client stays
+  pub clients_same : (views : List (SeatView V)) (i : ℕ) (v w : SeatView V)
+      → get_elem? views i ≡ some v → w.client ≡ v.client
+      → clients first seats (set views i w) ≡ clients first seats views
+  clients_same views i v w at same =
+      clients_set views i w (at_less views i v at)
+      ∙ (ap (set (clients first seats views) i)
+      (same ∙ sym (client_at views i v v.client at))
+      ∙ set-get_or (clients first seats views) i v.client)
 
   -- one more seat is opened
   pub clients_more : (views : List (SeatView V)) (w : SeatView V) → length views < seats

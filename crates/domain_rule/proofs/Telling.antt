@@ -20,6 +20,10 @@ here_case : (A B : Type 0) (b : Bool) → b ≡ false → MatchBool b A B → B
 here_case A B true e m = absurd (cc (e))
 here_case A B false e m = m
 
+case_here : (A B : Type 0) (b : Bool) → b ≡ false → B → MatchBool b A B
+case_here A B true e m = absurd (cc (e))
+case_here A B false e m = m
+
 case_map : {A B A' B' : Type 0} (b : Bool) → (A → A') → (b ≡ false → B → B') → MatchBool b A B
     → MatchBool b A' B'
 case_map true f g m = f m
@@ -30,6 +34,12 @@ module _ {V : Type 0} (z : Shape) (c d : Core) (n : ℕ) (v : SeatView V) where
   pub tells_again : ((view_at c n).left ≡ true → (view_at d n).left ≡ true)
       → (v.gone ≡ false → IsTrueOf z c n v → IsTrueOf z d n v) → Tells z c n v → Tells z d n v
   tells_again left true_of = case_map v.gone left true_of
+
+-- a seat that is there tells what is so
+pub tells_here : {V : Type 0} (z : Shape) (c : Core) (n : ℕ) (v : SeatView V) → v.gone ≡ false
+    → IsTrueOf z c n v → Tells z c n v
+tells_here z c n v here =
+    case_here ((view_at c n).left ≡ true) (IsTrueOf z c n v) v.gone here
 
 module _ {V : Type 0} {law : Plain → List V → Type 0} {first : ℕ → V} {fits : List ℕ → Type 0}
     (z : Shape) (qs : List Quota) (s : State (Unit {0}) (SeatView V)) (k : Kept law first fits z qs s)
