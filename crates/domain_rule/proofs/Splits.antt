@@ -6,7 +6,7 @@ use Rattle.std.proofs.lemmas.Bool.Decides.{nat_tests}
 use mathlib.Core.Option.{some, some-injective}
 use lib.ListN.{get_elem?}
 use Rattle.atomic_table.specs.Table.{State, Splits}
-use Rattle.atomic_table.proofs.Lists.{at_set, at_longer, set_here}
+use Rattle.atomic_table.proofs.Lists.{at_longer, set_here}
 use Rattle.plain_state.specs.declared.slot.SlotId.{SlotId}
 use Rattle.plain_state.specs.Lists.{times, entry_times}
 use Rattle.plain_state.specs.References.{held_in}
@@ -22,7 +22,7 @@ use Rattle.domain_rule.specs.Opening.{opened_view, opened_more}
 use Rattle.domain_rule.specs.Rule.{IsTrueOf, Tells, Kept, clients}
 use Rattle.domain_rule.specs.Views.{whole_of}
 use Rattle.domain_rule.proofs.Padding.{at_less, at_pushed, clients_same, clients_more}
-use Rattle.domain_rule.proofs.Telling.{true_of, is_root, tells_here}
+use Rattle.domain_rule.proofs.Telling.{true_of, is_root, tells_here, set_tells}
 
 -- a new seat has no slot
 new_has_none : (s : SlotId) → HasSlot new_seat s → ⊥
@@ -80,11 +80,8 @@ module _ {V : Type 0} (law : Plain → List V → Type 0) (first : ℕ → V) (f
 
     views_tell : (n : ℕ) (u : SeatView V) → get_elem? views n ≡ some u → Tells z k.core n u
     views_tell n u e = ⊎_elim
-        (λ old. ⊎_elim
-        (λ me. subst (λ (t : ℕ × SeatView V). Tells z k.core t.0 t.1) (λ i. (sym me.0 i, me.1 i))
-        (tells_here z k.core id left here left_true))
-        (λ other. k.tells n u other.1)
-        (at_set s.views id n left u old))
+        (λ old. set_tells z k.core s.views id left (tells_here z k.core id left here left_true)
+        (λ m w ne. k.tells m w) n u old)
         (λ last. subst (λ (t : ℕ × SeatView V). Tells z k.core t.0 t.1)
         (λ i. (sym (last.0 ∙ left_length) i, last.1 i)) new_true)
         (at_pushed (set s.views id left) new u n e)

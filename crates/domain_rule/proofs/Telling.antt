@@ -1,9 +1,10 @@
 -- What the rule tells of one seat by its view.
-use Rattle.std.proofs.Common.{◌≡◌, ℕ, ◌<◌, Bool, true, false, List, refl, ap, sym, ◌∙◌, arith}
+use Rattle.std.proofs.Common.{◌≡◌, ◌≢◌, ⊎_elim, ℕ, ◌<◌, Bool, true, false, List, set, refl, ap, sym, ◌∙◌, subst, arith}
 use Rattle.std.specs.Bool.{MatchBool}
 use mathlib.Core.Option.{some}
 use lib.ListN.{get_elem?}
 use Rattle.atomic_table.specs.Table.{State}
+use Rattle.atomic_table.proofs.Lists.{at_set}
 use Rattle.plain_state.specs.State.{Plain}
 use Rattle.core_events.specs.declared.shape.Shape.{Shape}
 use Rattle.core_events.specs.declared.shape.Quota.{Quota}
@@ -40,6 +41,17 @@ pub tells_here : {V : Type 0} (z : Shape) (c : Core) (n : ℕ) (v : SeatView V) 
     → IsTrueOf z c n v → Tells z c n v
 tells_here z c n v here =
     case_here ((view_at c n).left ≡ true) (IsTrueOf z c n v) v.gone here
+
+-- a seat's view is given anew
+pub set_tells : {V : Type 0} (z : Shape) (c : Core) (views : List (SeatView V)) (i : ℕ)
+    (w : SeatView V)
+    → Tells z c i w
+    → ((n : ℕ) (u : SeatView V) → n ≢ i → get_elem? views n ≡ some u → Tells z c n u)
+    → (n : ℕ) (u : SeatView V) → get_elem? (set views i w) n ≡ some u → Tells z c n u
+set_tells {V = V} z c views i w own others n u e = ⊎_elim
+    (λ me. subst (λ (t : ℕ × SeatView V). Tells z c t.0 t.1) (λ k. (sym me.0 k, me.1 k)) own)
+    (λ other. others n u other.0 other.1)
+    (at_set views i n w u e)
 
 module _ {V : Type 0} {law : Plain → List V → Type 0} {first : ℕ → V} {fits : List ℕ → Type 0}
     (z : Shape) (qs : List Quota) (s : State (Unit {0}) (SeatView V)) (k : Kept law first fits z qs s)
