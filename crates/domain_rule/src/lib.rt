@@ -17,5 +17,5 @@ mod view;
 
 pub use charter::{Charter, DomainRule};
 pub use laws::step_keeps;
-pub use seats::{leave_keeps, learning_keeps, opening_keeps, split_keeps};
+pub use seats::{learning_keeps, leave_keeps, opening_keeps, split_keeps};
 pub use view::{Known, SeatView, Whole};

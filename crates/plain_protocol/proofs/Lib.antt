@@ -1,2 +1,2 @@
-mod StepFits
+pub mod StepFits
 mod Calm
