@@ -1,1 +1,1 @@
-mod StepFits
+pub mod StepFits
