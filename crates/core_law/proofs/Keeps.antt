@@ -23,16 +23,17 @@ use Rattle.core_events.specs.declared.view.Note.TheVariants as note
 use Rattle.core_events.specs.declared.view.Phase.TheVariants as phase
 use Rattle.core_events.specs.Words.{ZERO, slot_in, code, note_at, strong_at, weak_at, place_at, payload_at, announcements}
 use Rattle.core_events.specs.Ejection.{kept, ejected}
-use Rattle.core_events.specs.Views.{HoldsStrongly, IsOpen, IsDyingField, slot_of, without}
+use Rattle.core_events.specs.Views.{IsOpen, IsDyingField, slot_of, without}
 use Rattle.core_events.specs.Steps.{May, CanGive, noted, minus_one, is_valid, validated, with_note, is_last, exchanged}
 use Rattle.core_events.specs.Runs.{Core, view_at, Enabled, after, HasNullFields}
 use Rattle.core_events.specs.Counts.{weak, dying_times}
 use Rattle.core_law.specs.Sound.{Sound}
 use Rattle.core_law.proofs.Kit.{one_other, total_at}
-use Rattle.core_law.proofs.Held.{strongly_refs, held_named}
+use Rattle.core_law.proofs.Held.{strongly_refs}
 use Rattle.core_law.proofs.Writes.{IsPlace, payload_off, places_off, fields_sum_off}
 use Rattle.core_law.proofs.Put.{put, law_alike, at_seat}
-use Rattle.core_law.proofs.Steady.{steady_sound, named_in_range}
+use Rattle.core_law.proofs.Steady.{steady_sound}
+use Rattle.core_law.proofs.InRange.{open_in_range, dying_in_range}
 use Rattle.core_law.proofs.OneWord.{trail_step}
 use Rattle.core_law.proofs.Lives as life
 use Rattle.core_law.proofs.Weaks as weak_word
@@ -68,14 +69,8 @@ module _ (z : Shape) (c : Core) (n : ℕ) (so : Sound z c) (hn : n < z.seats) wh
       (λ x le. refl))
 
   -- a place that is open is there, and its slot is live
-  strongly_there : (s : SlotId) → HoldsStrongly v s → s.0 < z.slots
-  strongly_there s h = named_in_range z n v s (so.seats n hn) (held_named s v (omega arith))
-
   pub open_there : (q : EventPlace) → IsOpen z v q → IsPlace z q
-  open_there (Cell i) h = h
-  open_there (Field s i) h = (strongly_there s h.1, h.0)
-  open_there (WeakCell i) h = h
-  open_there (WeakField s) h = strongly_there s h
+  open_there q h = open_in_range z n v (so.seats n hn) q h
 
   pub open_alive : (q : EventPlace) → IsOpen z v q → IsAlive z c n so hn q
   open_alive (Cell i) h = tt
@@ -84,14 +79,7 @@ module _ (z : Shape) (c : Core) (n : ℕ) (so : Sound z c) (hn : n < z.seats) wh
   open_alive (WeakField s) h = let r = strongly_refs z c n s so hn h in omega arith
 
   pub dying_there : (q : EventPlace) → IsDyingField v q → IsPlace z q
-  dying_there (Cell i) h = absurd h
-  dying_there (Field s i) h = let d = h.1 in (
-    named_in_range z n v s (so.seats n hn)
-        (omega arith),
-    h.0,
-  )
-  dying_there (WeakCell i) h = absurd h
-  dying_there (WeakField s) h = named_in_range z n v s (so.seats n hn) (omega arith)
+  dying_there q h = dying_in_range z n v (so.seats n hn) q h
 
   dying_in : (s : SlotId) → times s v.dying ≤ dying_times c s
   dying_in s = total_at (λ (u : CoreView). times s u.dying) c.views n (at_seat z c n so hn)

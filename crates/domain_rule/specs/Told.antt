@@ -12,9 +12,10 @@ use Rattle.core_events.specs.declared.act.Act.TheVariants as act
 use Rattle.core_events.specs.declared.act.Event.{Event}
 use Rattle.core_events.specs.declared.shape.Shape.{Shape}
 use Rattle.core_events.specs.declared.shape.Quota.{Quota}
+use Rattle.core_events.specs.declared.view.CoreView.{CoreView}
 use Rattle.core_events.specs.declared.view.Phase.TheVariants as phase
 use Rattle.core_events.specs.Good.{SeatLaw}
-use Rattle.core_events.specs.Runs.{Core, History, Enabled, after, found}
+use Rattle.core_events.specs.Runs.{Core, History, Enabled, after, found, view_at}
 use Rattle.core_events.specs.Shows.{show_seat, shows}
 use Rattle.core_events.specs.ShownSteps.{shown_act, shown_number}
 use Rattle.core_events.specs.Steps.{moved}
@@ -22,12 +23,14 @@ use Rattle.domain_rule.specs.declared.view.Whole.{Whole}
 use Rattle.domain_rule.specs.declared.view.SeatView.{SeatView}
 use Rattle.domain_rule.specs.Views.{core_in, whole_of, object_in, own_of}
 
--- a step of seat n in a history, which found w, and a fact of the plain states before and after it
-pub record Happened (z : Shape) (qs : List Quota) (n : ℕ) (a : Act) (w : ℕ)
+-- a step of seat n, with the view v, in a history, which found w, and a fact of the plain states
+-- before and after it
+pub record Happened (z : Shape) (qs : List Quota) (n : ℕ) (v : CoreView) (a : Act) (w : ℕ)
     (Fact : Plain → Plain → Type 0) : Type 0 where
   pub events : List Event
   pub before : Core
   pub history : History z qs events before
+  pub view : v ≡ view_at before n
   pub enabled : Enabled z before n a
   pub found : w ≡ found z before n a
   pub fact : Fact (shows z before) (shows z (after z before n a))
@@ -73,4 +76,4 @@ module _ {V : Type 0} where
     pub here : v'.gone ≡ false
     pub law : SeatLaw z v.core.seat v'.core
     pub happened :
-        Happened z qs v.core.seat a w (λ p q. allows p q v.core.seat v.client v'.client)
+        Happened z qs v.core.seat v.core a w (λ p q. allows p q v.core.seat v.client v'.client)
