@@ -1,5 +1,5 @@
--- What an event of the core needs of the numbers: the word that it is on is there, and what it finds fits.
-use Rattle.std.proofs.Common.{ℕ, ◌<◌, length, arith}
+-- The word that an event is on is there, and a place holds null or a slot that is there.
+use Rattle.std.proofs.Common.{◌≡◌, ◌<◌, ◌≤◌, ℕ, length, arith}
 use Rattle.std.specs.Prelude.{slice_index}
 use Rattle.plain_state.specs.declared.slot.SlotId.{SlotId}
 use Rattle.core_events.specs.declared.act.Act.{Act}
@@ -10,9 +10,8 @@ use Rattle.core_events.specs.Words.{word_count}
 use Rattle.core_events.specs.Views.{no_view}
 use Rattle.core_events.specs.Steps.{May, place}
 use Rattle.core_events.specs.Runs.{Core, view_at}
-use Rattle.core_events.specs.Good.{SeatLaw}
 use Rattle.core_law.specs.Sound.{Sound}
-use Rattle.core_law.proofs.InRange.{content_in, open_in, place_in, put_in}
+use Rattle.core_law.proofs.InRange.{content_in, open_in_range, place_in, put_in_range}
 use Rattle.core_law.proofs.Steady.{named_in_range}
 use Rattle.core_seats.specs.Fits.{IsFit, IsWordFor}
 
@@ -23,26 +22,23 @@ module _ (z : Shape) (c : Core) (n : ℕ) (so : Sound z c) (there : n < length c
   abbrev v : CoreView
   v = view_at c n
 
-  law : SeatLaw z n v
-  law = so.seats n hn
-
   -- the word that an act is on, where the seat may make the act
   pub place_there : (a : Act) → May z a v → place z a v < word_count z
-  place_there = place_in z n v law hn
+  place_there = place_in z n v (so.seats n hn) hn
 
   -- the numbers of a seat are in their ranges
   pub seat_fit : IsFit v
   seat_fit = record {
     room = so.room.each n no_view there;
-    can_start = law.can_start;
+    can_start = (so.seats n hn).can_start;
   }
 
   -- what an act finds in a place
   pub word_for : (a : Act) → May z a v → IsWordFor z a (slice_index c.words (place z a v))
-  word_for (act.Look q) may = content_in z c so q (open_in z n v law hn q may.1)
-  word_for (act.Check j q) may = content_in z c so q (open_in z n v law hn q may.3)
-  word_for (act.Swap q new) may = content_in z c so q (put_in z n v law hn q new may)
-  word_for (act.Cas q old new) may = content_in z c so q (open_in z n v law hn q may.2)
+  word_for (act.Look q) may = content_in z c so q (open_in_range z n v (so.seats n hn) q may.1)
+  word_for (act.Check j q) may = content_in z c so q (open_in_range z n v (so.seats n hn) q may.3)
+  word_for (act.Swap q new) may = content_in z c so q (put_in_range z n v (so.seats n hn) q new may)
+  word_for (act.Cas q old new) may = content_in z c so q (open_in_range z n v (so.seats n hn) q may.2)
   word_for (act.Add s) may = tt
   word_for (act.Drop s) may = tt
   word_for act.Pay may = tt
@@ -67,10 +63,9 @@ module _ (z : Shape) (c : Core) (n : ℕ) (so : Sound z c) (there : n < length c
 -- what a seat destroys is there
 pub destroy_there : (z : Shape) (c : Core) (n : ℕ) (s : SlotId) → Sound z c → n < length c.views
     → May z (act.Destroy s) (view_at c n) → s.0 < z.slots
-destroy_there z c n s so there may =
+destroy_there z c n s so hn may =
     let views = so.views in
-    let p = may.1 in
-    named_in_range z n (view_at c n) s (so.seats n (omega arith)) (omega arith)
+    let p = may.1 in named_in_range z n (view_at c n) s (so.seats n (omega arith)) (omega arith)
 
 -- what the event of a seat needs of the numbers
 pub ruleset in_range = (place_there, word_for, seat_fit)

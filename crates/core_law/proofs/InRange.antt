@@ -1,4 +1,5 @@
--- The word that an event is on is there, and a place holds null or a slot that is there.
+-- What a seat names is there by what holds of the seat itself: the places that are open to it, and
+-- the word that its act is on. And a place that is there holds null or a slot that is there.
 use Rattle.std.proofs.Common.{◌≡◌, ◌∙◌, ◌⊎◌, ⊎_elim, ℕ, ◌-◌, ◌<◌, ◌≤◌, List, [], ◌∷◌, refl, ap, sym, subst, arith}
 use Rattle.std.specs.Prelude.{slice_index, Option}
 use Rattle.std.proofs.lemmas.Bool.{cases_lt}
@@ -15,7 +16,7 @@ use Rattle.core_events.specs.declared.shape.Shape.{Shape}
 use Rattle.core_events.specs.declared.view.CoreView.{CoreView}
 use Rattle.core_events.specs.declared.view.Phase.TheVariants as phase
 use Rattle.core_events.specs.Words.{note_at, payload_at, place_at, word_count}
-use Rattle.core_events.specs.Views.{Holds, HoldsStrongly, IsOpen, IsDyingField, slot_of}
+use Rattle.core_events.specs.Views.{Holds, HoldsStrongly, IsDyingField, IsOpen, slot_of}
 use Rattle.core_events.specs.Steps.{May, place, owed_at, counter_at}
 use Rattle.core_events.specs.Runs.{Core}
 use Rattle.core_events.specs.Counts.{naming, in_phase}
@@ -26,28 +27,32 @@ use Rattle.core_law.proofs.Held.{held_named}
 use Rattle.core_law.proofs.Writes.{IsPlace, place_bound, places_at}
 use Rattle.core_law.proofs.Steady.{named_in_range, in_finish, in_help, in_zero, in_blank, in_give}
 
-module _ (z : Shape) (n : ℕ) (v : CoreView) (law : SeatLaw z n v) (there : n < z.seats) where
+module _ (z : Shape) (n : ℕ) (v : CoreView) (law : SeatLaw z n v) where
   named : (s : SlotId) → 0 < naming s v → s.0 < z.slots
   named s h = named_in_range z n v s law h
 
   held : (s : SlotId) → Holds v s → s.0 < z.slots
   held s h = named s (held_named s v h)
 
-  strongly : (s : SlotId) → HoldsStrongly v s → s.0 < z.slots
-  strongly s h = named s (held_named s v (omega arith))
+  strongly_held : (s : SlotId) → HoldsStrongly v s → s.0 < z.slots
+  strongly_held s h = held s (omega arith)
 
-  -- a place that is open to the seat, or a field that it clears
-  pub open_in : (q : EventPlace) → IsOpen z v q → IsPlace z q
-  open_in (Cell i) h = h
-  open_in (Field s i) h = (strongly s h.1, h.0)
-  open_in (WeakCell i) h = h
-  open_in (WeakField s) h = strongly s h
+  -- a place that is open to the seat is there, and so is a field of a slot in its dying list
+  pub open_in_range : (q : EventPlace) → IsOpen z v q → IsPlace z q
+  open_in_range (Cell i) h = h
+  open_in_range (Field s i) h = (strongly_held s h.1, h.0)
+  open_in_range (WeakCell i) h = h
+  open_in_range (WeakField s) h = strongly_held s h
 
-  pub dying_field_in : (q : EventPlace) → IsDyingField v q → IsPlace z q
-  dying_field_in (Cell i) h = absurd h
-  dying_field_in (Field s i) h = let d = h.1 in (named s (omega arith), h.0)
-  dying_field_in (WeakCell i) h = absurd h
-  dying_field_in (WeakField s) h = named s (omega arith)
+  pub dying_in_range : (q : EventPlace) → IsDyingField v q → IsPlace z q
+  dying_in_range (Cell i) h = absurd h
+  dying_in_range (Field s i) h = let d = h.1 in (named s (omega arith), h.0)
+  dying_in_range (WeakCell i) h = absurd h
+  dying_in_range (WeakField s) h = named s (omega arith)
+
+  pub put_in_range : (q : EventPlace) (new : Option SlotId) → May z (act.Swap q new) v → IsPlace z q
+  put_in_range q new may =
+      ⊎_elim (λ o. open_in_range q o.0) (λ d. dying_in_range q d.0) may.2
 
   in_phase_there : (s : SlotId) → slot_of v.phase ≡ s → in_phase s v.phase ≡ 1
       → (slot_of v.phase).0 < z.slots
@@ -92,45 +97,41 @@ module _ (z : Shape) (n : ℕ) (v : CoreView) (law : SeatLaw z n v) (there : n <
   give_there s e = in_phase_there s (ap slot_of e)
       ((in_give v.phase s s e).names ∙ one_same s s refl)
 
-  note_there : (j : ℕ) → j < 4 → note_at v.seat j < word_count z
-  note_there j h = let number = law.number in omega arith
+  note_there : n < z.seats → (j : ℕ) → j < 4 → note_at v.seat j < word_count z
+  note_there hn j h = let number = law.number in omega arith
 
   seen_there : (s : SlotId) (i : ℕ) → i < 16 → (Holds v s ⊎ (0 < times s v.dying))
       → payload_at z s i < word_count z
   seen_there s i h has =
-      let inside : s.0 < z.slots = ⊎_elim (λ hold. held s hold) (λ die. named s (omega arith)) has in
+      let there : s.0 < z.slots = ⊎_elim (λ hold. held s hold) (λ die. named s (omega arith)) has in
       omega arith
 
-  -- a place into which the seat may put this
-  pub put_in : (q : EventPlace) (new : Option SlotId) → May z (act.Swap q new) v → IsPlace z q
-  put_in q new may = ⊎_elim (λ o. open_in q o.0) (λ d. dying_field_in q d.0) may.2
-
   -- the word that an act is on, where the seat may make the act
-  pub place_in : (a : Act) → May z a v → place z a v < word_count z
-  place_in (act.Add s) may = let h = held s may.2 in omega arith
-  place_in (act.Drop s) may = let p = may.1 in let h = named s (omega arith) in omega arith
-  place_in act.Pay may = owed_there v.owed refl
-  place_in act.Finish may = let h = finish_there may.0 may.1 in omega arith
-  place_in act.Take may = let h = help_there may.0 may.1 in omega arith
-  place_in (act.Count s) may = let h = held s may.1 in omega arith
-  place_in act.Mark may = let h = zero_there may.0 may.1 in omega arith
-  place_in (act.Announce j k s) may = note_there j may.1
-  place_in (act.Release j) may = note_there j may.1
-  place_in (act.Look q) may = place_bound z q (open_in q may.1)
-  place_in (act.Check j q) may = place_bound z q (open_in q may.3)
-  place_in act.Scan may = let r = law.reads in omega arith
-  place_in (act.Swap q new) may = place_bound z q (put_in q new may)
-  place_in (act.Cas q old new) may = place_bound z q (open_in q may.2)
-  place_in (act.Claim s) may = let h = may.1 in omega arith
-  place_in (act.Fill i x) may = let h = blank_there may.0.0 may.0.1 in let i16 = may.1 in omega arith
-  place_in act.Start may = let h = blank_there may.0 may.1 in omega arith
-  place_in (act.See s i) may = seen_there s i may.2 may.1
-  place_in act.Free may = let h = give_there may.0 may.1 in omega arith
-  place_in (act.Wadd s) may = let h = held s may.2 in omega arith
-  place_in (act.Wdrop s) may = let p = may.1 in let h = named s (omega arith) in omega arith
-  place_in (act.Destroy s) may = let p = may.1 in let h = named s (omega arith) in omega arith
-  place_in (act.Wcount s) may = let h = held s may.1 in omega arith
-  place_in (act.Leave j) may = omega arith
+  pub place_in : n < z.seats → (a : Act) → May z a v → place z a v < word_count z
+  place_in hn (act.Add s) may = let h = held s may.2 in omega arith
+  place_in hn (act.Drop s) may = let p = may.1 in let h = named s (omega arith) in omega arith
+  place_in hn act.Pay may = owed_there v.owed refl
+  place_in hn act.Finish may = let h = finish_there may.0 may.1 in omega arith
+  place_in hn act.Take may = let h = help_there may.0 may.1 in omega arith
+  place_in hn (act.Count s) may = let h = held s may.1 in omega arith
+  place_in hn act.Mark may = let h = zero_there may.0 may.1 in omega arith
+  place_in hn (act.Announce j k s) may = note_there hn j may.1
+  place_in hn (act.Release j) may = note_there hn j may.1
+  place_in hn (act.Look q) may = place_bound z q (open_in_range q may.1)
+  place_in hn (act.Check j q) may = place_bound z q (open_in_range q may.3)
+  place_in hn act.Scan may = let r = law.reads in omega arith
+  place_in hn (act.Swap q new) may = place_bound z q (put_in_range q new may)
+  place_in hn (act.Cas q old new) may = place_bound z q (open_in_range q may.2)
+  place_in hn (act.Claim s) may = let h = may.1 in omega arith
+  place_in hn (act.Fill i x) may = let h = blank_there may.0.0 may.0.1 in let i16 = may.1 in omega arith
+  place_in hn act.Start may = let h = blank_there may.0 may.1 in omega arith
+  place_in hn (act.See s i) may = seen_there s i may.2 may.1
+  place_in hn act.Free may = let h = give_there may.0 may.1 in omega arith
+  place_in hn (act.Wadd s) may = let h = held s may.2 in omega arith
+  place_in hn (act.Wdrop s) may = let p = may.1 in let h = named s (omega arith) in omega arith
+  place_in hn (act.Destroy s) may = let p = may.1 in let h = named s (omega arith) in omega arith
+  place_in hn (act.Wcount s) may = let h = held s may.1 in omega arith
+  place_in hn (act.Leave j) may = omega arith
 
 -- a place that is there holds null or a slot that is there
 pub content_in : (z : Shape) (c : Core) → Sound z c → (q : EventPlace) → IsPlace z q

@@ -30,10 +30,10 @@ use Rattle.core_events.specs.Counts.{weak, dying_times}
 use Rattle.core_law.specs.Sound.{Sound}
 use Rattle.core_law.proofs.Kit.{one_other, total_at}
 use Rattle.core_law.proofs.Held.{strongly_refs}
-use Rattle.core_law.proofs.InRange.{open_in, dying_field_in}
 use Rattle.core_law.proofs.Writes.{IsPlace, payload_off, places_off, fields_sum_off}
 use Rattle.core_law.proofs.Put.{put, law_alike, at_seat}
 use Rattle.core_law.proofs.Steady.{steady_sound}
+use Rattle.core_law.proofs.InRange.{open_in_range, dying_in_range}
 use Rattle.core_law.proofs.OneWord.{trail_step}
 use Rattle.core_law.proofs.Lives as life
 use Rattle.core_law.proofs.Weaks as weak_word
@@ -70,7 +70,7 @@ module _ (z : Shape) (c : Core) (n : ℕ) (so : Sound z c) (hn : n < z.seats) wh
 
   -- a place that is open is there, and its slot is live
   pub open_there : (q : EventPlace) → IsOpen z v q → IsPlace z q
-  open_there = open_in z n v (so.seats n hn) hn
+  open_there q h = open_in_range z n v (so.seats n hn) q h
 
   pub open_alive : (q : EventPlace) → IsOpen z v q → IsAlive z c n so hn q
   open_alive (Cell i) h = tt
@@ -79,7 +79,7 @@ module _ (z : Shape) (c : Core) (n : ℕ) (so : Sound z c) (hn : n < z.seats) wh
   open_alive (WeakField s) h = let r = strongly_refs z c n s so hn h in omega arith
 
   pub dying_there : (q : EventPlace) → IsDyingField v q → IsPlace z q
-  dying_there = dying_field_in z n v (so.seats n hn) hn
+  dying_there q h = dying_in_range z n v (so.seats n hn) q h
 
   dying_in : (s : SlotId) → times s v.dying ≤ dying_times c s
   dying_in s = total_at (λ (u : CoreView). times s u.dying) c.views n (at_seat z c n so hn)

@@ -1,5 +1,5 @@
 -- A seat that leaves to seat 0 keeps the invariant.
-use Rattle.std.proofs.Common.{◌≡◌, ◌≢◌, ⊎_elim, ℕ, ◌+◌, ◌*◌, ◌<◌, ◌≤◌, List, [], length, get_or, set, refl, ap, sym, ◌∙◌, subst, arith, length-append}
+use Rattle.std.proofs.Common.{◌≡◌, ◌≢◌, ⊎_elim, ℕ, ◌+◌, ◌*◌, ◌<◌, ◌≤◌, false, List, [], ◌++◌, length, get_or, set, refl, ap, sym, ◌∙◌, subst, arith, length-append}
 use Rattle.std.proofs.lemmas.List.{length-set, get_or-set_same, get_or-set_other}
 use Rattle.std.proofs.lemmas.List.Elements.{All-set}
 use Rattle.std.proofs.lemmas.Bool.{cases_eq}
@@ -37,6 +37,53 @@ total_two f vs j v u hn hj ne e =
     let b = total_set f (set vs 0 v) j u (omega arith) in
     let g = ap f (get_or-set_other vs 0 j v no_view ne) in omega arith
 
+module _ (root v : CoreView) where
+  -- what the lists of the two name together stays where seat 0 takes them over
+  pub record Parts (s : SlotId) : Type 0 where
+    pub owned : times s (root.owned ++ v.owned) ≡ times s root.owned + times s v.owned
+    pub weaks : times s (root.weaks ++ v.weaks) ≡ times s root.weaks + times s v.weaks
+    pub dying : times s (root.dying ++ v.dying) ≡ times s root.dying + times s v.dying
+    pub strong : entry_times Strong s (root.retired ++ v.retired)
+        ≡ entry_times Strong s root.retired + entry_times Strong s v.retired
+    pub weak : entry_times Weak s (root.retired ++ v.retired)
+        ≡ entry_times Weak s root.retired + entry_times Weak s v.retired
+    pub none : times s [] ≡ 0
+    pub no_strong : entry_times Strong s [] ≡ 0
+    pub no_weak : entry_times Weak s [] ≡ 0
+
+  pub parts : (s : SlotId) → Parts s
+  parts s = record {
+    owned = times_append s root.owned v.owned;
+    weaks = times_append s root.weaks v.weaks;
+    dying = times_append s root.dying v.dying;
+    strong = entry_append Strong s root.retired v.retired;
+    weak = entry_append Weak s root.retired v.retired;
+    none = times_none s;
+    no_strong = entry_none Strong s;
+    no_weak = entry_none Weak s;
+  }
+
+  -- the law of seat 0 by itself holds then
+  pub taken_law : (z : Shape) (j : ℕ) → SeatLaw z 0 root → SeatLaw z j v → root.left ≡ false
+      → SeatLaw z 0 (noted (act.Leave j) outcome.Plain (taken_over root v))
+  taken_law z j law0 lawj here = record {
+    number = law0.number;
+    same_shape = law0.same_shape;
+    quota = law0.quota;
+    adds = law0.adds;
+    makes = law0.makes;
+    can_start = law0.can_start;
+    four = law0.four;
+    scans = law0.scans;
+    reads = law0.reads;
+    owes_nothing = law0.owes_nothing;
+    range = λ s le.
+        let a = law0.range s le in
+        let b = lawj.range s le in
+        let p = parts s in omega arith;
+    gone = λ e. absurd (cc (here, e));
+  }
+
 module _ (z : Shape) (c : Core) (so : Sound z c) (j : ℕ) (other : j ≢ 0) (hj : j < z.seats)
     (can0 : CanLeave (view_at c 0)) (canj : CanLeave (view_at c j)) where
   abbrev root : CoreView
@@ -71,15 +118,15 @@ module _ (z : Shape) (c : Core) (so : Sound z c) (j : ℕ) (other : j ≢ 0) (hj
   two f e = total_two f c.views j root' v' at0 atj other e
 
   -- who is who in the new views
-  is_j : get_or views' j no_view ≡ v'
+  pub is_j : get_or views' j no_view ≡ v'
   is_j = get_or-set_same (set c.views 0 root') j v' no_view
       (let l = length-set c.views 0 root' in let a = atj in omega arith)
 
-  is_0 : get_or views' 0 no_view ≡ root'
+  pub is_0 : get_or views' 0 no_view ≡ root'
   is_0 = get_or-set_other (set c.views 0 root') j 0 v' no_view (λ e. other (sym e))
       ∙ get_or-set_same c.views 0 root' no_view at0
 
-  is_m : (m : ℕ) → m ≢ 0 → m ≢ j → get_or views' m no_view ≡ view_at c m
+  pub is_m : (m : ℕ) → m ≢ 0 → m ≢ j → get_or views' m no_view ≡ view_at c m
   is_m m a b = get_or-set_other (set c.views 0 root') j m v' no_view b
       ∙ get_or-set_other c.views 0 m root' no_view a
 
@@ -109,49 +156,8 @@ module _ (z : Shape) (c : Core) (so : Sound z c) (j : ℕ) (other : j ≢ 0) (hj
   seenj : v.seen ≡ []
   seenj = nothing_seen z j v lawj (λ e. absurd (cc (canj.0.0, e)))
 
-  -- what the lists of the two name together stays
-  pub record Parts (s : SlotId) : Type 0 where
-    pub owned : times s root'.owned ≡ times s root.owned + times s v.owned
-    pub weaks : times s root'.weaks ≡ times s root.weaks + times s v.weaks
-    pub dying : times s root'.dying ≡ times s root.dying + times s v.dying
-    pub strong : entry_times Strong s root'.retired ≡ entry_times Strong s root.retired
-        + entry_times Strong s v.retired
-    pub weak : entry_times Weak s root'.retired ≡ entry_times Weak s root.retired
-        + entry_times Weak s v.retired
-    pub none : times s [] ≡ 0
-    pub no_strong : entry_times Strong s [] ≡ 0
-    pub no_weak : entry_times Weak s [] ≡ 0
-
-  parts : (s : SlotId) → Parts s
-  parts s = record {
-    owned = times_append s root.owned v.owned;
-    weaks = times_append s root.weaks v.weaks;
-    dying = times_append s root.dying v.dying;
-    strong = entry_append Strong s root.retired v.retired;
-    weak = entry_append Weak s root.retired v.retired;
-    none = times_none s;
-    no_strong = entry_none Strong s;
-    no_weak = entry_none Weak s;
-  }
-
   root_seat : SeatLaw z 0 root'
-  root_seat = record {
-    number = law0.number;
-    same_shape = law0.same_shape;
-    quota = law0.quota;
-    adds = law0.adds;
-    makes = law0.makes;
-    can_start = law0.can_start;
-    four = law0.four;
-    scans = law0.scans;
-    reads = law0.reads;
-    owes_nothing = law0.owes_nothing;
-    range = λ s le.
-        let a = law0.range s le in
-        let b = lawj.range s le in
-        let p = parts s in omega arith;
-    gone = λ e. absurd (cc (can0.0.1, e));
-  }
+  root_seat = taken_law root v z j law0 lawj can0.0.1
 
   left_seat : SeatLaw z j v'
   left_seat = record {
@@ -165,7 +171,7 @@ module _ (z : Shape) (c : Core) (so : Sound z c) (j : ℕ) (other : j ≢ 0) (hj
     scans = lawj.scans;
     reads = lawj.reads;
     owes_nothing = lawj.owes_nothing;
-    range = λ s le. let b = lawj.range s le in let p = parts s in omega arith;
+    range = λ s le. let b = lawj.range s le in let p = parts root v s in omega arith;
     gone = λ e. (canj.0.0, refl, refl, refl, canj.1, refl, canj.2);
   }
 
@@ -195,7 +201,7 @@ module _ (z : Shape) (c : Core) (so : Sound z c) (j : ℕ) (other : j ≢ 0) (hj
     seats = λ m hm. by_seat (λ k u. k < z.seats → SeatLaw z k u) (λ _. root_seat) (λ _. left_seat)
         (λ k a b hk. so.seats k hk) m hm;
     slots = λ s hs.
-        let p = parts s in
+        let p = parts root v s in
         let a = two (listed Strong s) (omega arith) in
         let b = two (listed Weak s) (omega arith) in
         let f = two (λ (u : CoreView). finishing s u.phase) refl in

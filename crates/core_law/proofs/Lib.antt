@@ -19,6 +19,7 @@ pub mod Scans
 pub mod Exchange
 pub mod Flags
 pub mod KeepsCounts
+pub mod InRange
 pub mod Keeps
 pub mod Leaves
 pub mod Starts

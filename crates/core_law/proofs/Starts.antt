@@ -51,7 +51,7 @@ module _ (z : Shape) where
       let d = length_free z.slots in omega arith
 
   -- below the slots' words all are 0
-  low_at : (i : ℕ) → i < slot_at z 0 → slice_index (first_words z) i ≡ 0
+  pub low_at : (i : ℕ) → i < slot_at z 0 → slice_index (first_words z) i ≡ 0
   low_at i h =
       let b = length-replicate {A = ℕ} (slot_at z 0) 0 in
       get_or_append_left (replicate (slot_at z 0) 0) (all_free z.slots) 0 i (omega arith)
@@ -66,26 +66,26 @@ module _ (z : Shape) where
       rw e (get_or-append-add (replicate (slot_at z 0) 0) (all_free z.slots) (21 * x + k) 0
       ∙ free_at z.slots x k hx hk)
 
-  strong_first : (s : SlotId) → s.0 < z.slots → slice_index (first_words z) (strong_at z s) ≡ ZERO
+  pub strong_first : (s : SlotId) → s.0 < z.slots → slice_index (first_words z) (strong_at z s) ≡ ZERO
   strong_first s h = let e : strong_at z s ≡ slot_at z s.0
       + 0 = omega arith in rw e (slot_word s.0 0 h (omega arith))
 
-  weak_first : (s : SlotId) → s.0 < z.slots → slice_index (first_words z) (weak_at z s) ≡ ZERO
+  pub weak_first : (s : SlotId) → s.0 < z.slots → slice_index (first_words z) (weak_at z s) ≡ ZERO
   weak_first s h = slot_word s.0 1 h (omega arith)
 
-  field_first : (s : SlotId) (k : ℕ) → s.0 < z.slots → 2 ≤ k → k < 21
+  pub field_first : (s : SlotId) (k : ℕ) → s.0 < z.slots → 2 ≤ k → k < 21
       → slice_index (first_words z) (slot_at z s.0 + k) ≡ 0
   field_first s k h a b = slot_word s.0 k h b ∙ zeros_at k a b
 
-  field0 : (s : SlotId) → s.0 < z.slots → slice_index (first_words z) (field_at z s 0) ≡ 0
+  pub field0 : (s : SlotId) → s.0 < z.slots → slice_index (first_words z) (field_at z s 0) ≡ 0
   field0 s h = let e : field_at z s 0 ≡ slot_at z s.0 + 2 = omega arith in rw e
       (field_first s 2 h (omega arith) (omega arith))
 
-  field1 : (s : SlotId) → s.0 < z.slots → slice_index (first_words z) (field_at z s 1) ≡ 0
+  pub field1 : (s : SlotId) → s.0 < z.slots → slice_index (first_words z) (field_at z s 1) ≡ 0
   field1 s h = let e : field_at z s 1 ≡ slot_at z s.0 + 3 = omega arith in rw e
       (field_first s 3 h (omega arith) (omega arith))
 
-  weak_field : (s : SlotId) → s.0 < z.slots → slice_index (first_words z) (weak_field_at z s) ≡ 0
+  pub weak_field : (s : SlotId) → s.0 < z.slots → slice_index (first_words z) (weak_field_at z s) ≡ 0
   weak_field s h = field_first s 4 h (omega arith) (omega arith)
 
   in_null : (s : SlotId) (w : ℕ) → w ≡ 0 → in_word s w ≡ 0
@@ -107,12 +107,12 @@ module _ (z : Shape) where
       let b = below_none z.slots (weak_holding z (first_words z) s)
       (λ x h. in_null s _ (weak_field (record { 0 = x }) h)) in omega arith
 
-length_views : (z : Shape) (i : ℕ) (qs : List Quota) → length (first_views z i qs) ≡ length qs
+pub length_views : (z : Shape) (i : ℕ) (qs : List Quota) → length (first_views z i qs) ≡ length qs
 length_views z i [] = refl
 length_views z i (q ∷ qs) = ap suc (length_views z (i + 1) qs)
 
 -- seat n's first view
-first_at : (z : Shape) (i n : ℕ) (qs : List Quota) (d : Quota) → n < length qs
+pub first_at : (z : Shape) (i n : ℕ) (qs : List Quota) (d : Quota) → n < length qs
     → get_or (first_views z i qs) n no_view ≡ first_view z (i + n) (get_or qs n d)
 first_at z i n [] d h = absurd (omega arith)
 first_at z i zero (q ∷ qs) d h = let e : i ≡ i + 0 = omega arith in ap (λ (m : ℕ). first_view z m q)
@@ -121,7 +121,7 @@ first_at z i (suc n) (q ∷ qs) d h =
     let e : i + 1 + n ≡ i + suc n = omega arith in
     first_at z (i + 1) n qs d (omega arith) ∙ ap (λ (m : ℕ). first_view z m (get_or qs n d)) e
 
-total_none : (f : CoreView → ℕ) (z : Shape) (i : ℕ) (qs : List Quota)
+pub total_none : (f : CoreView → ℕ) (z : Shape) (i : ℕ) (qs : List Quota)
     → ((n : ℕ) (q : Quota) → f (first_view z n q) ≡ 0)
     → total f (first_views z i qs) ≡ 0
 unfolding total
@@ -151,7 +151,7 @@ first_names : (s : SlotId) (z : Shape) (n : ℕ) (q : Quota) → naming s (first
 unfolding times entry_times noting
 first_names s z n q = refl
 
-first_seat : (z : Shape) (n : ℕ) (q : Quota) → 1 ≤ z.seats → IsQuota q
+pub first_seat : (z : Shape) (n : ℕ) (q : Quota) → 1 ≤ z.seats → IsQuota q
     → SeatLaw z n (first_view z n q)
 first_seat z n q some' is = record {
   number = refl;

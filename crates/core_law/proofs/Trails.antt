@@ -27,10 +27,11 @@ use Rattle.core_law.proofs.Always.{step_keeps, is_leave}
 use Rattle.core_law.proofs.Put.{at_seat}
 use Rattle.core_law.proofs.Starts.{start_sound, first_trail}
 
--- the two views have the same trail, and both have left or neither has
+-- the two views have the same trail and the same trails of seats that left, and both have left or neither has
 pub record SameTrail (v u : CoreView) : Type 0 where
   pub trail : u.trail ≡ v.trail
   pub left : u.left ≡ v.left
+  pub left_trails : u.left_trails ≡ v.left_trails
 
 pick : (b : Bool) (x y v : CoreView) → SameTrail v x → SameTrail v y
     → SameTrail v (if b then x else y)
@@ -39,60 +40,60 @@ pick false x y v a b = b
 
 give : (k : Kind) (s : SlotId) (w : ℕ) (u v : CoreView) → SameTrail v u
     → SameTrail v (given_up k s w u)
-give Strong s w u v a = record { trail = a.trail; left = a.left }
-give Weak s w u v a = record { trail = a.trail; left = a.left }
+give Strong s w u v a = record { trail = a.trail; left = a.left; left_trails = a.left_trails }
+give Weak s w u v a = record { trail = a.trail; left = a.left; left_trails = a.left_trails }
 
 exchange : (k : Kind) (new : Option SlotId) (w : ℕ) (v : CoreView)
     → SameTrail v (exchanged k new w v)
-exchange k None w v = record { trail = refl; left = refl }
-exchange Strong (Some s) w v = record { trail = refl; left = refl }
-exchange Weak (Some s) w v = record { trail = refl; left = refl }
+exchange k None w v = record { trail = refl; left = refl; left_trails = refl }
+exchange Strong (Some s) w v = record { trail = refl; left = refl; left_trails = refl }
+exchange Weak (Some s) w v = record { trail = refl; left = refl; left_trails = refl }
 
 -- nothing but the noting changes a trail
-changed_trail : (z : Shape) (a : Act) (w : ℕ) (v : CoreView) → SameTrail v (changed z a w v)
-changed_trail z (act.Add s) w v = pick (nat_lt w ZERO) _ _ v (record { trail = refl; left = refl })
-    (record { trail = refl; left = refl })
+pub changed_trail : (z : Shape) (a : Act) (w : ℕ) (v : CoreView) → SameTrail v (changed z a w v)
+changed_trail z (act.Add s) w v = pick (nat_lt w ZERO) _ _ v (record { trail = refl; left = refl; left_trails = refl })
+    (record { trail = refl; left = refl; left_trails = refl })
 changed_trail z (act.Drop s) w v =
     give Strong s w (record v { owned = without s v.owned }) v
-    (record { trail = refl; left = refl })
+    (record { trail = refl; left = refl; left_trails = refl })
 changed_trail z act.Pay w v = pays v.owed
   where
     pays : (es : List Entry) → SameTrail v (paid w es v)
-    pays [] = record { trail = refl; left = refl }
-    pays (e ∷ es) = give e.0 e.1 w (record v { owed = es }) v (record { trail = refl; left = refl })
-changed_trail z act.Finish w v = pick (w == 0) _ _ v (record { trail = refl; left = refl })
-    (record { trail = refl; left = refl })
-changed_trail z act.Take w v = pick (has_help w) _ _ v (record { trail = refl; left = refl })
-    (record { trail = refl; left = refl })
-changed_trail z (act.Count s) w v = pick (w == 0) _ _ v (record { trail = refl; left = refl })
-    (record { trail = refl; left = refl })
-changed_trail z act.Mark w v = record { trail = refl; left = refl }
-changed_trail z (act.Announce j k s) w v = record { trail = refl; left = refl }
-changed_trail z (act.Release j) w v = record { trail = refl; left = refl }
-changed_trail z (act.Look p) w v = record { trail = refl; left = refl }
+    pays [] = record { trail = refl; left = refl; left_trails = refl }
+    pays (e ∷ es) = give e.0 e.1 w (record v { owed = es }) v (record { trail = refl; left = refl; left_trails = refl })
+changed_trail z act.Finish w v = pick (w == 0) _ _ v (record { trail = refl; left = refl; left_trails = refl })
+    (record { trail = refl; left = refl; left_trails = refl })
+changed_trail z act.Take w v = pick (has_help w) _ _ v (record { trail = refl; left = refl; left_trails = refl })
+    (record { trail = refl; left = refl; left_trails = refl })
+changed_trail z (act.Count s) w v = pick (w == 0) _ _ v (record { trail = refl; left = refl; left_trails = refl })
+    (record { trail = refl; left = refl; left_trails = refl })
+changed_trail z act.Mark w v = record { trail = refl; left = refl; left_trails = refl }
+changed_trail z (act.Announce j k s) w v = record { trail = refl; left = refl; left_trails = refl }
+changed_trail z (act.Release j) w v = record { trail = refl; left = refl; left_trails = refl }
+changed_trail z (act.Look p) w v = record { trail = refl; left = refl; left_trails = refl }
 changed_trail z (act.Check j p) w v = pick (is_valid w (note_of v j)) _ _ v
-    (record { trail = refl; left = refl }) (record { trail = refl; left = refl })
-changed_trail z act.Scan w v = pick (is_last z v) _ _ v (record { trail = refl; left = refl })
-    (record { trail = refl; left = refl })
+    (record { trail = refl; left = refl; left_trails = refl }) (record { trail = refl; left = refl; left_trails = refl })
+changed_trail z act.Scan w v = pick (is_last z v) _ _ v (record { trail = refl; left = refl; left_trails = refl })
+    (record { trail = refl; left = refl; left_trails = refl })
 changed_trail z (act.Swap p new) w v = exchange (place_kind p) new w v
 changed_trail z (act.Cas p old new) w v = pick (w == word_of old) _ _ v
-    (exchange (place_kind p) new w v) (record { trail = refl; left = refl })
-changed_trail z (act.Claim s) w v = pick (w == ZERO) _ _ v (record { trail = refl; left = refl })
-    (record { trail = refl; left = refl })
-changed_trail z (act.Fill i x) w v = record { trail = refl; left = refl }
-changed_trail z act.Start w v = record { trail = refl; left = refl }
-changed_trail z (act.See s i) w v = record { trail = refl; left = refl }
-changed_trail z act.Free w v = record { trail = refl; left = refl }
-changed_trail z (act.Wadd s) w v = record { trail = refl; left = refl }
+    (exchange (place_kind p) new w v) (record { trail = refl; left = refl; left_trails = refl })
+changed_trail z (act.Claim s) w v = pick (w == ZERO) _ _ v (record { trail = refl; left = refl; left_trails = refl })
+    (record { trail = refl; left = refl; left_trails = refl })
+changed_trail z (act.Fill i x) w v = record { trail = refl; left = refl; left_trails = refl }
+changed_trail z act.Start w v = record { trail = refl; left = refl; left_trails = refl }
+changed_trail z (act.See s i) w v = record { trail = refl; left = refl; left_trails = refl }
+changed_trail z act.Free w v = record { trail = refl; left = refl; left_trails = refl }
+changed_trail z (act.Wadd s) w v = record { trail = refl; left = refl; left_trails = refl }
 changed_trail z (act.Wdrop s) w v =
-    give Weak s w (record v { weaks = without s v.weaks }) v (record { trail = refl; left = refl })
+    give Weak s w (record v { weaks = without s v.weaks }) v (record { trail = refl; left = refl; left_trails = refl })
 changed_trail z (act.Destroy s) w v =
-    give Weak s w (record v { dying = without s v.dying }) v (record { trail = refl; left = refl })
-changed_trail z (act.Wcount s) w v = record { trail = refl; left = refl }
-changed_trail z (act.Leave j) w v = record { trail = refl; left = refl }
+    give Weak s w (record v { dying = without s v.dying }) v (record { trail = refl; left = refl; left_trails = refl })
+changed_trail z (act.Wcount s) w v = record { trail = refl; left = refl; left_trails = refl }
+changed_trail z (act.Leave j) w v = record { trail = refl; left = refl; left_trails = refl }
 
 -- an act that isn't a leave changes one view
-views_plain : (z : Shape) (c : Core) (n : ℕ) (a : Act) → ((j : ℕ) → a ≡ act.Leave j → ⊥)
+pub views_plain : (z : Shape) (c : Core) (n : ℕ) (a : Act) → ((j : ℕ) → a ≡ act.Leave j → ⊥)
     → views_after z c n a ≡ set c.views n (moved z a (found z c n a) (view_at c n))
 views_plain z c n (act.Add s) stays = refl
 views_plain z c n (act.Drop s) stays = refl

@@ -1,0 +1,81 @@
+-- What a call of a seat asks, and what it tells: each call is one event.
+use Rattle.std.specs.Prelude.{ℕ, ◌≡◌, List}
+use Rattle.atomic_table.specs.Seated.{TableId}
+use Rattle.atomic_table.specs.Table.{Me}
+use Rattle.atomic_table.specs.declared.shared.Seat.{Seat as TableSeat}
+use Rattle.plain_state.specs.declared.act.PlainAct.{PlainAct}
+use Rattle.plain_state.specs.State.{Plain}
+use Rattle.plain_protocol.specs.Owns.{OwnPart}
+use Rattle.core_events.specs.declared.act.Act.{Act}
+use Rattle.core_events.specs.declared.outcome.Outcome.{Outcome}
+use Rattle.core_events.specs.declared.shape.Shape.{Shape}
+use Rattle.core_events.specs.ShownSteps.{shown_act}
+use Rattle.core_events.specs.Steps.{May, answer}
+use Rattle.domain_rule.specs.declared.view.SeatView.{SeatView}
+use Rattle.domain_rule.specs.Told.{FitsStart, IsOwn, Told}
+use Rattle.domain_rule.specs.Views.{own_of}
+use Rattle.acquire_retire.specs.Domains.{DomainState}
+use Rattle.acquire_retire.specs.Seats.{IsSeated, SeatState}
+
+-- the domain, the deed and the act of a step, for its proof
+pub record Aimed (P D : Type 0) : Type 0 where
+  pub domain : DomainState P
+  pub deed : D
+  pub act : Act
+
+abbrev pub aimed : {P D : Type 0} → DomainState P → D → Act → Aimed P D
+aimed d deed a = record { domain = d; deed = deed; act = a }
+
+module _ {V : Type 0} where
+  -- the deed is ready for whichever plain step the act shows
+  abbrev pub IsReady : (OwnPart → V → PlainAct → Type 0) → Shape → Act → SeatView V → Type 0
+  IsReady ready z a v = (w : ℕ) → ready (own_of v) v.client (shown_act z a w v.core)
+
+  -- the view of the client's stays as it is: the deed of a call that has none
+  abbrev pub same_view : OwnPart → V → PlainAct → ℕ → V
+  same_view own v a found = v
+
+  abbrev pub IsSameView : Plain → Plain → ℕ → V → V → Type 0
+  IsSameView p q n v w = w ≡ v
+
+module _ {P V : Type 0} where
+  -- the seat is one of the domain's
+  abbrev pub IsOf : DomainState P → SeatState V → Type 0
+  IsOf d s = (s.table ≡ d.table) × (s.view.core.shape ≡ d.shape)
+
+  -- The seat has made the act in one atomic step, which found `word`, and answers o. `next` and
+  -- `allows` are the deed's.
+  pub record Steps (d : DomainState P) (next : OwnPart → V → PlainAct → ℕ → V)
+      (allows : Plain → Plain → ℕ → V → V → Type 0) (a : Act) (old new : SeatState V)
+      (o : Outcome) : Type 0 where
+    pub table : new.table ≡ old.table
+    pub word : ℕ
+    pub told : Told d.shape d.quotas next allows a old.view word new.view
+    pub answers : o ≡ answer d.shape a word old.view.core
+
+  -- a seat of the table may make the act, and the deed is ready for it
+  pub record CanStep (d : DomainState P) (ready : OwnPart → V → PlainAct → Type 0)
+      (fits : List ℕ → Type 0) (a : Act) (s : TableSeat (Unit {0}) (SeatView V)) : Type 0 where
+    pub table : s.table_id ≡ d.table
+    pub shape : s.me.0.core.shape ≡ d.shape
+    pub seated : IsSeated s.me
+    pub own : IsOwn a
+    pub may : May d.shape a s.me.0.core
+    pub starts : FitsStart fits a s.me.0
+    pub is_ready : IsReady ready d.shape a s.me.0
+
+  -- the step found w, and the seat carries what it carried
+  abbrev pub Finds : DomainState P → (OwnPart → V → PlainAct → ℕ → V)
+      → (Plain → Plain → ℕ → V → V → Type 0) → Act → Me (Unit {0}) (SeatView V) → ℕ
+      → Me (Unit {0}) (SeatView V) → Type 0
+  Finds d next allows a m w m' =
+      Told d.shape d.quotas next allows a m.0 w m'.0 × (m'.1 ≡ m.1)
+
+  -- the seat of the table has made the act, and found w
+  pub record Stepped (d : DomainState P) (next : OwnPart → V → PlainAct → ℕ → V)
+      (allows : Plain → Plain → ℕ → V → V → Type 0) (a : Act)
+      (old : TableSeat (Unit {0}) (SeatView V)) (w : ℕ)
+      (new : TableSeat (Unit {0}) (SeatView V)) : Type 0 where
+    pub table : new.table_id ≡ old.table_id
+    pub seated : IsSeated new.me
+    pub told : Told d.shape d.quotas next allows a old.me.0 w new.me.0

@@ -1,0 +1,30 @@
+//! The domain, which threads share.
+use core_events::Shape;
+use domain_rule::{Charter, DomainRule, SeatView};
+use atomic_table::Table;
+use plain_protocol::Protocol;
+use std::alloc::Global;
+use std::marker::Model;
+
+/// A domain of counted objects under a client's protocol. Threads share it behind a `&`.
+#[derive(Drop)]
+pub struct Domain<P: Protocol> {
+    pub(crate) table: Table<(), SeatView<P::View>, Charter<P>, DomainRule<P>, Global>,
+    pub(crate) shape: Shape,
+}
+
+// A clause sees which domain it is, and what it was opened with.
+impl<P: Protocol> Model for Domain<P> {
+    ghost use Rattle.acquire_retire.specs.Domains.{DomainState, IsDomain};
+
+    ghost Value = { DomainState P };
+
+    ghost view = { λ d. record {
+      table = d.table.shared.table_id;
+      protocol = d.table.shared.key.protocol;
+      shape = d.table.shared.key.shape;
+      quotas = d.table.shared.key.quotas.items;
+    } };
+
+    ghost invariant = { λ d. IsDomain d.table.shared.table_id d.table.shared.key.shape d.shape };
+}

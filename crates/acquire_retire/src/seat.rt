@@ -1,0 +1,54 @@
+//! A seat of a domain, with which one thread at a time steps.
+use core_events::{Note, Phase, Quota, SlotId};
+use domain_rule::SeatView;
+use eject_scan::Seen;
+use plain_protocol::Protocol;
+use retire_batch::Batch;
+use std::marker::Model;
+
+/// What one thread at a time steps with. W is what the client of the domain keeps with it.
+#[derive(Drop)]
+pub struct SeatOf<W> {
+    pub(crate) seat: atomic_table::Seat<(), SeatView<W>>,
+    pub(crate) number: u32,
+    pub(crate) quota: Quota,
+    pub(crate) adds: u64,
+    pub(crate) makes: u64,
+    pub(crate) phase: Phase,
+    pub(crate) notes: [Note; 4],
+    pub(crate) batch: Batch,
+    pub(crate) seen: Seen,
+    /// How many words its scan has read.
+    pub(crate) read: u32,
+    pub(crate) dying: Vec<SlotId>,
+    /// At seat 0: how many seats have left.
+    pub(crate) left: u32,
+}
+
+// A clause sees which table it steps on, and what it knows.
+impl<W> Model for SeatOf<W> {
+    ghost use Rattle.std.specs.Prelude.{vec_capacity};
+    ghost use Rattle.acquire_retire.specs.Seats.{SeatState, IsSeat};
+
+    ghost Value = { SeatState W };
+
+    ghost view = { λ s. record { table = s.seat.table_id; view = s.seat.me.0 } };
+
+    ghost invariant = { λ s. IsSeat s.seat.me (record {
+      number = s.number;
+      quota = s.quota;
+      adds = s.adds;
+      makes = s.makes;
+      phase = s.phase;
+      notes = s.notes;
+      batch = s.batch;
+      seen = s.seen;
+      read = s.read;
+      dying = s.dying.items;
+      dying_room = vec_capacity s.dying;
+      left = s.left;
+    }) };
+}
+
+/// A seat of a domain under the protocol P.
+pub type Seat<P> = SeatOf<<P as Protocol>::View>;

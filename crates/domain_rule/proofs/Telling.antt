@@ -1,0 +1,83 @@
+-- What the rule tells of one seat by its view.
+use Rattle.std.proofs.Common.{◌≡◌, ◌≢◌, ⊎_elim, ℕ, ◌<◌, Bool, true, false, List, set, refl, ap, sym, ◌∙◌, subst, arith}
+use Rattle.std.specs.Bool.{MatchBool}
+use mathlib.Core.Option.{some}
+use lib.ListN.{get_elem?}
+use Rattle.atomic_table.specs.Table.{State}
+use Rattle.atomic_table.proofs.Lists.{at_set}
+use Rattle.plain_state.specs.State.{Plain}
+use Rattle.core_events.specs.declared.shape.Shape.{Shape}
+use Rattle.core_events.specs.declared.shape.Quota.{Quota}
+use Rattle.core_events.specs.declared.view.CoreView.{CoreView}
+use Rattle.core_events.specs.Runs.{Core, view_at}
+use Rattle.core_law.specs.Sound.{Sound}
+use Rattle.core_law.proofs.Always.{history_sound}
+use Rattle.domain_rule.specs.declared.view.SeatView.{SeatView}
+use Rattle.domain_rule.specs.Rule.{IsTrueOf, Tells, Kept}
+use Rattle.domain_rule.proofs.Padding.{at_less}
+
+-- one case of a match is enough where the other can't be
+here_case : (A B : Type 0) (b : Bool) → b ≡ false → MatchBool b A B → B
+here_case A B true e m = absurd (cc (e))
+here_case A B false e m = m
+
+case_here : (A B : Type 0) (b : Bool) → b ≡ false → B → MatchBool b A B
+case_here A B true e m = absurd (cc (e))
+case_here A B false e m = m
+
+case_map : {A B A' B' : Type 0} (b : Bool) → (A → A') → (b ≡ false → B → B') → MatchBool b A B
+    → MatchBool b A' B'
+case_map true f g m = f m
+case_map false f g m = g refl m
+
+module _ {V : Type 0} (z : Shape) (c d : Core) (n : ℕ) (v : SeatView V) where
+  -- what a view tells stays, if what has left stays so, and what a seat knows is still so
+  pub tells_again : ((view_at c n).left ≡ true → (view_at d n).left ≡ true)
+      → (v.gone ≡ false → IsTrueOf z c n v → IsTrueOf z d n v) → Tells z c n v → Tells z d n v
+  tells_again left true_of = case_map v.gone left true_of
+
+-- a seat that is there tells what is so
+pub tells_here : {V : Type 0} (z : Shape) (c : Core) (n : ℕ) (v : SeatView V) → v.gone ≡ false
+    → IsTrueOf z c n v → Tells z c n v
+tells_here z c n v here =
+    case_here ((view_at c n).left ≡ true) (IsTrueOf z c n v) v.gone here
+
+-- an entry is given anew: what holds of it, and of the others as they were, holds of all
+pub set_all : {A : Type 0} (P : ℕ → A → Type 0) (xs : List A) (i : ℕ) (x : A) → P i x
+    → ((n : ℕ) (y : A) → n ≢ i → get_elem? xs n ≡ some y → P n y)
+    → (n : ℕ) (y : A) → get_elem? (set xs i x) n ≡ some y → P n y
+set_all {A = A} P xs i x own others n y e = ⊎_elim
+    (λ me. subst (λ (t : ℕ × A). P t.0 t.1) (λ k. (sym me.0 k, me.1 k)) own)
+    (λ other. others n y other.0 other.1)
+    (at_set xs i n x y e)
+
+-- a seat's view is given anew
+pub set_tells : {V : Type 0} (z : Shape) (c : Core) (views : List (SeatView V)) (i : ℕ)
+    (w : SeatView V)
+    → Tells z c i w
+    → ((n : ℕ) (u : SeatView V) → n ≢ i → get_elem? views n ≡ some u → Tells z c n u)
+    → (n : ℕ) (u : SeatView V) → get_elem? (set views i w) n ≡ some u → Tells z c n u
+set_tells z c views i w own others = set_all (Tells z c) views i w own others
+
+module _ {V : Type 0} {law : Plain → List V → Type 0} {first : ℕ → V} {fits : List ℕ → Type 0}
+    (z : Shape) (qs : List Quota) (s : State (Unit {0}) (SeatView V)) (k : Kept law first fits z qs s)
+    where
+  pub kept_sound : Sound z k.core
+  kept_sound = history_sound z qs k.events k.core k.shape k.quotas k.history
+
+  module _ (n : ℕ) (v : SeatView V) (at : get_elem? s.views n ≡ some v) where
+    pub in_seats : n < z.seats
+    in_seats = let l = at_less s.views n v at in let f = k.few.1 in omega arith
+
+    pub true_of : v.gone ≡ false → IsTrueOf z k.core n v
+    true_of here = here_case ((view_at k.core n).left ≡ true) (IsTrueOf z k.core n v) v.gone here
+        (k.tells n v at)
+
+    -- the seat's number stands in its view
+    pub number_of : v.gone ≡ false → v.core.seat ≡ n
+    number_of here =
+        ap (λ (u : CoreView). u.seat) (true_of here).core ∙ (kept_sound.seats n in_seats).number
+
+    -- seat 0 is there, by its number
+    pub is_root : v.gone ≡ false → v.core.seat ≡ 0 → n ≡ 0
+    is_root here root = sym (number_of here) ∙ root

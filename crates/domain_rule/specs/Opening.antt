@@ -1,0 +1,70 @@
+-- How a domain comes to its seats, and how a seat leaves it.
+use Rattle.std.specs.Prelude.{ℕ, ◌+◌, ◌==◌, ◌++◌, true, false, List, [], ◌∷◌, Option, Some, None, if◌then◌else◌}
+use Rattle.plain_state.specs.declared.slot.SlotId.{SlotId}
+use Rattle.plain_state.specs.State.{empty}
+use Rattle.plain_protocol.specs.Owns.{has_slot}
+use Rattle.core_events.specs.declared.act.Act.TheVariants as act
+use Rattle.core_events.specs.declared.outcome.Outcome.TheVariants as outcome
+use Rattle.core_events.specs.declared.shape.Shape.{Shape}
+use Rattle.core_events.specs.declared.shape.Quota.{Quota}
+use Rattle.core_events.specs.Runs.{start, taken_over}
+use Rattle.core_events.specs.Shows.{each_from, show_seat}
+use Rattle.core_events.specs.Steps.{noted}
+use Rattle.core_events.specs.Views.{first_view, no_view}
+use Rattle.domain_rule.specs.declared.view.Known.{Known}
+use Rattle.domain_rule.specs.declared.view.Whole.{Whole}
+use Rattle.domain_rule.specs.declared.view.SeatView.{SeatView}
+use Rattle.domain_rule.specs.Views.{known_of, object_in, objects_of, quota_at, whole_of}
+
+module _ {V : Type 0} where
+  -- the view of seat n as it is opened; a domain of one seat begins with a seat that is alone
+  abbrev pub opened_view : (ℕ → V) → Shape → List Quota → ℕ → SeatView V
+  opened_view first z qs n = record {
+    core = first_view z n (quota_at qs n);
+    objects = objects_of (empty z.seats z.slots z.cells z.weak_cells);
+    whole = if z.seats == 1 then Some (whole_of (start z qs)) else None;
+    opened = 1;
+    left_adds = 0;
+    left_makes = 0;
+    gone = false;
+    client = first n;
+  }
+
+  -- the first seat
+  abbrev pub first_of : (ℕ → V) → Shape → List Quota → SeatView V
+  first_of first z qs = opened_view first z qs 0
+
+  -- seat 0 when one more seat has been opened
+  abbrev pub opened_more : SeatView V → SeatView V
+  opened_more v = record v { opened = v.opened + 1 }
+
+  -- what seat 0 has of each slot's object when it takes over what another seat has
+  abbrev pub merged_objects : SeatView V → SeatView V → List Known
+  merged_objects root v =
+      each_from 0 root.core.shape.slots
+      (λ x. let s : SlotId = record { 0 = x } in
+      known_of (if has_slot (show_seat root.core) s then object_in root s else object_in v s))
+
+  -- seat 0 has taken over what the seat has
+  abbrev pub joined_view : (V → V → V) → SeatView V → SeatView V → SeatView V
+  joined_view joined root v =
+      record root {
+        core = noted (act.Leave v.core.seat) outcome.Plain (taken_over root.core v.core);
+        objects = merged_objects root v;
+        left_adds = root.left_adds + v.core.adds;
+        left_makes = root.left_makes + v.core.makes;
+        client = joined root.client v.client;
+      }
+
+  -- a seat that has left
+  abbrev pub gone_view : V → SeatView V
+  gone_view gone = record {
+    core = no_view;
+    objects = [];
+    whole = None;
+    opened = 0;
+    left_adds = 0;
+    left_makes = 0;
+    gone = true;
+    client = gone;
+  }

@@ -1,0 +1,64 @@
+-- The rule of a domain's table: its words and its views have a history, what each view says is so,
+-- the payloads of all objects fit, and the client's law holds.
+use Rattle.std.specs.Prelude.{ℕ, ◌≡◌, ◌+◌, ◌-◌, ◌<◌, ◌≤◌, true, false, List, ◌++◌, length, map, slice_index_or, Option, Some}
+use Rattle.std.specs.Bool.{MatchBool}
+use Rattle.std.specs.List.{range_with_len}
+use mathlib.Core.Option.{some}
+use lib.ListN.{get_elem?}
+use Rattle.atomic_table.specs.Table.{State}
+use Rattle.plain_state.specs.declared.slot.SlotId.{SlotId}
+use Rattle.plain_state.specs.Fits.{AllFit}
+use Rattle.plain_state.specs.State.{Plain, slot_at}
+use Rattle.plain_protocol.specs.Owns.{HasSlot, object_of}
+use Rattle.core_events.specs.declared.act.Event.{Event}
+use Rattle.core_events.specs.declared.shape.Shape.{Shape}
+use Rattle.core_events.specs.declared.shape.Quota.{Quota}
+use Rattle.core_events.specs.Runs.{Core, view_at, History, IsShape, AreQuotas}
+use Rattle.core_events.specs.Shows.{show_seat, shows}
+use Rattle.core_events.specs.Views.{first_view}
+use Rattle.domain_rule.specs.declared.view.Whole.{Whole}
+use Rattle.domain_rule.specs.declared.view.SeatView.{SeatView}
+use Rattle.domain_rule.specs.Views.{core_in, object_in, quota_at}
+
+-- every seat but seat 0 has left
+abbrev pub OthersLeft : Core → Type 0
+OthersLeft c = (n : ℕ) → 0 < n → n < length c.views → (view_at c n).left ≡ true
+
+module _ {V : Type 0} where
+  -- what the view of seat n says is so of the core c
+  pub record IsTrueOf (z : Shape) (c : Core) (n : ℕ) (v : SeatView V) : Type 0 where
+    pub core : v.core ≡ view_at c n
+    pub objects :
+        (s : SlotId) → HasSlot (show_seat v.core) s
+        → object_in v s ≡ object_of (slot_at (shows z c) s)
+    pub whole : (all : Whole) → v.whole ≡ Some all → (core_in all ≡ c) × (n ≡ 0) × OthersLeft c
+
+  -- of a seat that has left its view says no more
+  abbrev pub Tells : Shape → Core → ℕ → SeatView V → Type 0
+  Tells z c n v = MatchBool v.gone ((view_at c n).left ≡ true) (IsTrueOf z c n v)
+
+  -- the client's views of all seats: the first ones of those that are still to be opened
+  abbrev pub clients : (ℕ → V) → ℕ → List (SeatView V) → List V
+  clients first seats views =
+      map (λ v. v.client) views
+      ++ map first (range_with_len (length views) (seats - length views))
+
+  pub record Kept (law : Plain → List V → Type 0) (first : ℕ → V) (fits : List ℕ → Type 0)
+      (z : Shape) (qs : List Quota) (s : State (Unit {0}) (SeatView V)) : Type 0 where
+    pub shape : IsShape z
+    pub quotas : AreQuotas z qs
+    pub events : List Event
+    pub core : Core
+    pub history : History z qs events core
+    pub words : s.words ≡ core.words
+    pub few : (1 ≤ length s.views) × (length s.views ≤ z.seats)
+    pub tells :
+        (n : ℕ) (v : SeatView V) → get_elem? s.views n ≡ some v → Tells z core n v
+    pub root :
+        (v : SeatView V) → get_elem? s.views 0 ≡ some v
+        → (v.gone ≡ false) × (v.opened ≡ length s.views)
+    pub unopened :
+        (n : ℕ) → length s.views ≤ n → n < z.seats
+        → view_at core n ≡ first_view z n (quota_at qs n)
+    pub fit : AllFit fits (shows z core)
+    pub client : law (shows z core) (clients first z.seats s.views)

@@ -1,0 +1,79 @@
+-- What a step, an opening and a leave tell the seat that made them.
+use Rattle.std.specs.Prelude.{ℕ, ◌≡◌, ◌+◌, false, List, slice_set, Option, if◌then◌else◌}
+use Rattle.std.specs.Option.{option_map}
+use Rattle.plain_state.specs.declared.act.PlainAct.{PlainAct}
+use Rattle.plain_state.specs.declared.act.PlainAct.TheVariants as plain
+use Rattle.plain_state.specs.declared.slot.SlotId.{SlotId}
+use Rattle.plain_state.specs.Lists.{is_slot}
+use Rattle.plain_state.specs.State.{Plain}
+use Rattle.plain_protocol.specs.Owns.{Object, OwnPart, HasSlot}
+use Rattle.core_events.specs.declared.act.Act.{Act}
+use Rattle.core_events.specs.declared.act.Act.TheVariants as act
+use Rattle.core_events.specs.declared.act.Event.{Event}
+use Rattle.core_events.specs.declared.shape.Shape.{Shape}
+use Rattle.core_events.specs.declared.shape.Quota.{Quota}
+use Rattle.core_events.specs.declared.view.CoreView.{CoreView}
+use Rattle.core_events.specs.declared.view.Phase.TheVariants as phase
+use Rattle.core_events.specs.Good.{SeatLaw}
+use Rattle.core_events.specs.Runs.{Core, History, Enabled, after, found, view_at}
+use Rattle.core_events.specs.Shows.{show_seat, shows}
+use Rattle.core_events.specs.ShownSteps.{shown_act, shown_number}
+use Rattle.core_events.specs.Steps.{moved}
+use Rattle.domain_rule.specs.declared.view.Whole.{Whole}
+use Rattle.domain_rule.specs.declared.view.SeatView.{SeatView}
+use Rattle.domain_rule.specs.Views.{core_in, whole_of, object_in, own_of}
+
+-- a step of seat n, with the view v, in a history, which found w, and a fact of the plain states
+-- before and after it
+pub record Happened (z : Shape) (qs : List Quota) (n : ℕ) (v : CoreView) (a : Act) (w : ℕ)
+    (Fact : Plain → Plain → Type 0) : Type 0 where
+  pub events : List Event
+  pub before : Core
+  pub history : History z qs events before
+  pub view : v ≡ view_at before n
+  pub enabled : Enabled z before n a
+  pub found : w ≡ found z before n a
+  pub fact : Fact (shows z before) (shows z (after z before n a))
+
+-- what a plain step makes of the object in a slot: only a fill and a make change it
+abbrev pub changed_object : PlainAct → SlotId → Object → Object
+changed_object (plain.Fill x i word) s o =
+    if is_slot x s then record o { payload = slice_set o.payload i word } else o
+changed_object (plain.Make x) s o = if is_slot x s then record o { life = o.life + 1 } else o
+changed_object a s o = o
+
+-- whether a seat may make it is told by its own view; a leave and a destroy ask more
+abbrev pub IsOwn : Act → Type 0
+IsOwn (act.Destroy s) = ⊥
+IsOwn (act.Leave j) = ⊥
+IsOwn a = Unit {0}
+
+module _ {V : Type 0} where
+  -- what it fills fits, if it is to start it
+  abbrev pub FitsStart : (List ℕ → Type 0) → Act → SeatView V → Type 0
+  FitsStart fits a v =
+      a ≡ act.Start → (s : SlotId) → v.core.phase ≡ phase.Blank s → fits (object_in v s).payload
+
+  -- what the seat knows of the whole core after its own step
+  abbrev pub whole_after : Shape → Act → SeatView V → Option Whole
+  whole_after z a v =
+      option_map (λ all. whole_of (after z (core_in all) v.core.seat a)) v.whole
+
+  -- The seat has made a step that found w. `next` and `allows` are the deed's.
+  pub record Told (z : Shape) (qs : List Quota) (next : OwnPart → V → PlainAct → ℕ → V)
+      (allows : Plain → Plain → ℕ → V → V → Type 0) (a : Act) (v : SeatView V) (w : ℕ)
+      (v' : SeatView V) : Type 0 where
+    pub core : v'.core ≡ moved z a w v.core
+    pub client :
+        v'.client ≡ next (own_of v) v.client (shown_act z a w v.core) (shown_number a w)
+    pub objects :
+        (s : SlotId) → HasSlot (show_seat v.core) s
+        → object_in v' s ≡ changed_object (shown_act z a w v.core) s (object_in v s)
+    pub whole : v'.whole ≡ whole_after z a v
+    pub opened : v'.opened ≡ v.opened
+    pub left_adds : v'.left_adds ≡ v.left_adds
+    pub left_makes : v'.left_makes ≡ v.left_makes
+    pub here : v'.gone ≡ false
+    pub law : SeatLaw z v.core.seat v'.core
+    pub happened :
+        Happened z qs v.core.seat v.core a w (λ p q. allows p q v.core.seat v.client v'.client)
