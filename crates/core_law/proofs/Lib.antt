@@ -26,4 +26,3 @@ pub mod Starts
 pub mod Parts
 pub mod Always
 pub mod Trails
-pub mod InRange
