@@ -118,15 +118,15 @@ module _ (z : Shape) (c : Core) (so : Sound z c) (j : ℕ) (other : j ≢ 0) (hj
   two f e = total_two f c.views j root' v' at0 atj other e
 
   -- who is who in the new views
-  is_j : get_or views' j no_view ≡ v'
+  pub is_j : get_or views' j no_view ≡ v'
   is_j = get_or-set_same (set c.views 0 root') j v' no_view
       (let l = length-set c.views 0 root' in let a = atj in omega arith)
 
-  is_0 : get_or views' 0 no_view ≡ root'
+  pub is_0 : get_or views' 0 no_view ≡ root'
   is_0 = get_or-set_other (set c.views 0 root') j 0 v' no_view (λ e. other (sym e))
       ∙ get_or-set_same c.views 0 root' no_view at0
 
-  is_m : (m : ℕ) → m ≢ 0 → m ≢ j → get_or views' m no_view ≡ view_at c m
+  pub is_m : (m : ℕ) → m ≢ 0 → m ≢ j → get_or views' m no_view ≡ view_at c m
   is_m m a b = get_or-set_other (set c.views 0 root') j m v' no_view b
       ∙ get_or-set_other c.views 0 m root' no_view a
 

@@ -18,7 +18,7 @@ use Rattle.domain_rule.specs.Rule.{IsTrueOf, Kept, OthersLeft}
 use Rattle.domain_rule.specs.Views.{core_in, whole_of, IsAlone}
 use Rattle.domain_rule.proofs.Counting.{others_left}
 use Rattle.domain_rule.proofs.Padding.{at_less, clients_same}
-use Rattle.domain_rule.proofs.Telling.{kept_sound, in_seats, true_of, is_root, tells_here, set_tells}
+use Rattle.domain_rule.proofs.Telling.{kept_sound, in_seats, true_of, is_root, tells_here, set_all, set_tells}
 
 module _ {V : Type 0} (law : Plain → List V → Type 0) (first : ℕ → V) (fits : List ℕ → Type 0)
     (z : Shape) (qs : List Quota) (slots id : ℕ) (me : Me (Unit {0}) (SeatView V))
@@ -68,18 +68,15 @@ module _ {V : Type 0} (law : Plain → List V → Type 0) (first : ℕ → V) (f
           history = k.history;
           words = set-get_or s.words 0 0 ∙ k.words;
           few = (omega arith, omega arith);
-          tells = set_tells z k.core s.views id told (tells_here z k.core id told here told_true)
-              (λ n u ne. k.tells n u);
-          root = λ u e.
-              let there : get_elem? (set s.views id told) 0 ≡ some told =
-              subst (λ (n : ℕ). get_elem? (set s.views id told) n ≡ some told) first_seat
-              (set_here s.views id told (at_less s.views id me.0 at)) in
-              let same : u ≡ told = some-injective u told (sym e ∙ there) in
-              let old = k.root me.0
-              (subst (λ (n : ℕ). get_elem? s.views n ≡ some me.0) first_seat at) in (
-                ap (λ (t : SeatView V). t.gone) same ∙ here,
-                ap (λ (t : SeatView V). t.opened) same ∙ (old.1 ∙ sym l),
-              );
+          tells = set_tells z k.core s.views id told
+              (tells_here z k.core id told here told_true) (λ n u ne. k.tells n u);
+          root = λ u e. set_all
+              (λ n t. n ≡ 0 → (t.gone ≡ false) × (t.opened ≡ length (set s.views id told)))
+              s.views id told
+              (λ _. let old = k.root me.0
+              (subst (λ (n : ℕ). get_elem? s.views n ≡ some me.0) first_seat at) in
+              (here, old.1 ∙ sym l))
+              (λ n t ne _ zero. absurd (ne (zero ∙ sym first_seat))) 0 u e refl;
           unopened = λ n le h. k.unopened n (omega arith) h;
           fit = k.fit;
           client = subst (law (shows z k.core))

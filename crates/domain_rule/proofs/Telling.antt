@@ -42,16 +42,22 @@ pub tells_here : {V : Type 0} (z : Shape) (c : Core) (n : ℕ) (v : SeatView V) 
 tells_here z c n v here =
     case_here ((view_at c n).left ≡ true) (IsTrueOf z c n v) v.gone here
 
+-- an entry is given anew: what holds of it, and of the others as they were, holds of all
+pub set_all : {A : Type 0} (P : ℕ → A → Type 0) (xs : List A) (i : ℕ) (x : A) → P i x
+    → ((n : ℕ) (y : A) → n ≢ i → get_elem? xs n ≡ some y → P n y)
+    → (n : ℕ) (y : A) → get_elem? (set xs i x) n ≡ some y → P n y
+set_all {A = A} P xs i x own others n y e = ⊎_elim
+    (λ me. subst (λ (t : ℕ × A). P t.0 t.1) (λ k. (sym me.0 k, me.1 k)) own)
+    (λ other. others n y other.0 other.1)
+    (at_set xs i n x y e)
+
 -- a seat's view is given anew
 pub set_tells : {V : Type 0} (z : Shape) (c : Core) (views : List (SeatView V)) (i : ℕ)
     (w : SeatView V)
     → Tells z c i w
     → ((n : ℕ) (u : SeatView V) → n ≢ i → get_elem? views n ≡ some u → Tells z c n u)
     → (n : ℕ) (u : SeatView V) → get_elem? (set views i w) n ≡ some u → Tells z c n u
-set_tells {V = V} z c views i w own others n u e = ⊎_elim
-    (λ me. subst (λ (t : ℕ × SeatView V). Tells z c t.0 t.1) (λ k. (sym me.0 k, me.1 k)) own)
-    (λ other. others n u other.0 other.1)
-    (at_set views i n w u e)
+set_tells z c views i w own others = set_all (Tells z c) views i w own others
 
 module _ {V : Type 0} {law : Plain → List V → Type 0} {first : ℕ → V} {fits : List ℕ → Type 0}
     (z : Shape) (qs : List Quota) (s : State (Unit {0}) (SeatView V)) (k : Kept law first fits z qs s)

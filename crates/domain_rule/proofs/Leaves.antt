@@ -1,0 +1,269 @@
+-- Seat 0 keeps the rule where it takes over what another seat has, and that seat leaves.
+use Rattle.std.proofs.Common.{◌≡◌, ◌≢◌, ⊎_elim, ℕ, ◌+◌, ◌<◌, ◌≤◌, Bool, true, false, List, [], ◌∷◌, ◌++◌, length, get_or, set, refl, ap, sym, ◌∙◌, subst, arith}
+use Rattle.std.specs.Prelude.{if◌then◌else◌, Some}
+use Rattle.std.proofs.lemmas.List.{length-set, length-map, set-get_or, get_or_past}
+use Rattle.std.proofs.lemmas.Bool.{cases_lt}
+use Rattle.std.proofs.lemmas.Bool.Decides.{nat_tests}
+use mathlib.Core.Option.{some}
+use lib.ListN.{get_elem?}
+use Rattle.atomic_table.specs.Table.{State, Joins}
+use Rattle.atomic_table.proofs.Lists.{set_else}
+use Rattle.plain_state.specs.declared.act.PlainAct.TheVariants as plain
+use Rattle.plain_state.specs.declared.slot.PlainSlot.{PlainSlot}
+use Rattle.plain_state.specs.declared.slot.SlotId.{SlotId}
+use Rattle.plain_state.specs.State.{Plain, slot_at, new_slot}
+use Rattle.plain_state.specs.Steps.{Does}
+use Rattle.plain_protocol.specs.Laws.{Meets, KeptByLeave}
+use Rattle.plain_protocol.specs.Owns.{Object, object_of, has_slot, HasSlot}
+use Rattle.plain_protocol.proofs.StepFits.{step_fits}
+use Rattle.core_events.specs.declared.act.Act.TheVariants as act
+use Rattle.core_events.specs.declared.outcome.Outcome.TheVariants as outcome
+use Rattle.core_events.specs.declared.shape.Shape.{Shape}
+use Rattle.core_events.specs.declared.shape.Quota.{Quota}
+use Rattle.core_events.specs.declared.view.CoreView.{CoreView}
+use Rattle.core_events.specs.Views.{no_view}
+use Rattle.core_events.specs.Steps.{CanLeave, noted}
+use Rattle.core_events.specs.Runs.{Core, view_at, taken_over, left_behind, Enabled, after}
+use Rattle.core_events.specs.Shows.{show_seat, shows, each_from}
+use Rattle.core_law.specs.Sound.{Sound}
+use Rattle.core_law.proofs.Leaves.{parts, is_j, is_0, is_m}
+use Rattle.core_shows.proofs.Bridge.{shown_past}
+use Rattle.core_shows.proofs.Events.{event_shows}
+use Rattle.core_shows.proofs.Lawful.{shows_lawful}
+use Rattle.core_shows.proofs.Lists.{length_each, get_each}
+use Rattle.domain_rule.specs.declared.view.Known.{Known}
+use Rattle.domain_rule.specs.declared.view.Whole.{Whole}
+use Rattle.domain_rule.specs.declared.view.SeatView.{SeatView}
+use Rattle.domain_rule.specs.Opening.{joined_view, gone_view, merged_objects}
+use Rattle.domain_rule.specs.Rule.{IsTrueOf, Tells, Kept, clients}
+use Rattle.domain_rule.specs.Views.{object_in, known_of, no_object}
+use Rattle.domain_rule.proofs.Padding.{at_less, clients_length, client_at, clients_set}
+use Rattle.domain_rule.proofs.Telling.{kept_sound, in_seats, true_of, number_of, is_root, tells_here, tells_again, set_all}
+
+-- a slot that seat 0 has after it took over what the other had was had by one of them
+other_has : (root v : CoreView) (s : SlotId) → HasSlot (show_seat (taken_over root v)) s
+    → has_slot (show_seat root) s ≡ false → HasSlot (show_seat v) s
+other_has root v s has not_root = let p = parts root v s in grind (arith, nat_tests)
+
+module _ {V : Type 0} (root v : SeatView V) (z : Shape) (same : root.core.shape ≡ z) (s : SlotId)
+    where
+  abbrev known : ℕ → Known
+  known x =
+      let t : SlotId = record { 0 = x } in
+      known_of (if has_slot (show_seat root.core) t then object_in root t else object_in v t)
+
+  -- what seat 0 has of each slot's object then
+  merged_at : s.0 < z.slots → get_or (merged_objects root v) s.0 no_object ≡ known s.0
+  merged_at hs =
+      let n = ap (λ (y : Shape). y.slots) same in
+      let e : 0 + s.0 ≡ s.0 = omega arith in
+      get_each 0 root.core.shape.slots s.0 known no_object (omega arith) ∙ ap known e
+
+  merged_past : z.slots ≤ s.0 → get_or (merged_objects root v) s.0 no_object ≡ no_object
+  merged_past le =
+      let n = ap (λ (y : Shape). y.slots) same in
+      let l = length_each 0 root.core.shape.slots known in
+      get_or_past (merged_objects root v) s.0 no_object (omega arith)
+
+module _ {V : Type 0} (law : Plain → List V → Type 0) (first : ℕ → V) (fits : List ℕ → Type 0)
+    (z : Shape) (qs : List Quota) (joined : V → V → V) (gone : V)
+    (leave : KeptByLeave law joined gone) (id other : ℕ) (v w : SeatView V)
+    (here : v.gone ≡ false) (there : w.gone ≡ false) (root : v.core.seat ≡ 0)
+    (can0 : CanLeave v.core) (canj : CanLeave w.core) where
+  abbrev both : SeatView V
+  both = joined_view joined v w
+
+  module _ (s : State (Unit {0}) (SeatView V)) (k : Kept law first fits z qs s)
+      (at : get_elem? s.views id ≡ some v) (apart : ¬ (other ≡ id))
+      (at' : get_elem? (set s.views id both) other ≡ some w) where
+    abbrev c : Core
+    c = k.core
+
+    abbrev d : Core
+    d = after z k.core 0 (act.Leave other)
+
+    abbrev views : List (SeatView V)
+    views = set (set s.views id both) other (gone_view gone)
+
+    so : Sound z k.core
+    so = kept_sound z qs s k
+
+    first_seat : id ≡ 0
+    first_seat = is_root z qs s k id v at here root
+
+    not_root : other ≢ 0
+    not_root e = apart (e ∙ sym first_seat)
+
+    at0 : get_elem? s.views 0 ≡ some v
+    at0 = subst (λ (n : ℕ). get_elem? s.views n ≡ some v) first_seat at
+
+    atj : get_elem? s.views other ≡ some w
+    atj = sym (set_else s.views id other both apart) ∙ at'
+
+    hj : other < z.seats
+    hj = in_seats z qs s k other w atj
+
+    true0 : IsTrueOf z k.core 0 v
+    true0 = true_of z qs s k 0 v at0 here
+
+    truej : IsTrueOf z k.core other w
+    truej = true_of z qs s k other w atj there
+
+    root_can : CanLeave (view_at k.core 0)
+    root_can = subst CanLeave true0.core can0
+
+    other_can : CanLeave (view_at k.core other)
+    other_can = subst CanLeave truej.core canj
+
+    on : Enabled z k.core 0 (act.Leave other)
+    on =
+        let h = so.shape.0 in
+        let sv = so.views in (
+          omega arith,
+          ((so.seats 0 (omega arith)).number, not_root, hj, root_can),
+          other_can,
+        )
+
+    does : Does (shows z k.core) 0 (plain.Leave other) 0 (shows z d)
+    does = event_shows z k.core 0 (act.Leave other) so on
+
+    -- a leave changes no slot
+    slot_same : (x : SlotId) → slot_at (shows z k.core) x ≡ slot_at (shows z d) x
+    slot_same x = ap (λ (p : Plain). slot_at p x) (sym does.1.6)
+
+    root_core : both.core ≡ view_at d 0
+    root_core =
+        let n = number_of z qs s k other w atj there in
+        sym (is_0 z k.core so other not_root hj root_can other_can
+        ∙ λ i. noted (act.Leave (sym n i)) outcome.Plain
+        (taken_over (sym true0.core i) (sym truej.core i)))
+
+    other_core : view_at d other ≡ left_behind (view_at k.core other)
+    other_core = is_j z k.core so other not_root hj root_can other_can
+
+    rest_core : (n : ℕ) → n ≢ 0 → n ≢ other → view_at d n ≡ view_at k.core n
+    rest_core = is_m z k.core so other not_root hj root_can other_can
+
+    -- what seat 0 has of each slot's object is so
+    root_objects : (x : SlotId) → HasSlot (show_seat both.core) x
+        → object_in both x ≡ object_of (slot_at (shows z d) x)
+    root_objects x has = ⊎_elim
+        (λ (lt : x.0 < z.slots). ap object (merged_at v w z shape x lt)
+        ∙ (go (has_slot (show_seat v.core) x) refl
+        ∙ ap object_of (slot_same x)))
+        (λ (le : z.slots ≤ x.0). ap object (merged_past v w z shape x le)
+        ∙ ap object_of (sym (shown_past z d x le)))
+        (cases_lt x.0 z.slots)
+      where
+        object : Known → Object
+        object o = record { life = o.life; payload = o.payload }
+
+        shape : v.core.shape ≡ z
+        shape =
+            let h = so.shape.0 in
+            ap (λ (u : CoreView). u.shape) true0.core ∙ (so.seats 0 (omega arith)).same_shape
+
+        go : (b : Bool) → has_slot (show_seat v.core) x ≡ b
+            → (if b then object_in v x else object_in w x) ≡ object_of (slot_at (shows z k.core) x)
+        go true is = true0.objects x is
+        go false is = truej.objects x (other_has v.core w.core x has is)
+
+    root_true : IsTrueOf z d 0 both
+    root_true = record {
+      core = root_core;
+      objects = root_objects;
+      whole = λ all e.
+          let left = (true0.whole all e).2 in
+          let pos : 0 < other = omega (arith, not_root) in
+          let sv = so.views in
+          let h = hj in absurd (cc (left other pos (omega arith), other_can.0.1));
+    }
+
+    -- another seat's view tells what it told
+    rest_tells : (n : ℕ) (u : SeatView V) → n ≢ id → n ≢ other → get_elem? s.views n ≡ some u
+        → Tells z d n u
+    rest_tells n u apart0 apartj e =
+        let not0 : n ≢ 0 = λ f. apart0 (f ∙ sym first_seat) in
+        let stays = rest_core n not0 apartj in
+        tells_again z k.core d n u (λ left. ap (λ (y : CoreView). y.left) stays ∙ left)
+        (λ u_here t. record {
+          core = t.core ∙ sym stays;
+          objects = λ x has. t.objects x has ∙ ap object_of (slot_same x);
+          whole = λ all f. absurd (not0 (t.whole all f).1);
+        })
+        (k.tells n u e)
+
+    views_tell : (n : ℕ) (u : SeatView V) → get_elem? views n ≡ some u → Tells z d n u
+    views_tell = set_all (Tells z d) (set s.views id both) other (gone_view gone)
+        (ap (λ (y : CoreView). y.left) other_core)
+        (λ n u apartj e. set_all (λ m y. m ≢ other → Tells z d m y) s.views id both
+        (λ _. subst (λ (m : ℕ). Tells z d m both) (sym first_seat)
+        (tells_here z d 0 both here root_true))
+        (λ m y apart0 f not_other. rest_tells m y apart0 not_other f) n u e apartj)
+
+    all_length : length views ≡ length s.views
+    all_length = length-set (set s.views id both) other (gone_view gone)
+        ∙ length-set s.views id both
+
+    root_stays : (u : SeatView V) → get_elem? views 0 ≡ some u
+        → (u.gone ≡ false) × (u.opened ≡ length views)
+    root_stays u e = set_all (λ n y. n ≡ 0 → (y.gone ≡ false) × (y.opened ≡ length views))
+        (set s.views id both) other (gone_view gone) (λ zero. absurd (not_root zero))
+        (λ n y ne. set_all (λ m t. m ≡ 0 → (t.gone ≡ false) × (t.opened ≡ length views))
+        s.views id both (λ zero. (here, (k.root v at0).1 ∙ sym all_length))
+        (λ m t apart0 f zero. absurd (apart0 (zero ∙ sym first_seat))) n y)
+        0 u e refl
+
+    -- the clients' views, as the protocol's law of a leave has them
+    clients_then : clients first z.seats views
+        ≡ set (set (clients first z.seats s.views) 0 (joined v.client w.client)) other gone
+    clients_then =
+        let l = length-set s.views id both in
+        let h = at_less s.views other w atj in
+        clients_set first z.seats (set s.views id both) other (gone_view gone) (omega arith)
+        ∙ ap (λ (vs : List V). set vs other gone)
+        (clients_set first z.seats s.views id both (at_less s.views id v at)
+        ∙ ap (λ (n : ℕ). set (clients first z.seats s.views) n (joined v.client w.client))
+        first_seat)
+
+    meets : Meets law (shows z k.core) (clients first z.seats s.views)
+    meets = record {
+      lawful = shows_lawful z k.core so;
+      count = clients_length first z.seats s.views k.few.1
+          ∙ sym (length-map k.core.views show_seat ∙ so.views);
+      law = k.client;
+    }
+
+    client_law : law (shows z d) (clients first z.seats views)
+    client_law =
+        let p = client_at first z.seats s.views 0 v gone at0 in
+        let q = client_at first z.seats s.views other w gone atj in
+        subst (law (shows z d))
+        ((λ i. set (set (clients first z.seats s.views) 0 (joined (p i) (q i))) other gone)
+        ∙ sym clients_then)
+        (leave (shows z k.core) (shows z d) other 0 (clients first z.seats s.views) meets does)
+
+    left : Kept law first fits z qs (record { words = s.words; homes = s.homes; views = views })
+    left =
+        let l = all_length in
+        let f = k.few in
+        let h = at_less s.views other w atj in record {
+          shape = k.shape;
+          quotas = k.quotas;
+          events = record { seat = 0; act = act.Leave other } ∷ k.events;
+          core = d;
+          history = (k.core, k.history, (on, refl));
+          words = k.words ∙ sym (set-get_or k.core.words 0 0);
+          few = (omega arith, omega arith);
+          tells = views_tell;
+          root = root_stays;
+          unopened = λ n le hn. rest_core n (omega arith) (omega arith)
+              ∙ k.unopened n (omega arith) hn;
+          fit = step_fits fits (shows z k.core) (shows z d) 0 (plain.Leave other) 0 does
+              (λ x e. absurd (cc (e))) k.fit;
+          client = client_law;
+        }
+
+  pub leaves : Joins (Kept law first fits z qs) id v other w (joined_view joined v w)
+      (gone_view gone)
+  leaves = left
