@@ -1,5 +1,5 @@
 -- What a step, an opening and a leave tell the seat that made them.
-use Rattle.std.specs.Prelude.{ℕ, ◌≡◌, ◌+◌, ◌==◌, ◌&&◌, true, false, List, [], slice_set, Option, Some, None, if◌then◌else◌}
+use Rattle.std.specs.Prelude.{ℕ, ◌≡◌, ◌+◌, false, List, slice_set, Option, if◌then◌else◌}
 use Rattle.std.specs.Option.{option_map}
 use Rattle.plain_state.specs.declared.act.PlainAct.{PlainAct}
 use Rattle.plain_state.specs.declared.act.PlainAct.TheVariants as plain
@@ -17,7 +17,7 @@ use Rattle.core_events.specs.Good.{SeatLaw}
 use Rattle.core_events.specs.Runs.{Core, History, Enabled, after, found}
 use Rattle.core_events.specs.Shows.{show_seat, shows}
 use Rattle.core_events.specs.ShownSteps.{shown_act, shown_number}
-use Rattle.core_events.specs.Steps.{May, moved}
+use Rattle.core_events.specs.Steps.{moved}
 use Rattle.domain_rule.specs.declared.view.Whole.{Whole}
 use Rattle.domain_rule.specs.declared.view.SeatView.{SeatView}
 use Rattle.domain_rule.specs.Views.{core_in, whole_of, object_in, own_of}
@@ -64,7 +64,7 @@ module _ {V : Type 0} where
     pub client :
         v'.client ≡ next (own_of v) v.client (shown_act z a w v.core) (shown_number a w)
     pub objects :
-        (s : SlotId) → HasSlot (show_seat v.core) s → HasSlot (show_seat v'.core) s
+        (s : SlotId) → HasSlot (show_seat v.core) s
         → object_in v' s ≡ changed_object (shown_act z a w v.core) s (object_in v s)
     pub whole : v'.whole ≡ whole_after z a v
     pub opened : v'.opened ≡ v.opened

@@ -1,0 +1,147 @@
+-- Which acts change an object: a fill and a start do, in the slot that the seat fills.
+use Rattle.std.proofs.Common.{◌≡◌, ◌≢◌, ℕ, Bool, true, false, List, [], ◌∷◌, refl, ap, sym, ◌∙◌, arith}
+use Rattle.std.specs.Prelude.{◌==◌, if◌then◌else◌}
+use Rattle.std.proofs.lemmas.Bool.Decides.{nat_tests}
+use Rattle.plain_state.specs.declared.act.PlainAct.{PlainAct}
+use Rattle.plain_state.specs.declared.act.PlainAct.TheVariants as plain
+use Rattle.plain_state.specs.declared.slot.SlotId.{SlotId}
+use Rattle.plain_state.specs.Lists.{Entry}
+use Rattle.plain_state.proofs.Kit.{slot_is}
+use Rattle.plain_protocol.specs.Owns.{Object}
+use Rattle.core_events.specs.declared.act.Act.{Act}
+use Rattle.core_events.specs.declared.act.Act.TheVariants as act
+use Rattle.core_events.specs.declared.shape.Shape.{Shape}
+use Rattle.core_events.specs.declared.view.CoreView.{CoreView}
+use Rattle.core_events.specs.declared.view.Note.{Note}
+use Rattle.core_events.specs.declared.view.Note.TheVariants as note
+use Rattle.core_events.specs.declared.view.Phase.{Phase}
+use Rattle.core_events.specs.declared.view.Phase.TheVariants as phase
+use Rattle.core_events.specs.Words.{ZERO, has_help}
+use Rattle.core_events.specs.Views.{note_of, slot_of}
+use Rattle.core_events.specs.Steps.{May, is_last}
+use Rattle.core_events.specs.ShownSteps.{shown_act, ejects, releases, is_dying_field}
+use Rattle.domain_rule.specs.Told.{changed_object}
+
+-- the plain step changes nothing of the object in s
+abbrev pub Leaves : PlainAct → SlotId → Type 0
+Leaves step s = (o : Object) → changed_object step s o ≡ o
+
+-- the plain step makes no object
+abbrev MakesNone : PlainAct → Type 0
+MakesNone step = (s : SlotId) → step ≡ plain.Make s → ⊥
+
+-- of two steps it is one or the other
+module _ (b : Bool) (x y : PlainAct) where
+  either_leaves : (s : SlotId) → Leaves x s → Leaves y s → Leaves (if b then x else y) s
+  either_leaves s left right = go b
+    where
+      go : (t : Bool) → Leaves (if t then x else y) s
+      go true = left
+      go false = right
+
+  either_makes_none : MakesNone x → MakesNone y → MakesNone (if b then x else y)
+  either_makes_none left right = go b
+    where
+      go : (t : Bool) → MakesNone (if t then x else y)
+      go true = left
+      go false = right
+
+ejects_leaves : (es : List Entry) (s : SlotId) → Leaves (ejects es) s
+ejects_leaves [] s o = refl
+ejects_leaves (e ∷ es) s o = refl
+
+ejects_make_none : (es : List Entry) → MakesNone (ejects es)
+ejects_make_none [] s e = absurd (cc (e))
+ejects_make_none (x ∷ es) s e = absurd (cc (e))
+
+releases_leaves : (n : Note) (s : SlotId) → Leaves (releases n) s
+releases_leaves note.Idle s o = refl
+releases_leaves (note.Announced k x) s o = refl
+releases_leaves (note.Valid k x) s o = refl
+
+releases_make_none : (n : Note) → MakesNone (releases n)
+releases_make_none note.Idle s e = absurd (cc (e))
+releases_make_none (note.Announced k x) s e = absurd (cc (e))
+releases_make_none (note.Valid k x) s e = absurd (cc (e))
+
+module _ (z : Shape) (w : ℕ) (v : CoreView) (s : SlotId) where
+  -- the slot that the seat fills is another one
+  filled_other : (r : SlotId) → v.phase ≡ phase.Blank r → (v.phase ≡ phase.Blank s → ⊥)
+      → (s.0 == (slot_of v.phase).0) ≡ false
+  filled_other r is off =
+      let there : (slot_of v.phase).0 ≡ r.0 = ap (λ (p : Phase). (slot_of p).0) is in
+      let apart : s.0 ≢ (slot_of v.phase).0 =
+      λ e. off (is ∙ ap phase.Blank (slot_is r s (sym there ∙ sym e))) in grind (arith, nat_tests)
+
+  -- in a slot that the seat doesn't fill no act changes the object
+  pub act_leaves : (a : Act) → May z a v → (v.phase ≡ phase.Blank s → ⊥)
+      → Leaves (shown_act z a w v) s
+  act_leaves (act.Add x) may off o = refl
+  act_leaves (act.Drop x) may off o = refl
+  act_leaves act.Pay may off o = ejects_leaves v.owed s o
+  act_leaves act.Finish may off o =
+      either_leaves (w == 0) (plain.End (slot_of v.phase)) plain.Still s (λ _. refl) (λ _. refl) o
+  act_leaves act.Take may off o =
+      either_leaves (has_help w) (plain.End (slot_of v.phase)) plain.Still s (λ _. refl)
+      (λ _. refl) o
+  act_leaves (act.Count x) may off o = refl
+  act_leaves act.Mark may off o = refl
+  act_leaves (act.Announce j k x) may off o = refl
+  act_leaves (act.Release j) may off o = releases_leaves (note_of v j) s o
+  act_leaves (act.Look p) may off o = refl
+  act_leaves (act.Check j p) may off o = refl
+  act_leaves act.Scan may off o =
+      either_leaves (is_last z v) plain.Split plain.Still s (λ _. refl) (λ _. refl) o
+  act_leaves (act.Swap p new) may off o =
+      either_leaves (is_dying_field v p) (plain.Clear p) (plain.Replace p new) s (λ _. refl)
+      (λ _. refl) o
+  act_leaves (act.Cas p old new) may off o = refl
+  act_leaves (act.Claim x) may off o =
+      either_leaves (w == ZERO) (plain.Claim x) plain.Still s (λ _. refl) (λ _. refl) o
+  act_leaves (act.Fill i x) may off o = rw (filled_other may.0.0 may.0.1 off) refl
+  act_leaves act.Start may off o = rw (filled_other may.0 may.1 off) refl
+  act_leaves (act.See x i) may off o = refl
+  act_leaves act.Free may off o = refl
+  act_leaves (act.Wadd x) may off o = refl
+  act_leaves (act.Wdrop x) may off o = refl
+  act_leaves (act.Destroy x) may off o = refl
+  act_leaves (act.Wcount x) may off o = refl
+  act_leaves (act.Leave j) may off o = refl
+
+  -- an act that makes an object is a start
+  pub made_by_start : (a : Act) → shown_act z a w v ≡ plain.Make s
+      → (a ≡ act.Start) × (slot_of v.phase ≡ s)
+  made_by_start (act.Add x) e = absurd (cc (e))
+  made_by_start (act.Drop x) e = absurd (cc (e))
+  made_by_start act.Pay e = absurd (ejects_make_none v.owed s e)
+  made_by_start act.Finish e =
+      absurd (either_makes_none (w == 0) (plain.End (slot_of v.phase)) plain.Still
+      (λ _ e. absurd (cc (e))) (λ _ e. absurd (cc (e))) s e)
+  made_by_start act.Take e =
+      absurd (either_makes_none (has_help w) (plain.End (slot_of v.phase)) plain.Still
+      (λ _ e. absurd (cc (e))) (λ _ e. absurd (cc (e))) s e)
+  made_by_start (act.Count x) e = absurd (cc (e))
+  made_by_start act.Mark e = absurd (cc (e))
+  made_by_start (act.Announce j k x) e = absurd (cc (e))
+  made_by_start (act.Release j) e = absurd (releases_make_none (note_of v j) s e)
+  made_by_start (act.Look p) e = absurd (cc (e))
+  made_by_start (act.Check j p) e = absurd (cc (e))
+  made_by_start act.Scan e =
+      absurd (either_makes_none (is_last z v) plain.Split plain.Still
+      (λ _ e. absurd (cc (e))) (λ _ e. absurd (cc (e))) s e)
+  made_by_start (act.Swap p new) e =
+      absurd (either_makes_none (is_dying_field v p) (plain.Clear p) (plain.Replace p new)
+      (λ _ e. absurd (cc (e))) (λ _ e. absurd (cc (e))) s e)
+  made_by_start (act.Cas p old new) e = absurd (cc (e))
+  made_by_start (act.Claim x) e =
+      absurd (either_makes_none (w == ZERO) (plain.Claim x) plain.Still
+      (λ _ e. absurd (cc (e))) (λ _ e. absurd (cc (e))) s e)
+  made_by_start (act.Fill i x) e = absurd (cc (e))
+  made_by_start act.Start e = (refl, cc (e))
+  made_by_start (act.See x i) e = absurd (cc (e))
+  made_by_start act.Free e = absurd (cc (e))
+  made_by_start (act.Wadd x) e = absurd (cc (e))
+  made_by_start (act.Wdrop x) e = absurd (cc (e))
+  made_by_start (act.Destroy x) e = absurd (cc (e))
+  made_by_start (act.Wcount x) e = absurd (cc (e))
+  made_by_start (act.Leave j) e = absurd (cc (e))

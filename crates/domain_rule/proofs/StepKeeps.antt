@@ -1,0 +1,242 @@
+-- A step of a seat, with a deed that is ready for it, keeps the rule.
+use Rattle.std.proofs.Common.{◌≡◌, ◌≢◌, ⊎_elim, ℕ, ◌<◌, false, List, ◌∷◌, length, get_or, set, refl, ap, sym, ◌∙◌, subst, arith}
+use Rattle.std.specs.Prelude.{slice_index}
+use Rattle.std.proofs.lemmas.List.{length-map, length-set}
+use mathlib.Core.Option.{some}
+use lib.ListN.{get_elem?}
+use Rattle.atomic_table.specs.Table.{Allows, Me, State, keeps, stepped}
+use Rattle.atomic_table.proofs.Lists.{at_set}
+use Rattle.plain_state.specs.declared.act.PlainAct.{PlainAct}
+use Rattle.plain_state.specs.declared.act.PlainAct.TheVariants as plain
+use Rattle.plain_state.specs.declared.slot.SlotId.{SlotId}
+use Rattle.plain_state.specs.State.{Plain, slot_at}
+use Rattle.plain_state.specs.Steps.{Does}
+use Rattle.plain_protocol.specs.Laws.{Keeps, Meets}
+use Rattle.plain_protocol.specs.Owns.{HasSlot, Object, OwnPart, own_part}
+use Rattle.plain_protocol.proofs.StepFits.{step_fits}
+use Rattle.core_events.specs.declared.act.Act.{Act}
+use Rattle.core_events.specs.declared.shape.Shape.{Shape}
+use Rattle.core_events.specs.declared.shape.Quota.{Quota}
+use Rattle.core_events.specs.declared.view.CoreView.{CoreView}
+use Rattle.core_events.specs.declared.view.Phase.TheVariants as phase
+use Rattle.core_events.specs.Good.{SeatLaw}
+use Rattle.core_events.specs.Runs.{Core, Enabled, after, found, view_at}
+use Rattle.core_events.specs.Shows.{show_seat, shows}
+use Rattle.core_events.specs.ShownSteps.{shown_act, shown_number}
+use Rattle.core_events.specs.Steps.{May, next, place}
+use Rattle.core_events.specs.Views.{slot_of}
+use Rattle.core_law.specs.Sound.{Sound}
+use Rattle.core_law.proofs.Always.{step_keeps}
+use Rattle.core_shows.proofs.Events.{event_shows}
+use Rattle.core_shows.proofs.Lawful.{shows_lawful}
+use Rattle.domain_rule.specs.declared.view.SeatView.{SeatView}
+use Rattle.domain_rule.specs.Rule.{IsTrueOf, Kept, Tells, clients}
+use Rattle.domain_rule.specs.Told.{FitsStart, Happened, IsOwn, Told, changed_object}
+use Rattle.domain_rule.specs.Views.{KnowsAll, own_of}
+use Rattle.domain_rule.proofs.Acts.{made_by_start}
+use Rattle.domain_rule.proofs.Counting.{others_left}
+use Rattle.domain_rule.proofs.Objects.{object_changes}
+use Rattle.domain_rule.proofs.Others.{fills_has, has_there, shown_there}
+use Rattle.domain_rule.proofs.Owns.{own_told, told_object}
+use Rattle.domain_rule.proofs.Padding.{at_less, client_at, clients_length, clients_set}
+use Rattle.domain_rule.proofs.Step.{core_after, other_after, other_tells, own_tells, rest_may, stepped_view}
+use Rattle.domain_rule.proofs.Telling.{in_seats, kept_sound, number_of, true_of}
+
+module _ {V : Type 0} (law : Plain → List V → Type 0) (first : ℕ → V) (gone : V)
+    (fits : List ℕ → Type 0) (ready : OwnPart → V → PlainAct → Type 0)
+    (next_view : OwnPart → V → PlainAct → ℕ → V) (allows : Plain → Plain → ℕ → V → V → Type 0)
+    (keep : Keeps law gone ready next_view allows) where
+  -- what the deed owes, where the seat's own part and its view are known
+  deed_keeps : (p q : Plain) (views : List V) (n : ℕ) (step : PlainAct) (m : ℕ) (o : OwnPart)
+      (v : V) → Meets law p views → n < length views → own_part p n ≡ o → get_or views n gone ≡ v
+      → ready o v step → Does p n step m q
+      → law q (set views n (next_view o v step m)) × allows p q n v (next_view o v step m)
+  deed_keeps p q views n step m o v meets hn own_is view_is is_ready does =
+      subst (λ (x : OwnPart × V). law q (set views n (next_view x.0 x.1 step m))
+      × allows p q n x.1 (next_view x.0 x.1 step m)) both_are
+      (keep p q views n step m meets hn
+      (subst (λ (x : OwnPart × V). ready x.0 x.1 step) (sym both_are) is_ready) does)
+    where
+      both_are : ◌≡◌ {A = OwnPart × V} (own_part p n, get_or views n gone) (o, v)
+      both_are = λ i. (own_is i, view_is i)
+
+  module _ (z : Shape) (qs : List Quota) (s : State (Unit {0}) (SeatView V))
+      (k : Kept law first fits z qs s) (n : ℕ) (v : SeatView V)
+      (at : get_elem? s.views n ≡ some v) (here : v.gone ≡ false) (knows : KnowsAll v) (a : Act)
+      (own : IsOwn a) (may : May z a v.core) (starts : FitsStart fits a v)
+      (is_ready : (w : ℕ) → ready (own_of v) v.client (shown_act z a w v.core)) where
+    -- the core before the step and after it
+    abbrev c : Core
+    c = k.core
+
+    abbrev d : Core
+    d = after z k.core n a
+
+    -- the word that the seat finds, and the plain step that it shows
+    abbrev w : ℕ
+    w = slice_index s.words (place z a v.core)
+
+    abbrev step : PlainAct
+    step = shown_act z a (slice_index s.words (place z a v.core)) v.core
+
+    abbrev number : ℕ
+    number = shown_number a (slice_index s.words (place z a v.core))
+
+    -- the invariant holds, and the view of the seat is so: the event is enabled, and shows the step
+    so : Sound z c
+    so = kept_sound z qs s k
+
+    told : IsTrueOf z c n v
+    told = true_of z qs s k n v at here
+
+    hn : n < length c.views
+    hn = let e = so.views in let l = in_seats z qs s k n v at in omega arith
+
+    on : Enabled z c n a
+    on = (hn, subst (May z a) told.core may, rest_may z c a own)
+
+    found_is : w ≡ found z c n a
+    found_is = λ i. slice_index (k.words i) (place z a (told.core i))
+
+    shown : Does (shows z c) n step number (shows z d)
+    shown = subst (λ (x : ℕ × CoreView). Does (shows z c) n (shown_act z a x.0 x.1)
+        (shown_number a x.0) (shows z d)) (sym same) (event_shows z c n a so on)
+      where
+        same : ◌≡◌ {A = ℕ × CoreView} (w, v.core) (found z c n a, view_at c n)
+        same = λ i. (found_is i, told.core i)
+
+    -- an object that the step makes fits
+    made_fits : (x : SlotId) → step ≡ plain.Make x → fits (slot_at (shows z c) x).payload
+    made_fits x e =
+        let start = made_by_start z w v.core x a e in
+        let blank = subst (λ (b : Act). May z b v.core) start.0 may in
+        let same : blank.0 ≡ x = sym (ap slot_of blank.1) ∙ start.1 in
+        let fills : v.core.phase ≡ phase.Blank x = blank.1 ∙ ap phase.Blank same in
+        subst fits (ap (λ (o : Object). o.payload) (told.objects x (fills_has x v.core fills)))
+        (starts start.0 x fills)
+
+    -- the rule has what the deed asks
+    meets : Meets law (shows z c) (clients first z.seats s.views)
+    meets = record {
+      lawful = shows_lawful z c so;
+      count = clients_length first z.seats s.views k.few.1
+          ∙ sym (length-map c.views show_seat ∙ so.views);
+      law = k.client;
+    }
+
+    -- the deed's next view, and what the deed owes of it
+    abbrev client' : V
+    client' = next_view (own_of v) v.client step number
+
+    owed : law (shows z d) (set (clients first z.seats s.views) n client')
+        × allows (shows z c) (shows z d) n v.client client'
+    owed =
+        let l = clients_length first z.seats s.views k.few.1 in
+        let e = so.views in
+        let h = hn in
+        deed_keeps (shows z c) (shows z d) (clients first z.seats s.views) n step number (own_of v)
+        v.client meets (omega arith)
+        (own_told z c so n v hn told knows
+        (others_left z qs k.events c k.shape k.quotas k.history))
+        (client_at first z.seats s.views n v gone at) (is_ready w) shown
+
+    -- the seat's new view, among those of all seats
+    abbrev v' : SeatView V
+    v' = stepped_view z d a w client' v
+
+    tells : (m : ℕ) (u : SeatView V) → get_elem? (set s.views n v') m ≡ some u → Tells z d m u
+    tells m u e = ⊎_elim
+        (λ (t : (m ≡ n) × (v' ≡ u)).
+        subst (λ (x : ℕ × SeatView V). Tells z d x.0 x.1) (λ i. (sym t.0 i, t.1 i))
+        (own_tells z c so n a on own v told w client' found_is))
+        (λ (t : (m ≢ n) × (get_elem? s.views m ≡ some u)).
+        let sv = so.views in
+        let l = in_seats z qs s k m u t.1 in
+        other_tells z c so n a on own m u (omega arith) t.0 (k.tells m u t.1))
+        (at_set s.views n m v' u e)
+
+    -- the table after the step: the rule holds of it, and the seat is told of its step
+    abbrev after_step : List (ℕ × Unit {0}) → State (Unit {0}) (SeatView V)
+    after_step carried = stepped s (place z a v.core) (next a w) n carried v' keeps
+
+    root : (u : SeatView V) → get_elem? (set s.views n v') 0 ≡ some u
+        → (u.gone ≡ false) × (u.opened ≡ length (set s.views n v'))
+    root u e = ⊎_elim
+        (λ (t : (0 ≡ n) × (v' ≡ u)).
+        let first_at = subst (λ (m : ℕ). get_elem? s.views m ≡ some v) (sym t.0) at in (
+          ap (λ (x : SeatView V). x.gone) (sym t.1),
+          ap (λ (x : SeatView V). x.opened) (sym t.1)
+              ∙ ((k.root v first_at).1 ∙ sym (length-set s.views n v')),
+        ))
+        (λ (t : (0 ≢ n) × (get_elem? s.views 0 ≡ some u)).
+        let r = k.root u t.1 in (r.0, r.1 ∙ sym (length-set s.views n v')))
+        (at_set s.views n 0 v' u e)
+
+    still_kept : (carried : List (ℕ × Unit {0})) → Kept law first fits z qs (after_step carried)
+    still_kept carried = record {
+      shape = k.shape;
+      quotas = k.quotas;
+      events = record { seat = n; act = a } ∷ k.events;
+      core = d;
+      history = (c, k.history, (on, refl));
+      words = λ i. set (k.words i) (place z a (told.core i)) (next a (found_is i));
+      few = rw (length-set s.views n v') k.few;
+      tells = tells;
+      root = root;
+      unopened = λ m le lt.
+          let l = length-set s.views n v' in
+          let there = at_less s.views n v at in
+          other_after z c so n a on own m (omega arith) ∙ k.unopened m (omega arith) lt;
+      fit = step_fits fits (shows z c) (shows z d) n step number shown made_fits k.fit;
+      client = subst (law (shows z d)) (sym (clients_set first z.seats s.views n v'
+          (at_less s.views n v at))) owed.0;
+    }
+
+    told_step : Told z qs next_view allows a v w v'
+    told_step = record {
+      core = refl;
+      client = refl;
+      objects = λ x had. told_object (shows z d) v' x refl
+          ∙ (object_changes (shows z c) (shows z d) n x step number
+          (shown_there z c so x (there x had)) shown
+          ∙ ap (changed_object step x) (sym (told.objects x had)));
+      whole = refl;
+      opened = refl;
+      left_adds = refl;
+      left_makes = refl;
+      here = refl;
+      law = subst (λ (m : ℕ). SeatLaw z m v'.core) (sym seat_is)
+          (subst (SeatLaw z n) (sym (core_after z c so n a on own v told w found_is))
+          ((step_keeps z c n a so on).seats n (in_seats z qs s k n v at)));
+      happened = subst (λ (m : ℕ). Happened z qs m a w (λ p q. allows p q m v.client client'))
+          (sym seat_is) (record {
+            events = k.events;
+            before = c;
+            history = k.history;
+            enabled = on;
+            found = found_is;
+            fact = owed.1;
+          });
+    }
+      where
+        seat_is : v.core.seat ≡ n
+        seat_is = number_of z qs s k n v at here
+
+        there : (x : SlotId) → HasSlot (show_seat v.core) x → x.0 < z.slots
+        there x had = has_there z c so n x hn
+            (subst (λ (u : CoreView). HasSlot (show_seat u) x) told.core had)
+
+  -- whatever the table is, the step keeps the rule
+  pub step_allowed : (z : Shape) (qs : List Quota) (a : Act) (slots n : ℕ)
+      (me : Me (Unit {0}) (SeatView V))
+      → me.0.gone ≡ false → KnowsAll me.0 → IsOwn a → May z a me.0.core → FitsStart fits a me.0
+      → ((m : ℕ) → ready (own_of me.0) me.0.client (shown_act z a m me.0.core))
+      → Allows (Kept law first fits z qs) slots n me (place z a me.0.core) (next a)
+      (λ m then. Told z qs next_view allows a me.0 m then.0 × (then.1 ≡ me.1))
+  step_allowed z qs a slots n me here knows own may starts is_ready s k len at small = (
+    v' z qs s k n me.0 at here knows a own may starts is_ready,
+    keeps,
+    tt,
+    still_kept z qs s k n me.0 at here knows a own may starts is_ready me.1,
+    (told_step z qs s k n me.0 at here knows a own may starts is_ready, refl),
+  )
