@@ -6,8 +6,8 @@
 //! objects fit the protocol's kind, and the protocol's law holds of the plain state and the clients' views.
 //!
 //! `step_keeps` says that each event that a seat's own view allows keeps the rule, under every deed that is ready for
-//! it; `opening_keeps`, `split_keeps` and `leave_keeps` say so of the seats' coming and going. Nothing is promised about
-//! which step comes, or when.
+//! it; `opening_keeps`, `split_keeps` and `leave_keeps` say so of the seats' coming and going, and `learning_keeps` of
+//! a seat that comes to know the whole core once it is alone. Nothing is promised about which step comes, or when.
 #![tactic(auto)]
 
 mod charter;
