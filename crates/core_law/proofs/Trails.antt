@@ -72,7 +72,8 @@ changed_trail z (act.Announce j k s) w v = record { trail = refl; left = refl; l
 changed_trail z (act.Release j) w v = record { trail = refl; left = refl; left_trails = refl }
 changed_trail z (act.Look p) w v = record { trail = refl; left = refl; left_trails = refl }
 changed_trail z (act.Check j p) w v = pick (is_valid w (note_of v j)) _ _ v
-    (record { trail = refl; left = refl; left_trails = refl }) (record { trail = refl; left = refl; left_trails = refl })
+    (record { trail = refl; left = refl; left_trails = refl })
+    (record { trail = refl; left = refl; left_trails = refl })
 changed_trail z act.Scan w v = pick (is_last z v) _ _ v (record { trail = refl; left = refl; left_trails = refl })
     (record { trail = refl; left = refl; left_trails = refl })
 changed_trail z (act.Swap p new) w v = exchange (place_kind p) new w v

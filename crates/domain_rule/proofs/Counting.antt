@@ -11,11 +11,10 @@ use Rattle.core_events.specs.declared.outcome.Outcome.TheVariants as outcome
 use Rattle.core_events.specs.declared.shape.Shape.{Shape}
 use Rattle.core_events.specs.declared.shape.Quota.{Quota}
 use Rattle.core_events.specs.declared.view.CoreView.{CoreView}
-use Rattle.core_events.specs.declared.view.LeftTrail.{LeftTrail}
 use Rattle.core_events.specs.Counts.{total}
 use Rattle.core_events.specs.Views.{no_view}
 use Rattle.core_events.specs.Steps.{moved, noted}
-use Rattle.core_events.specs.Runs.{Core, view_at, found, Enabled, after, views_after, start, taken_over, left_behind, History, IsShape, AreQuotas}
+use Rattle.core_events.specs.Runs.{Core, view_at, found, Enabled, after, start, taken_over, left_behind, History, IsShape, AreQuotas}
 use Rattle.core_law.specs.Sound.{Sound}
 use Rattle.core_law.proofs.Kit.{total_set}
 use Rattle.core_law.proofs.Starts.{total_none}

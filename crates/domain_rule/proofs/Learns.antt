@@ -1,23 +1,22 @@
 -- A seat that is alone keeps the rule where it comes to know the whole core.
-use Rattle.std.proofs.Common.{◌≡◌, ℕ, ◌+◌, ◌<◌, false, List, length, set, refl, ap, sym, ◌∙◌, subst, arith}
+use Rattle.std.proofs.Common.{◌≡◌, ℕ, false, List, length, set, refl, ap, sym, ◌∙◌, subst, arith}
 use Rattle.std.specs.Prelude.{slice_index, Some}
 use Rattle.std.proofs.lemmas.List.{length-set, set-get_or}
-use mathlib.Core.Option.{some, some-injective}
+use mathlib.Core.Option.{some}
 use lib.ListN.{get_elem?}
 use Rattle.atomic_table.specs.Table.{State, Me, Allows, keeps, stepped}
-use Rattle.atomic_table.proofs.Lists.{set_here}
 use Rattle.plain_state.specs.State.{Plain}
 use Rattle.core_events.specs.declared.shape.Shape.{Shape}
 use Rattle.core_events.specs.declared.shape.Quota.{Quota}
 use Rattle.core_events.specs.declared.view.CoreView.{CoreView}
-use Rattle.core_events.specs.Runs.{Core, view_at}
+use Rattle.core_events.specs.Runs.{view_at}
 use Rattle.core_events.specs.Shows.{shows}
 use Rattle.domain_rule.specs.declared.view.Whole.{Whole}
 use Rattle.domain_rule.specs.declared.view.SeatView.{SeatView}
 use Rattle.domain_rule.specs.Rule.{IsTrueOf, Kept, OthersLeft}
 use Rattle.domain_rule.specs.Views.{core_in, whole_of, IsAlone}
 use Rattle.domain_rule.proofs.Counting.{others_left}
-use Rattle.domain_rule.proofs.Padding.{at_less, clients_same}
+use Rattle.domain_rule.proofs.Padding.{clients_same}
 use Rattle.domain_rule.proofs.Telling.{kept_sound, in_seats, true_of, is_root, tells_here, set_all, set_tells}
 
 module _ {V : Type 0} (law : Plain → List V → Type 0) (first : ℕ → V) (fits : List ℕ → Type 0)
@@ -57,8 +56,8 @@ module _ {V : Type 0} (law : Plain → List V → Type 0) (first : ℕ → V) (f
     abbrev after : State (Unit {0}) (SeatView V)
     after = stepped s 0 (slice_index s.words 0) id me.1 told keeps
 
-    learnt : Kept law first fits z qs after
-    learnt =
+    kept_then : Kept law first fits z qs after
+    kept_then =
         let l = length-set s.views id told in
         let f = k.few in record {
           shape = k.shape;
@@ -86,4 +85,4 @@ module _ {V : Type 0} (law : Plain → List V → Type 0) (first : ℕ → V) (f
   pub learns : Allows (Kept law first fits z qs) slots id me 0 (λ w. w)
       (λ w m. ((all : Whole) × (m.0 ≡ record me.0 { whole = Some all })) × (m.1 ≡ me.1))
   learns s k homes at small =
-      (told s k at, keeps, tt, learnt s k at, ((whole_of k.core, refl), refl))
+      (told s k at, keeps, tt, kept_then s k at, ((whole_of k.core, refl), refl))

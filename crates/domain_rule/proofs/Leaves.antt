@@ -1,6 +1,6 @@
 -- Seat 0 keeps the rule where it takes over what another seat has, and that seat leaves.
-use Rattle.std.proofs.Common.{◌≡◌, ◌≢◌, ⊎_elim, ℕ, ◌+◌, ◌<◌, ◌≤◌, Bool, true, false, List, [], ◌∷◌, ◌++◌, length, get_or, set, refl, ap, sym, ◌∙◌, subst, arith}
-use Rattle.std.specs.Prelude.{if◌then◌else◌, Some}
+use Rattle.std.proofs.Common.{◌≡◌, ◌≢◌, ⊎_elim, ℕ, ◌+◌, ◌<◌, ◌≤◌, Bool, true, false, List, ◌∷◌, length, get_or, set, refl, ap, sym, ◌∙◌, subst, arith}
+use Rattle.std.specs.Prelude.{if◌then◌else◌}
 use Rattle.std.proofs.lemmas.List.{length-set, length-map, set-get_or, get_or_past}
 use Rattle.std.proofs.lemmas.Bool.{cases_lt}
 use Rattle.std.proofs.lemmas.Bool.Decides.{nat_tests}
@@ -9,9 +9,8 @@ use lib.ListN.{get_elem?}
 use Rattle.atomic_table.specs.Table.{State, Joins}
 use Rattle.atomic_table.proofs.Lists.{set_else}
 use Rattle.plain_state.specs.declared.act.PlainAct.TheVariants as plain
-use Rattle.plain_state.specs.declared.slot.PlainSlot.{PlainSlot}
 use Rattle.plain_state.specs.declared.slot.SlotId.{SlotId}
-use Rattle.plain_state.specs.State.{Plain, slot_at, new_slot}
+use Rattle.plain_state.specs.State.{Plain, slot_at}
 use Rattle.plain_state.specs.Steps.{Does}
 use Rattle.plain_protocol.specs.Laws.{Meets, KeptByLeave}
 use Rattle.plain_protocol.specs.Owns.{Object, object_of, has_slot, HasSlot}
@@ -21,10 +20,9 @@ use Rattle.core_events.specs.declared.outcome.Outcome.TheVariants as outcome
 use Rattle.core_events.specs.declared.shape.Shape.{Shape}
 use Rattle.core_events.specs.declared.shape.Quota.{Quota}
 use Rattle.core_events.specs.declared.view.CoreView.{CoreView}
-use Rattle.core_events.specs.Views.{no_view}
 use Rattle.core_events.specs.Steps.{CanLeave, noted}
 use Rattle.core_events.specs.Runs.{Core, view_at, taken_over, left_behind, Enabled, after}
-use Rattle.core_events.specs.Shows.{show_seat, shows, each_from}
+use Rattle.core_events.specs.Shows.{show_seat, shows}
 use Rattle.core_law.specs.Sound.{Sound}
 use Rattle.core_law.proofs.Leaves.{parts, is_j, is_0, is_m}
 use Rattle.core_shows.proofs.Bridge.{shown_past}
@@ -32,7 +30,6 @@ use Rattle.core_shows.proofs.Events.{event_shows}
 use Rattle.core_shows.proofs.Lawful.{shows_lawful}
 use Rattle.core_shows.proofs.Lists.{length_each, get_each}
 use Rattle.domain_rule.specs.declared.view.Known.{Known}
-use Rattle.domain_rule.specs.declared.view.Whole.{Whole}
 use Rattle.domain_rule.specs.declared.view.SeatView.{SeatView}
 use Rattle.domain_rule.specs.Opening.{joined_view, gone_view, merged_objects}
 use Rattle.domain_rule.specs.Rule.{IsTrueOf, Tells, Kept, clients}
@@ -46,24 +43,24 @@ other_has : (root v : CoreView) (s : SlotId) → HasSlot (show_seat (taken_over 
 other_has root v s has not_root = let p = parts root v s in grind (arith, nat_tests)
 
 module _ {V : Type 0} (root v : SeatView V) (z : Shape) (same : root.core.shape ≡ z) (s : SlotId)
-    where
-  abbrev known : ℕ → Known
-  known x =
-      let t : SlotId = record { 0 = x } in
-      known_of (if has_slot (show_seat root.core) t then object_in root t else object_in v t)
+  where
+    abbrev known : ℕ → Known
+    known x =
+        let t : SlotId = record { 0 = x } in
+        known_of (if has_slot (show_seat root.core) t then object_in root t else object_in v t)
 
-  -- what seat 0 has of each slot's object then
-  merged_at : s.0 < z.slots → get_or (merged_objects root v) s.0 no_object ≡ known s.0
-  merged_at hs =
-      let n = ap (λ (y : Shape). y.slots) same in
-      let e : 0 + s.0 ≡ s.0 = omega arith in
-      get_each 0 root.core.shape.slots s.0 known no_object (omega arith) ∙ ap known e
+    -- what seat 0 has of each slot's object then
+    merged_at : s.0 < z.slots → get_or (merged_objects root v) s.0 no_object ≡ known s.0
+    merged_at hs =
+        let n = ap (λ (y : Shape). y.slots) same in
+        let e : 0 + s.0 ≡ s.0 = omega arith in
+        get_each 0 root.core.shape.slots s.0 known no_object (omega arith) ∙ ap known e
 
-  merged_past : z.slots ≤ s.0 → get_or (merged_objects root v) s.0 no_object ≡ no_object
-  merged_past le =
-      let n = ap (λ (y : Shape). y.slots) same in
-      let l = length_each 0 root.core.shape.slots known in
-      get_or_past (merged_objects root v) s.0 no_object (omega arith)
+    merged_past : z.slots ≤ s.0 → get_or (merged_objects root v) s.0 no_object ≡ no_object
+    merged_past le =
+        let n = ap (λ (y : Shape). y.slots) same in
+        let l = length_each 0 root.core.shape.slots known in
+        get_or_past (merged_objects root v) s.0 no_object (omega arith)
 
 module _ {V : Type 0} (law : Plain → List V → Type 0) (first : ℕ → V) (fits : List ℕ → Type 0)
     (z : Shape) (qs : List Quota) (joined : V → V → V) (gone : V)
@@ -243,8 +240,9 @@ module _ {V : Type 0} (law : Plain → List V → Type 0) (first : ℕ → V) (f
         ∙ sym clients_then)
         (leave (shows z k.core) (shows z d) other 0 (clients first z.seats s.views) meets does)
 
-    left : Kept law first fits z qs (record { words = s.words; homes = s.homes; views = views })
-    left =
+    -- the rule after the leave: its event joins the history
+    kept_then : Kept law first fits z qs (record { words = s.words; homes = s.homes; views = views })
+    kept_then =
         let l = all_length in
         let f = k.few in
         let h = at_less s.views other w atj in record {
@@ -266,4 +264,4 @@ module _ {V : Type 0} (law : Plain → List V → Type 0) (first : ℕ → V) (f
 
   pub leaves : Joins (Kept law first fits z qs) id v other w (joined_view joined v w)
       (gone_view gone)
-  leaves = left
+  leaves = kept_then

@@ -1,6 +1,6 @@
 -- The rule holds of a table with the first words, and of its first seat.
-use Rattle.std.proofs.Common.{◌≡◌, ⊎_elim, ℕ, zero, suc, ◌+◌, ◌-◌, ◌<◌, ◌≤◌, Bool, true, false, List, [], ◌∷◌, length, map, get_or, refl, ap, sym, ◌∙◌, subst, arith}
-use Rattle.std.specs.Prelude.{◌==◌, if◌then◌else◌, Option, Some, None}
+use Rattle.std.proofs.Common.{◌≡◌, ⊎_elim, ℕ, zero, suc, ◌-◌, Bool, true, false, List, [], ◌∷◌, map, get_or, refl, ap, sym, ◌∙◌, subst, arith}
+use Rattle.std.specs.Prelude.{◌==◌, if◌then◌else◌, Some, None}
 use Rattle.std.specs.List.{range_with_len}
 use Rattle.std.proofs.Math.ListN.{get_or-map}
 use Rattle.std.proofs.lemmas.Bool.Decides.{nat_tests}
@@ -13,19 +13,18 @@ use Rattle.plain_state.specs.Fits.{AllFit}
 use Rattle.plain_state.specs.State.{Plain, slot_at, new_slot, empty}
 use Rattle.plain_state.proofs.Start.{every_slot_new}
 use Rattle.plain_protocol.specs.Laws.{Starts}
-use Rattle.plain_protocol.specs.Owns.{Object, object_of}
+use Rattle.plain_protocol.specs.Owns.{object_of}
 use Rattle.core_events.specs.declared.shape.Shape.{Shape}
 use Rattle.core_events.specs.declared.shape.Quota.{Quota}
 use Rattle.core_events.specs.Words.{first_words}
-use Rattle.core_events.specs.Runs.{start, view_at, IsShape, AreQuotas}
-use Rattle.core_events.specs.Shows.{shows}
+use Rattle.core_events.specs.Runs.{start, IsShape, AreQuotas}
 use Rattle.core_law.proofs.Starts.{start_sound}
 use Rattle.domain_rule.specs.declared.view.Known.{Known}
 use Rattle.domain_rule.specs.declared.view.Whole.{Whole}
 use Rattle.domain_rule.specs.declared.view.SeatView.{SeatView}
 use Rattle.domain_rule.specs.Opening.{first_of}
 use Rattle.domain_rule.specs.Rule.{IsTrueOf, Tells, Kept, OthersLeft, clients}
-use Rattle.domain_rule.specs.Views.{core_in, whole_of, known_of, objects_of, no_object, object_in, quota_at}
+use Rattle.domain_rule.specs.Views.{core_in, whole_of, known_of, objects_of, no_object}
 use Rattle.domain_rule.proofs.Padding.{clients_more}
 use Rattle.domain_rule.proofs.StartShown.{first_seen, start_shown}
 

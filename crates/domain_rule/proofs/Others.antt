@@ -26,7 +26,7 @@ use Rattle.core_shows.proofs.Lists.{length_each}
 use Rattle.domain_rule.proofs.Acts.{act_leaves}
 use Rattle.domain_rule.proofs.Objects.{object_at, object_changes}
 
--- the seat holds the slot, has it in its dying list, or fills it
+-- a phase fills a slot as the seat that is shown does
 filled_counts : (s : SlotId) (p : Phase) → held_in s (filled p) ≡ filling s p
 unfolding held_in one
 filled_counts s phase.Idle = refl
@@ -37,6 +37,7 @@ filled_counts s phase.Scan = refl
 filled_counts s (phase.Blank x) = refl
 filled_counts s (phase.Give x) = refl
 
+-- the seat holds the slot, has it in its dying list, or fills it
 has_how : (s : SlotId) (v : CoreView) → HasSlot (show_seat v) s
     → (0 < held_times s v) ⊎ ((0 < times s v.dying) ⊎ (0 < filling s v.phase))
 has_how s v has =
@@ -51,6 +52,7 @@ has_how s v has =
     (cases_lt 0 (times s v.dying)))
     (cases_lt 0 (held_times s v))
 
+-- what a seat fills it has
 pub fills_has : (s : SlotId) (v : CoreView) → v.phase ≡ phase.Blank s → HasSlot (show_seat v) s
 fills_has s v fills =
     let f = filled_counts s v.phase in

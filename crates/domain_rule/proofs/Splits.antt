@@ -1,6 +1,6 @@
 -- Seat 0 keeps the rule where it opens one more seat.
-use Rattle.std.proofs.Common.{◌≡◌, ◌≢◌, ⊎_elim, ℕ, ◌+◌, ◌<◌, ◌≤◌, Bool, true, false, List, [], ◌∷◌, ◌++◌, length, set, refl, ap, sym, ◌∙◌, subst, arith, length-append}
-use Rattle.std.specs.Prelude.{◌==◌, if◌then◌else◌, Option, Some, None}
+use Rattle.std.proofs.Common.{◌≡◌, ⊎_elim, ℕ, ◌+◌, ◌<◌, ◌≤◌, false, List, [], ◌∷◌, ◌++◌, length, set, refl, ap, sym, ◌∙◌, subst, arith, length-append}
+use Rattle.std.specs.Prelude.{◌==◌, if◌then◌else◌, Some, None}
 use Rattle.std.proofs.lemmas.List.{length-set}
 use Rattle.std.proofs.lemmas.Bool.Decides.{nat_tests}
 use mathlib.Core.Option.{some, some-injective}
@@ -103,8 +103,9 @@ module _ {V : Type 0} (law : Plain → List V → Type 0) (first : ℕ → V) (f
         clients_more first z.seats (set s.views id left) new (omega arith) (ap first (sym l))
         ∙ clients_same first z.seats s.views id v left at refl
 
-    split : Kept law first fits z qs (record { words = s.words; homes = s.homes; views = views })
-    split =
+    -- the rule after the opening: the core stays as it is
+    kept_then : Kept law first fits z qs (record { words = s.words; homes = s.homes; views = views })
+    kept_then =
         let l = all_length in
         let c = count in record {
           shape = k.shape;
@@ -123,4 +124,4 @@ module _ {V : Type 0} (law : Plain → List V → Type 0) (first : ℕ → V) (f
 
   pub splits : Splits (Kept law first fits z qs) id v (opened_more v)
       (opened_view first z qs v.opened)
-  splits = split
+  splits = kept_then

@@ -1,5 +1,5 @@
 -- How a domain comes to its seats, and how a seat leaves it.
-use Rattle.std.specs.Prelude.{ℕ, ◌+◌, ◌==◌, ◌++◌, true, false, List, [], ◌∷◌, Option, Some, None, if◌then◌else◌}
+use Rattle.std.specs.Prelude.{ℕ, ◌+◌, ◌==◌, true, false, List, [], Some, None, if◌then◌else◌}
 use Rattle.plain_state.specs.declared.slot.SlotId.{SlotId}
 use Rattle.plain_state.specs.State.{empty}
 use Rattle.plain_protocol.specs.Owns.{has_slot}
@@ -12,7 +12,6 @@ use Rattle.core_events.specs.Shows.{each_from, show_seat}
 use Rattle.core_events.specs.Steps.{noted}
 use Rattle.core_events.specs.Views.{first_view, no_view}
 use Rattle.domain_rule.specs.declared.view.Known.{Known}
-use Rattle.domain_rule.specs.declared.view.Whole.{Whole}
 use Rattle.domain_rule.specs.declared.view.SeatView.{SeatView}
 use Rattle.domain_rule.specs.Views.{known_of, object_in, objects_of, quota_at, whole_of}
 

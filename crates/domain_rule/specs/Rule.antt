@@ -1,6 +1,6 @@
 -- The rule of a domain's table: its words and its views have a history, what each view says is so,
 -- the payloads of all objects fit, and the client's law holds.
-use Rattle.std.specs.Prelude.{ℕ, ◌≡◌, ◌+◌, ◌-◌, ◌<◌, ◌≤◌, true, false, List, ◌++◌, length, map, slice_index_or, Option, Some}
+use Rattle.std.specs.Prelude.{ℕ, ◌≡◌, ◌-◌, ◌<◌, ◌≤◌, true, false, List, ◌++◌, length, map, Some}
 use Rattle.std.specs.Bool.{MatchBool}
 use Rattle.std.specs.List.{range_with_len}
 use mathlib.Core.Option.{some}

@@ -1,10 +1,9 @@
 -- What a seat of a domain has by its view: the objects of its slots, its own part of the plain state.
-use Rattle.std.specs.Prelude.{ℕ, ◌≡◌, ◌+◌, List, length, map, slice_index_or, Option, Some, None, IsSome, if◌then◌else◌}
+use Rattle.std.specs.Prelude.{ℕ, ◌≡◌, ◌+◌, List, length, map, slice_index_or, Some, None, IsSome, if◌then◌else◌}
 use Rattle.std.specs.Option.{option_map}
 use Rattle.plain_state.specs.declared.slot.SlotId.{SlotId}
 use Rattle.plain_state.specs.State.{Plain, no_payload}
 use Rattle.plain_protocol.specs.Owns.{Object, OwnPart, object_of, has_slot}
-use Rattle.core_events.specs.declared.shape.Shape.{Shape}
 use Rattle.core_events.specs.declared.shape.Quota.{Quota}
 use Rattle.core_events.specs.Runs.{Core}
 use Rattle.core_events.specs.Shows.{show_seat, shows}

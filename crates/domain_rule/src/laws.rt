@@ -1,4 +1,4 @@
-//! Each event of a seat keeps the rule.
+//! Each event that a seat's own view allows keeps the rule.
 ghost use Rattle.std.specs.Prelude.{ℕ, ◌≡◌, false, List};
 ghost use Rattle.atomic_table.specs.Table.{Allows, Me};
 ghost use Rattle.core_events.specs.declared.act.Act.{Act};
