@@ -3,7 +3,9 @@
 
 mod aim;
 mod atomics;
+mod counters;
 mod domain;
+mod found;
 mod seat;
 
 pub use domain::Domain;

@@ -1,5 +1,5 @@
 //! The parts of a seat's half of the table of events, as functions over plain values: what a word says, where a word
-//! is, the first copy in a list, and the split of what is retired.
+//! is, the slot of a phase, the first copy in a list, and the split of what is retired.
 //!
 //! Each answers what the definition of that name in `core_events` says; `core_seats` makes of them what a seat does.
 //! Nothing is promised of a word that its callers don't ask for.
@@ -11,11 +11,13 @@
 #![tactic(auto)]
 
 mod lists;
+mod phases;
 mod places;
 mod splitting;
 mod words;
 
 pub use lists::{are_idle, has_slot, has_snapshot, take_first};
+pub use phases::{given_up, slot_in_phase};
 pub use places::{counter_index, kind_of, note_index, place_index, slot_index};
 pub use splitting::{Parts, split};
-pub use words::{ZERO_FLAG, announced_as, counted, found_in, held_as, helps};
+pub use words::{HELP_FLAG, ZERO_FLAG, announced_as, counted, found_in, held_as, helps};
