@@ -5,6 +5,7 @@ mod aim;
 mod atomics;
 mod counters;
 mod domain;
+mod filling;
 mod found;
 mod seat;
 
