@@ -5,9 +5,12 @@ mod aim;
 mod atomics;
 mod counters;
 mod domain;
+mod exchanging;
 mod filling;
 mod found;
+mod protecting;
 mod seat;
+mod splitting;
 
 pub use domain::Domain;
 pub use seat::{Seat, SeatOf};
