@@ -2,7 +2,6 @@
 use Rattle.std.proofs.Common.{◌≡◌, ℕ, suc, ◌+◌, ◌<◌, false, List, [], ◌∷◌, ◌++◌, length, refl, ap, sym, ◌∙◌, subst, arith}
 use Rattle.std.specs.Prelude.{◌==◌, Option, Some, None, IsSome, if◌then◌else◌}
 use Rattle.std.proofs.lemmas.Bool.Decides.{nat_tests}
-use Rattle.atomic_table.specs.Seated.{TableId}
 use Rattle.atomic_table.specs.Table.{Me, Splits, opening}
 use Rattle.atomic_table.specs.declared.shared.Seat.{Seat as TableSeat}
 use Rattle.plain_state.specs.State.{Plain}
@@ -26,13 +25,15 @@ use Rattle.acquire_retire.specs.Openings.{IsFirst, IsNew, begun_seat, newcomer}
 use Rattle.acquire_retire.specs.Seats.{IsSeated, SeatState}
 
 -- a table with the first words is one of a domain
-pub begun_domain : (z : Shape) (qs : List Quota) (table : TableId) (key : Shape) (words : List ℕ)
-    → IsShape z → AreQuotas z qs → key ≡ z → words ≡ first_words z → table.words ≡ length words
-    → table.slots ≡ 0 → IsDomain table key z
-begun_domain z qs table key words shape quotas same are count none = record {
+pub begun_domain : {P : Type 0} (z : Shape) (qs : List Quota) (d : DomainState P) (words : List ℕ)
+    → IsShape z → AreQuotas z qs → d.shape ≡ z → d.quotas ≡ qs → words ≡ first_words z
+    → d.table.words ≡ length words → d.table.slots ≡ 0 → IsDomain d z
+begun_domain z qs d words shape quotas same same_quotas are count none = record {
   shape = subst IsShape (sym same) shape;
+  quotas = subst (λ (t : Shape × List Quota). AreQuotas t.0 t.1)
+      (λ i. (sym same i, sym same_quotas i)) quotas;
   same = sym same;
-  words = subst (λ (y : Shape). table.words ≡ word_count y) (sym same)
+  words = subst (λ (y : Shape). d.table.words ≡ word_count y) (sym same)
       (count ∙ (ap length are ∙ (start_sound z qs shape quotas).words));
   slots = none;
 }
@@ -66,21 +67,23 @@ opened_seated first z qs n opened shape quotas there = record {
 }
 
 -- the sizes of a domain are in their ranges
-pub domain_shape : {P : Type 0} (d e : DomainState P) (kept : Shape) → e ≡ d
-    → IsDomain e.table e.shape kept → IsShape d.shape
-domain_shape {P = P} d e kept same in_domain =
-    subst (λ (x : DomainState P). IsShape x.shape) same in_domain.shape
+pub in_ranges : {P : Type 0} (d e : DomainState P) (kept : Shape) → e ≡ d → IsDomain e kept
+    → IsShape d.shape × AreQuotas d.shape d.quotas
+in_ranges {P = P} d e kept same in_domain =
+    subst (λ (x : DomainState P). IsShape x.shape × AreQuotas x.shape x.quotas) same
+    (in_domain.shape, in_domain.quotas)
 
 module _ {P V : Type 0} where
-  module _ (first : ℕ → V) (d : DomainState P) (shape : IsShape d.shape)
-      (quotas : AreQuotas d.shape d.quotas) (n : ℕ) (s : TableSeat (Unit {0}) (SeatView V)) where
+  module _ (first : ℕ → V) (d : DomainState P) (ranges : IsShape d.shape × AreQuotas d.shape d.quotas)
+      (n : ℕ) (s : TableSeat (Unit {0}) (SeatView V)) where
     pub first_seated : IsFirst first d n s → IsSeated s.me
     first_seated is = subst IsSeated (sym is.1)
-        (opened_seated first d.shape d.quotas 0 n shape quotas (let h = shape.0 in omega arith))
+        (opened_seated first d.shape d.quotas 0 n ranges.0 ranges.1
+        (let h = ranges.0.0 in omega arith))
 
     pub new_seated : n < d.shape.seats → IsNew first d n s → IsSeated s.me
     new_seated there is = subst IsSeated (sym is.1)
-        (opened_seated first d.shape d.quotas n 1 shape quotas there)
+        (opened_seated first d.shape d.quotas n 1 ranges.0 ranges.1 there)
 
   -- a seat other than seat 0 has counted none
   begun_later : (first : ℕ → V) (d : DomainState P) (n : ℕ) → 0 < n
@@ -110,7 +113,7 @@ module _ {P V : Type 0} (law : P → Plain → List V → Type 0) (first : P →
     (begun : IsFirst (first d.protocol) d root.me.0.opened root) where
   -- what the table requires where seat 0 opens one more seat
   pub another_requires : root.me.0.opened < d.shape.seats → (e : DomainState P) → e ≡ d
-      → (kept : Shape) → IsDomain e.table e.shape kept
+      → (kept : Shape) → IsDomain e kept
       → (root.table_id ≡ e.table) × (0 < e.table.words)
       × Splits (Kept (law e.protocol) (first e.protocol) fits e.shape e.quotas) root.id root.me.0
       (opened_more root.me.0) (newcomer first site root.me.0)

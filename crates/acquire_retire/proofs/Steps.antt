@@ -104,7 +104,7 @@ module _ {P D V : Type 0} (law : P → Plain → List V → Type 0) (first : P �
           (allows x.deed x.domain.protocol) x.act seat.me w new in
       subst T (same_aim (aimed d deed a) x aim is aims) found
 
-  module _ (e : DomainState P) (same : e ≡ d) (kept : Shape) (in_domain : IsDomain e.table e.shape kept)
+  module _ (e : DomainState P) (same : e ≡ d) (kept : Shape) (in_domain : IsDomain e kept)
       (word : ℕ) (at : word ≡ place d.shape a seat.me.0.core) (f : ℕ → ℕ)
       (kind : (w : ℕ) → next a w ≡ f w) where
     table_is : seat.table_id ≡ e.table

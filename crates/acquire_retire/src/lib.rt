@@ -3,10 +3,16 @@
 
 mod aim;
 mod atomics;
+mod counters;
 mod domain;
 mod errors;
+mod exchanging;
+mod filling;
+mod found;
 mod opening;
+mod protecting;
 mod seat;
+mod splitting;
 mod standing;
 
 pub use domain::Domain;

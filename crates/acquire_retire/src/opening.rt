@@ -146,7 +146,6 @@ impl<P: Protocol> Domain<P> {
     ) -> Result<Vec<Seat<P>>, OutOfMemory>
         requires root { IsFirst (P.first self.now.protocol) self.now 1 root.old }
         requires quotas { quotas.now ≡ self.now.quotas }
-        requires ranges { AreQuotas self.now.shape self.now.quotas }
         ensures root { OnOk result
             (IsFirst (P.first self.now.protocol) self.now self.now.shape.seats root.new) }
         ensures others { IfOk result (λ others. others.items ≡ each_from 1
@@ -171,7 +170,6 @@ impl<P: Protocol> Domain<P> {
     ) -> Result<Vec<Seat<P>>, OutOfMemory>
         requires root { IsFirst (P.first self.now.protocol) self.now 1 root }
         requires quotas { quotas.now ≡ self.now.quotas }
-        requires ranges { AreQuotas self.now.shape self.now.quotas }
         ensures { IfOk result (λ seats. seats.items
             ≡ opened_seats (P.first self.now.protocol) self.now) }
     {

@@ -1,6 +1,6 @@
 use Rattle.std.proofs.Common.{◌≡◌, ℕ, ◌+◌, ◌<◌, ap, subst, vec_len, rules, arith}
 use Rattle.acquire_retire.specs.Openings.{IsFirst}
-use Rattle.acquire_retire.proofs.Openings.{domain_shape, new_seated, one_more}
+use Rattle.acquire_retire.proofs.Openings.{in_ranges, new_seated, one_more}
 use Rattle.acquire_retire.proofs.domain.Domain.open_others.Goals as goal
 
 pub new_seat-requires-clause-seated : goal.new_seat-requires-clause-seated
@@ -9,7 +9,7 @@ new_seat-requires-clause-seated g c =
     let opened : c.loop-number.root.me.0.opened ≡ c.loop-number.number = search rules in
     let there : c.loop-number.root.me.0.opened < d.shape.seats = search rules in
     new_seated (g.P.Protocol.first d.protocol) d
-    (domain_shape d _ _ c.self.view_is c.self.invariant) c.requires.ranges _
+    (in_ranges d _ _ c.self.view_is c.self.invariant) _
     c.open_another-seat.result there c.open_another-seat.ensures.seat
 
 pub loop-number-preserved : goal.loop-number-preserved
