@@ -1,7 +1,8 @@
 -- A step with an aim keeps the rule of the table, at the word and by the function that its caller
--- names, and tells the seat what it did.
-use Rattle.std.proofs.Common.{◌≡◌, ℕ, ◌<◌, List, refl, ap, sym, ◌∙◌, subst}
-use Rattle.std.specs.Prelude.{Option, Some, None}
+-- names, and the seat that made it is one afterwards.
+use Rattle.std.proofs.Common.{◌≡◌, ℕ, ◌<◌, List, length, refl, ap, sym, ◌∙◌, subst, arith}
+use Rattle.std.specs.Prelude.{Option, Some, None, IsSome}
+use Rattle.std.specs.Option.{option_map}
 use Rattle.atomic_table.specs.Table.{Allows, Me}
 use Rattle.atomic_table.specs.declared.shared.Seat.{Seat as TableSeat}
 use Rattle.plain_state.specs.declared.act.PlainAct.{PlainAct}
@@ -11,30 +12,70 @@ use Rattle.plain_protocol.specs.Owns.{OwnPart}
 use Rattle.core_events.specs.declared.act.Act.{Act}
 use Rattle.core_events.specs.declared.shape.Shape.{Shape}
 use Rattle.core_events.specs.declared.shape.Quota.{Quota}
-use Rattle.core_events.specs.ShownSteps.{shown_act}
+use Rattle.core_events.specs.declared.view.CoreView.{CoreView}
+use Rattle.core_events.specs.Good.{SeatLaw}
+use Rattle.core_events.specs.Runs.{IsShape, after}
 use Rattle.core_events.specs.Steps.{May, next, place}
+use Rattle.core_events.specs.Words.{word_count}
+use Rattle.core_law.proofs.InRange.{place_in}
+use Rattle.core_law.proofs.Trails.{changed_trail}
 use Rattle.domain_rule.specs.declared.view.SeatView.{SeatView}
+use Rattle.domain_rule.specs.declared.view.Whole.{Whole}
 use Rattle.domain_rule.specs.Rule.{Kept}
-use Rattle.domain_rule.specs.Told.{FitsStart, IsOwn, Told}
-use Rattle.domain_rule.specs.Views.{KnowsAll, own_of}
-use Rattle.acquire_retire.specs.Calls.{Aimed, CanStep, Finds, aimed}
-use Rattle.acquire_retire.specs.Domains.{DomainState}
+use Rattle.domain_rule.specs.Told.{Told, whole_after}
+use Rattle.domain_rule.specs.Views.{IsAlone, core_in, whole_of}
+use Rattle.domain_rule.proofs.StepKeeps.{step_allowed}
+use Rattle.acquire_retire.specs.Calls.{Aimed, CanStep, Finds, Stepped, aimed}
+use Rattle.acquire_retire.specs.Domains.{DomainState, IsDomain}
+use Rattle.acquire_retire.specs.Seats.{IsSeated}
 
 -- two names of one aim
 same_aim : {A : Type 0} (x y : A) (aim : Option A) → aim ≡ Some x → aim ≡ Some y → x ≡ y
 same_aim x y aim is is' = cc (is, is')
 
-module _ {V : Type 0} (law : Plain → List V → Type 0) (first : ℕ → V) (gone : V)
-    (fits : List ℕ → Type 0) (ready : OwnPart → V → PlainAct → Type 0)
-    (next_view : OwnPart → V → PlainAct → ℕ → V) (allows : Plain → Plain → ℕ → V → V → Type 0)
-    (keep : Keeps law gone ready next_view allows) where
-  pub step_allowed : (z : Shape) (qs : List Quota) (a : Act) (slots n : ℕ)
-      (me : Me (Unit {0}) (SeatView V))
-      → me.0.gone ≡ false → KnowsAll me.0 → IsOwn a → May z a me.0.core → FitsStart fits a me.0
-      → ((m : ℕ) → ready (own_of me.0) me.0.client (shown_act z a m me.0.core))
-      → Allows (Kept law first fits z qs) slots n me (place z a me.0.core) (next a)
-      (λ m then. Told z qs next_view allows a me.0 m then.0 × (then.1 ≡ me.1))
-  step_allowed = ?
+-- the act is on a word of the domain
+word_there : (z : Shape) (v : CoreView) (a : Act) (words word : ℕ) → SeatLaw v.shape v.seat v
+    → v.seat < v.shape.seats → v.shape ≡ z → May z a v → words ≡ word_count z → word ≡ place z a v
+    → word < words
+word_there z v a words word law there same may all at =
+    let law' = subst (λ (y : Shape). SeatLaw y v.seat v) same law in
+    let there' = subst (λ (y : Shape). v.seat < y.seats) same there in
+    let inside = place_in z v.seat v law' there' a may in omega arith
+
+still_known : (f : Whole → Whole) (known : Option Whole) → IsSome known → IsSome (option_map f known)
+still_known f None is = is
+still_known f (Some all) is = refl
+
+-- a seat that has made a step is a seat
+seated_after : {V : Type 0} (z : Shape) (qs : List Quota) (next_view : OwnPart → V → PlainAct → ℕ → V)
+    (allows : Plain → Plain → ℕ → V → V → Type 0) (a : Act) (w : ℕ)
+    (me new : Me (Unit {0}) (SeatView V)) → me.0.core.shape ≡ z → IsSeated me
+    → Told z qs next_view allows a me.0 w new.0 → new.1 ≡ me.1 → IsSeated new
+seated_after z qs next_view allows a w me new same seated told carried = record {
+  carries = carried ∙ seated.carries;
+  here = told.here;
+  shape = subst IsShape (same ∙ sym shape_is) seated.shape;
+  there = subst (λ (x : ℕ × Shape). x.0 < x.1.seats)
+      (λ i. (sym seat_is i, (same ∙ sym shape_is) i)) seated.there;
+  law = subst (λ (x : Shape × ℕ). SeatLaw x.0 x.1 new.0.core)
+      (λ i. (sym shape_is i, sym seat_is i)) told.law;
+  knows = λ alone. subst IsSome (sym told.whole)
+      (still_known (λ all. whole_of (after z (core_in all) me.0.core.seat a)) me.0.whole
+      (seated.knows (alone_before alone)));
+}
+  where
+    shape_is : new.0.core.shape ≡ z
+    shape_is = told.law.same_shape
+
+    seat_is : new.0.core.seat ≡ me.0.core.seat
+    seat_is = told.law.number
+
+    alone_before : IsAlone new.0 → IsAlone me.0
+    alone_before alone =
+        let trails = ap (λ (v : CoreView). length v.left_trails) told.core in
+        let stay = ap length (changed_trail z a w me.0.core).left_trails in
+        let seats = ap (λ (y : Shape). y.seats) (same ∙ sym shape_is) in
+        let number = seat_is in (omega (arith, alone.0), omega (arith, alone.1))
 
 module _ {P D V : Type 0} (law : P → Plain → List V → Type 0) (first : P → ℕ → V) (gone : V)
     (fits : List ℕ → Type 0) (ready : D → P → OwnPart → V → PlainAct → Type 0)
@@ -43,23 +84,84 @@ module _ {P D V : Type 0} (law : P → Plain → List V → Type 0) (first : P �
     (keep : (deed : D) (it : P)
     → Keeps (law it) gone (ready deed it) (next_view deed it) (allows deed it))
     (d : DomainState P) (deed : D) (a : Act) (aim : Option (Aimed P D))
-    (is : aim ≡ Some (aimed d deed a)) (slots : ℕ) (seat : TableSeat (Unit {0}) (SeatView V))
-    (can : CanStep d (ready deed d.protocol) fits a seat) (word : ℕ)
-    (at : word ≡ place d.shape a seat.me.0.core) where
-  -- what a step tells of the aim that it has
+    (is : aim ≡ Some (aimed d deed a)) (seat : TableSeat (Unit {0}) (SeatView V))
+    (can : CanStep d (ready deed d.protocol) fits a seat) where
+  -- a step that found w tells so for each aim that it has, which is one
   abbrev Tells : ℕ → Me (Unit {0}) (SeatView V) → Type 0
   Tells w new = (x : Aimed P D) → aim ≡ Some x
       → Finds x.domain (next_view x.deed x.domain.protocol) (allows x.deed x.domain.protocol) x.act
       seat.me w new
 
-  finds : (w : ℕ) (new : Me (Unit {0}) (SeatView V))
+  abbrev TellsSome : Me (Unit {0}) (SeatView V) → Type 0
+  TellsSome new = (x : Aimed P D) → aim ≡ Some x
+      → (w : ℕ) × Finds x.domain (next_view x.deed x.domain.protocol)
+      (allows x.deed x.domain.protocol) x.act seat.me w new
+
+  tells : (w : ℕ) (new : Me (Unit {0}) (SeatView V))
       → Finds d (next_view deed d.protocol) (allows deed d.protocol) a seat.me w new → Tells w new
-  finds w new found x aims =
+  tells w new found x aims =
       let T : Aimed P D → Type 0 = λ x. Finds x.domain (next_view x.deed x.domain.protocol)
           (allows x.deed x.domain.protocol) x.act seat.me w new in
       subst T (same_aim (aimed d deed a) x aim is aims) found
 
-  pub aimed_step : (f : ℕ → ℕ) → ((w : ℕ) → next a w ≡ f w)
-      → Allows (Kept (law d.protocol) (first d.protocol) fits d.shape d.quotas) slots seat.id seat.me
-      word f Tells
-  aimed_step f kind s kept len there fit = ?
+  module _ (e : DomainState P) (same : e ≡ d) (kept : Shape) (in_domain : IsDomain e kept)
+      (word : ℕ) (at : word ≡ place d.shape a seat.me.0.core) (f : ℕ → ℕ)
+      (kind : (w : ℕ) → next a w ≡ f w) where
+    table_is : seat.table_id ≡ e.table
+    table_is = can.table ∙ sym (ap (λ (x : DomainState P). x.table) same)
+
+    inside : word < e.table.words
+    inside = word_there d.shape seat.me.0.core a e.table.words word can.seated.law can.seated.there
+        can.shape can.may
+        (in_domain.words ∙ ap (λ (x : DomainState P). word_count x.shape) same) at
+
+    allowed : Allows (Kept (law e.protocol) (first e.protocol) fits e.shape e.quotas) e.table.slots
+        seat.id seat.me word f
+        (λ w new. Finds d (next_view deed d.protocol) (allows deed d.protocol) a seat.me w new)
+    allowed =
+        let r = step_allowed (law d.protocol) (first d.protocol) gone fits (ready deed d.protocol)
+            (next_view deed d.protocol) (allows deed d.protocol) (keep deed d.protocol) d.shape
+            d.quotas a e.table.slots seat.id seat.me can.seated.here can.seated.knows can.own can.may
+            can.starts can.is_ready in
+        let T : DomainState P × (ℕ × (ℕ → ℕ)) → Type 0 = λ x.
+            Allows (Kept (law x.0.protocol) (first x.0.protocol) fits x.0.shape x.0.quotas)
+            e.table.slots seat.id seat.me x.1.0 x.1.1
+            (λ w new. Finds d (next_view deed d.protocol) (allows deed d.protocol) a seat.me w new) in
+        subst T (λ i. (sym same i, (sym at i, λ w. kind w i))) r
+
+    -- what the table requires of an atomic step, where the step tells the word that it finds
+    pub step_requires : (seat.table_id ≡ e.table) × (word < e.table.words)
+        × Allows (Kept (law e.protocol) (first e.protocol) fits e.shape e.quotas) e.table.slots
+        seat.id seat.me word f Tells
+    step_requires = (table_is, inside, λ s k len there fit.
+        let r = allowed s k len there fit in (r.0, r.1, r.2, r.3, tells _ _ r.4))
+
+    -- and where it doesn't
+    pub store_requires : (seat.table_id ≡ e.table) × (word < e.table.words)
+        × Allows (Kept (law e.protocol) (first e.protocol) fits e.shape e.quotas) e.table.slots
+        seat.id seat.me word f (λ _ new. TellsSome new)
+    store_requires = (table_is, inside, λ s k len there fit.
+        let r = allowed s k len there fit in
+        (r.0, r.1, r.2, r.3, λ x aims. (_, tells _ _ r.4 x aims)))
+
+  -- what the step has told the seat
+  stepped_by : (w : ℕ) (new : TableSeat (Unit {0}) (SeatView V)) → new.table_id ≡ seat.table_id
+      → Finds d (next_view deed d.protocol) (allows deed d.protocol) a seat.me w new.me
+      → Stepped d (next_view deed d.protocol) (allows deed d.protocol) a seat w new
+  stepped_by w new table found = record {
+    table = table;
+    seated = seated_after d.shape d.quotas (next_view deed d.protocol) (allows deed d.protocol) a w
+        seat.me new.me can.shape can.seated found.0 found.1;
+    told = found.0;
+  }
+
+  pub step_made : (w : ℕ) (new : TableSeat (Unit {0}) (SeatView V))
+      → new.table_id ≡ seat.table_id → Tells w new.me
+      → Stepped d (next_view deed d.protocol) (allows deed d.protocol) a seat w new
+  step_made w new table told = stepped_by w new table (told (aimed d deed a) is)
+
+  pub store_made : (new : TableSeat (Unit {0}) (SeatView V)) → new.table_id ≡ seat.table_id
+      → TellsSome new.me
+      → (w : ℕ) × Stepped d (next_view deed d.protocol) (allows deed d.protocol) a seat w new
+  store_made new table told =
+      let found = told (aimed d deed a) is in (found.0, stepped_by found.0 new table found.1)

@@ -10,6 +10,7 @@ use core_events::Act;
 use domain_rule::SeatView;
 use plain_protocol::{Deed, Protocol};
 
+// Each asks that the act is of this kind, so that the table's atomic operation makes of the word what the act does.
 impl<P: Protocol> Domain<P> {
     /// An act that reads its word.
     pub(crate) fn load_as<D: Deed<P>, B: Aim<P, D>>(
@@ -27,5 +28,118 @@ impl<P: Protocol> Domain<P> {
             (D.allows deed self.now.protocol) act seat.old result seat.new }
     {
         self.table.shared.load::<Reads<P, D, B>>(seat, word)
+    }
+
+    /// An act that writes its word, whatever stood there.
+    pub(crate) fn store_as<D: Deed<P>, B: Aim<P, D>>(
+        &self,
+        seat: &mut atomic_table::Seat<(), SeatView<P::View>>,
+        act: Act,
+        deed: D,
+        word: usize,
+        new: u64,
+    )
+        requires aim { B.aim ≡ Some (aimed self.now deed act) }
+        requires can { CanStep self.now (D.ready deed self.now.protocol) P.Kind.fits act seat.old }
+        requires word { word ≡ place self.now.shape act seat.old.me.0.core }
+        requires kind { (w : ℕ) → next act w ≡ new }
+        ensures { (w : ℕ) × Stepped self.now (D.next deed self.now.protocol)
+            (D.allows deed self.now.protocol) act seat.old w seat.new }
+    {
+        self.table.shared.store::<Writes<P, D, B>>(seat, word, new);
+    }
+
+    /// An act that writes its word and reads what stood there.
+    pub(crate) fn swap_as<D: Deed<P>, B: Aim<P, D>>(
+        &self,
+        seat: &mut atomic_table::Seat<(), SeatView<P::View>>,
+        act: Act,
+        deed: D,
+        word: usize,
+        new: u64,
+    ) -> u64
+        requires aim { B.aim ≡ Some (aimed self.now deed act) }
+        requires can { CanStep self.now (D.ready deed self.now.protocol) P.Kind.fits act seat.old }
+        requires word { word ≡ place self.now.shape act seat.old.me.0.core }
+        requires kind { (w : ℕ) → next act w ≡ new }
+        ensures { Stepped self.now (D.next deed self.now.protocol)
+            (D.allows deed self.now.protocol) act seat.old result seat.new }
+    {
+        self.table.shared.swap::<Reads<P, D, B>>(seat, word, new)
+    }
+
+    /// An act that writes its word where it finds the old one.
+    pub(crate) fn compare_exchange_as<D: Deed<P>, B: Aim<P, D>>(
+        &self,
+        seat: &mut atomic_table::Seat<(), SeatView<P::View>>,
+        act: Act,
+        deed: D,
+        word: usize,
+        old: u64,
+        new: u64,
+    ) -> u64
+        requires aim { B.aim ≡ Some (aimed self.now deed act) }
+        requires can { CanStep self.now (D.ready deed self.now.protocol) P.Kind.fits act seat.old }
+        requires word { word ≡ place self.now.shape act seat.old.me.0.core }
+        requires kind { (w : ℕ) → next act w ≡ either (w == old) new w }
+        ensures { Stepped self.now (D.next deed self.now.protocol)
+            (D.allows deed self.now.protocol) act seat.old result seat.new }
+    {
+        self.table.shared.compare_exchange::<Reads<P, D, B>>(seat, word, old, new)
+    }
+
+    /// An act that adds 1.
+    pub(crate) fn fetch_add_as<D: Deed<P>, B: Aim<P, D>>(
+        &self,
+        seat: &mut atomic_table::Seat<(), SeatView<P::View>>,
+        act: Act,
+        deed: D,
+        word: usize,
+    ) -> u64
+        requires aim { B.aim ≡ Some (aimed self.now deed act) }
+        requires can { CanStep self.now (D.ready deed self.now.protocol) P.Kind.fits act seat.old }
+        requires word { word ≡ place self.now.shape act seat.old.me.0.core }
+        requires kind { (w : ℕ) → next act w ≡ plus_one w }
+        ensures { Stepped self.now (D.next deed self.now.protocol)
+            (D.allows deed self.now.protocol) act seat.old result seat.new }
+    {
+        self.table.shared.fetch_add::<Reads<P, D, B>>(seat, word, 1)
+    }
+
+    /// An act that subtracts 1.
+    pub(crate) fn fetch_sub_as<D: Deed<P>, B: Aim<P, D>>(
+        &self,
+        seat: &mut atomic_table::Seat<(), SeatView<P::View>>,
+        act: Act,
+        deed: D,
+        word: usize,
+    ) -> u64
+        requires aim { B.aim ≡ Some (aimed self.now deed act) }
+        requires can { CanStep self.now (D.ready deed self.now.protocol) P.Kind.fits act seat.old }
+        requires word { word ≡ place self.now.shape act seat.old.me.0.core }
+        requires kind { (w : ℕ) → next act w ≡ minus_one w }
+        ensures { Stepped self.now (D.next deed self.now.protocol)
+            (D.allows deed self.now.protocol) act seat.old result seat.new }
+    {
+        self.table.shared.fetch_sub::<Reads<P, D, B>>(seat, word, 1)
+    }
+
+    /// An act that keeps the bits of a mask.
+    pub(crate) fn fetch_and_as<D: Deed<P>, B: Aim<P, D>>(
+        &self,
+        seat: &mut atomic_table::Seat<(), SeatView<P::View>>,
+        act: Act,
+        deed: D,
+        word: usize,
+        mask: u64,
+    ) -> u64
+        requires aim { B.aim ≡ Some (aimed self.now deed act) }
+        requires can { CanStep self.now (D.ready deed self.now.protocol) P.Kind.fits act seat.old }
+        requires word { word ≡ place self.now.shape act seat.old.me.0.core }
+        requires kind { (w : ℕ) → next act w ≡ bit_and w mask }
+        ensures { Stepped self.now (D.next deed self.now.protocol)
+            (D.allows deed self.now.protocol) act seat.old result seat.new }
+    {
+        self.table.shared.fetch_and::<Reads<P, D, B>>(seat, word, mask)
     }
 }

@@ -26,5 +26,10 @@ impl<P: Protocol> Model for Domain<P> {
       quotas = d.table.shared.key.quotas.items;
     } };
 
-    ghost invariant = { λ d. IsDomain d.table.shared.table_id d.table.shared.key.shape d.shape };
+    ghost invariant = { λ d. IsDomain (record {
+      table = d.table.shared.table_id;
+      protocol = d.table.shared.key.protocol;
+      shape = d.table.shared.key.shape;
+      quotas = d.table.shared.key.quotas.items;
+    }) d.shape };
 }

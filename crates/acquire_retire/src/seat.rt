@@ -41,13 +41,13 @@ impl<W> Model for SeatOf<W> {
       makes = s.makes;
       phase = s.phase;
       notes = s.notes;
-      batch = s.batch;
-      seen = s.seen;
+      retired = s.batch.retired;
+      owed = s.batch.owed;
+      seen = s.seen.words;
       read = s.read;
       dying = s.dying.items;
-      dying_room = vec_capacity s.dying;
       left = s.left;
-    }) };
+    }) s.batch.room s.seen.room (vec_capacity s.dying) };
 }
 
 /// A seat of a domain under the protocol P.

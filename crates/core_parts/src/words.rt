@@ -9,7 +9,7 @@ use core_events::{Kind, SlotId};
 pub const ZERO_FLAG: u64 = 1 << 63;
 
 /// The help flag of a strong word.
-const HELP_FLAG: u64 = 1 << 62;
+pub const HELP_FLAG: u64 = 1 << 62;
 
 /// Whether the help flag stands.
 pub fn helps(word: u64) -> bool

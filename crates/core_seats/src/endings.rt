@@ -7,9 +7,8 @@ ghost use Rattle.core_events.specs.Views.{slot_of};
 ghost use Rattle.core_events.specs.Steps.{HasAdd, ended};
 
 use crate::holdings::Holdings;
-use crate::phases::slot_in_phase;
 use core_events::{Outcome, Phase, SlotId};
-use core_parts::{ZERO_FLAG, helps};
+use core_parts::{ZERO_FLAG, helps, slot_in_phase};
 use out_of_memory::OutOfMemory;
 
 impl Holdings {

@@ -2,28 +2,13 @@
 ghost use Rattle.std.specs.Prelude.{◌≡◌, ◌==◌, ◌++◌, ◌∷◌, [], OnOk, OnErr, if◌then◌else◌};
 ghost use Rattle.core_events.specs.declared.outcome.Outcome.TheVariants as outcome;
 ghost use Rattle.core_events.specs.declared.view.Phase.TheVariants as phase;
-ghost use Rattle.core_events.specs.Views.{slot_of};
 ghost use Rattle.core_events.specs.Words.{value};
 ghost use Rattle.core_events.specs.Steps.{decremented, given_up};
 
 use crate::holdings::Holdings;
 use core_events::{Kind, Outcome, Phase, SlotId};
-use core_parts::counted;
+use core_parts::{counted, given_up};
 use out_of_memory::OutOfMemory;
-
-/// The slot of a phase that has one.
-pub(crate) fn slot_in_phase(phase: Phase) -> SlotId
-    ensures { result ≡ slot_of phase }
-{
-    match phase {
-        Phase::Idle | Phase::Scan => SlotId(0),
-        Phase::Finish(slot)
-        | Phase::Help(slot)
-        | Phase::Zero(slot)
-        | Phase::Blank(slot)
-        | Phase::Give(slot) => slot,
-    }
-}
 
 impl Holdings {
     /// Goes into a phase.
@@ -38,20 +23,9 @@ impl Holdings {
         ensures told { result ≡ decremented kind word }
         ensures changed { self.new ≡ given_up kind slot word self.old }
     {
-        if word != 1 {
-            self.phase = Phase::Idle;
-            return Outcome::Left;
-        }
-        match kind {
-            Kind::Strong => {
-                self.phase = Phase::Finish(slot);
-                Outcome::Zeroed
-            }
-            Kind::Weak => {
-                self.phase = Phase::Give(slot);
-                Outcome::Last
-            }
-        }
+        let (phase, outcome) = given_up(kind, slot, word);
+        self.phase = phase;
+        outcome
     }
 
     /// Has ended the object of the slot.

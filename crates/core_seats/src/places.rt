@@ -5,9 +5,8 @@ ghost use Rattle.core_events.specs.Views.{slot_of};
 ghost use Rattle.core_events.specs.Steps.{owed_at};
 
 use crate::holdings::Holdings;
-use crate::phases::slot_in_phase;
 use core_events::Shape;
-use core_parts::{counter_index, slot_index};
+use core_parts::{counter_index, slot_in_phase, slot_index};
 
 impl Holdings {
     /// The strong word of the slot of the seat's phase.

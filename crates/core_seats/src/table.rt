@@ -6,10 +6,9 @@ ghost use Rattle.core_seats.specs.Fits.{IsFit, IsWordFor};
 
 use crate::conditions::is_content;
 use crate::holdings::Holdings;
-use crate::phases::slot_in_phase;
 use crate::seat::SeatView;
 use core_events::{Act, Kind, Move, Outcome, Quota, Shape, SlotId};
-use core_parts::{counter_index, kind_of, note_index, place_index, slot_index};
+use core_parts::{counter_index, kind_of, note_index, place_index, slot_in_phase, slot_index};
 use out_of_memory::OutOfMemory;
 use std::alloc::Global;
 

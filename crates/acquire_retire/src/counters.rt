@@ -1,0 +1,157 @@
+//! Calls on the strong words of slots. Each is one atomic step.
+ghost use Rattle.std.specs.Prelude.{◌≡◌, List, ◌∷◌};
+ghost use Rattle.plain_state.specs.declared.slot.Kind.TheVariants.{Strong};
+ghost use Rattle.plain_state.specs.declared.slot.SlotId.{SlotId};
+ghost use Rattle.plain_state.specs.Lists.{Entry};
+ghost use Rattle.core_events.specs.declared.act.Act.TheVariants as act;
+ghost use Rattle.core_events.specs.Steps.{May};
+ghost use Rattle.acquire_retire.specs.Calls.{IsOf, IsReady, IsSameView, Steps, same_view};
+
+use crate::domain::Domain;
+use crate::found::added;
+use crate::seat::Seat;
+use core_events::{Act, Kind, Outcome, Phase, SlotId};
+use core_parts::{
+    HELP_FLAG, ZERO_FLAG, counted, counter_index, given_up, helps, slot_in_phase, slot_index,
+};
+use plain_protocol::{Deed, Protocol, Still};
+use std::marker::Brand;
+
+impl<P: Protocol> Domain<P> {
+    /// Counts one more strong reference to a slot that the seat holds: `Up`, or `Dead` where the zero flag stood.
+    pub fn add<D: Deed<P>>(&self, seat: &mut Seat<P>, slot: SlotId, deed: D) -> Outcome
+        requires seat { IsOf self.now seat.old }
+        requires may { May self.now.shape (act.Add slot) seat.old.view.core }
+        requires deed { IsReady (D.ready deed self.now.protocol) self.now.shape (act.Add slot)
+            seat.old.view }
+        ensures { Steps self.now (D.next deed self.now.protocol)
+            (D.allows deed self.now.protocol) (act.Add slot) seat.old seat.new result }
+    {
+        let word = slot_index(&self.shape, slot);
+        let found = self.fetch_add_as::<D, Brand>(&mut seat.seat, Act::Add(slot), deed, word);
+        seat.adds += 1;
+        added(found)
+    }
+
+    /// Gives up a strong reference that the seat owns: `Zeroed` where it was the last one, and the seat is to finish
+    /// then.
+    pub fn drop(&self, seat: &mut Seat<P>, slot: SlotId) -> Outcome
+        requires seat { IsOf self.now seat.old }
+        requires may { May self.now.shape (act.Drop slot) seat.old.view.core }
+        ensures { Steps self.now same_view IsSameView (act.Drop slot) seat.old seat.new result }
+    {
+        let word = slot_index(&self.shape, slot);
+        let found = self.fetch_sub_as::<Still, Brand>(&mut seat.seat, Act::Drop(slot), Still, word);
+        let (phase, outcome) = given_up(Kind::Strong, slot, found);
+        seat.phase = phase;
+        outcome
+    }
+
+    /// Gives up the reference of the first entry that is owed, as a drop does.
+    pub fn pay(&self, seat: &mut Seat<P>) -> Outcome
+        requires seat { IsOf self.now seat.old }
+        requires may { May self.now.shape act.Pay seat.old.view.core }
+        requires strong { (slot : SlotId) × (rest : List Entry)
+            × (seat.old.view.core.owed ≡ (Strong, slot) ∷ rest) }
+        ensures { Steps self.now same_view IsSameView act.Pay seat.old seat.new result }
+    {
+        let Some((kind, slot)) = seat.batch.next_owed() else {
+            return Outcome::Left;
+        };
+        let word = counter_index(&self.shape, kind, slot);
+        let found = self.fetch_sub_as::<Still, Brand>(&mut seat.seat, Act::Pay, Still, word);
+        let (phase, outcome) = given_up(kind, slot, found);
+        seat.phase = phase;
+        outcome
+    }
+
+    /// Ends the object whose count the seat took to 0: `Ended`, or `Help` where the help flag stood, or `Lost` where
+    /// somebody was quicker.
+    pub fn finish(&self, seat: &mut Seat<P>) -> Outcome
+        requires seat { IsOf self.now seat.old }
+        requires may { May self.now.shape act.Finish seat.old.view.core }
+        ensures { Steps self.now same_view IsSameView act.Finish seat.old seat.new result }
+    {
+        let slot = slot_in_phase(seat.phase);
+        let word = slot_index(&self.shape, slot);
+        let found = self.compare_exchange_as::<Still, Brand>(
+            &mut seat.seat,
+            Act::Finish,
+            Still,
+            word,
+            0,
+            ZERO_FLAG,
+        );
+        if found == 0 {
+            seat.dying.push_reserved(slot);
+            seat.phase = Phase::Idle;
+            return Outcome::Ended;
+        }
+        if helps(found) {
+            seat.phase = Phase::Help(slot);
+            return Outcome::Help;
+        }
+        seat.phase = Phase::Idle;
+        Outcome::Lost
+    }
+
+    /// Takes the help flag: `Ended` where it stood, and then the object's end is the seat's, else `NoHelp`.
+    pub fn take(&self, seat: &mut Seat<P>) -> Outcome
+        requires seat { IsOf self.now seat.old }
+        requires may { May self.now.shape act.Take seat.old.view.core }
+        ensures { Steps self.now same_view IsSameView act.Take seat.old seat.new result }
+    {
+        let slot = slot_in_phase(seat.phase);
+        let word = slot_index(&self.shape, slot);
+        let found =
+            self.fetch_and_as::<Still, Brand>(&mut seat.seat, Act::Take, Still, word, !HELP_FLAG);
+        seat.phase = Phase::Idle;
+        if helps(found) {
+            seat.dying.push_reserved(slot);
+            return Outcome::Ended;
+        }
+        Outcome::NoHelp
+    }
+
+    /// Reads the strong count of a slot that the seat holds: `Again` where the word was 0, and the seat is to mark it
+    /// then.
+    pub fn count<D: Deed<P>>(&self, seat: &mut Seat<P>, slot: SlotId, deed: D) -> Outcome
+        requires seat { IsOf self.now seat.old }
+        requires may { May self.now.shape (act.Count slot) seat.old.view.core }
+        requires deed { IsReady (D.ready deed self.now.protocol) self.now.shape (act.Count slot)
+            seat.old.view }
+        ensures { Steps self.now (D.next deed self.now.protocol)
+            (D.allows deed self.now.protocol) (act.Count slot) seat.old seat.new result }
+    {
+        let word = slot_index(&self.shape, slot);
+        let found = self.load_as::<D, Brand>(&mut seat.seat, Act::Count(slot), deed, word);
+        if found == 0 {
+            seat.phase = Phase::Zero(slot);
+            return Outcome::Again;
+        }
+        Outcome::Number(counted(found))
+    }
+
+    /// Sets both flags of the strong word that the seat read as 0, where it still is 0, and tells the count.
+    pub fn mark<D: Deed<P>>(&self, seat: &mut Seat<P>, deed: D) -> Outcome
+        requires seat { IsOf self.now seat.old }
+        requires may { May self.now.shape act.Mark seat.old.view.core }
+        requires deed { IsReady (D.ready deed self.now.protocol) self.now.shape act.Mark
+            seat.old.view }
+        ensures { Steps self.now (D.next deed self.now.protocol)
+            (D.allows deed self.now.protocol) act.Mark seat.old seat.new result }
+    {
+        let slot = slot_in_phase(seat.phase);
+        let word = slot_index(&self.shape, slot);
+        let found = self.compare_exchange_as::<D, Brand>(
+            &mut seat.seat,
+            Act::Mark,
+            deed,
+            word,
+            0,
+            ZERO_FLAG + HELP_FLAG,
+        );
+        seat.phase = Phase::Idle;
+        Outcome::Number(counted(found))
+    }
+}

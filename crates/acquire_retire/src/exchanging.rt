@@ -1,0 +1,75 @@
+//! Calls that change a place. What it held is retired. Each is one atomic step.
+ghost use Rattle.std.specs.Prelude.{◌≡◌};
+ghost use Rattle.core_events.specs.declared.act.Act.TheVariants as act;
+ghost use Rattle.core_events.specs.Steps.{May};
+ghost use Rattle.core_events.specs.Views.{IsOpen};
+ghost use Rattle.acquire_retire.specs.Calls.{IsOf, IsReady, Steps};
+
+use crate::domain::Domain;
+use crate::seat::Seat;
+use crate::splitting::retire;
+use core_events::{Act, EventPlace, Outcome, SlotId};
+use core_parts::{found_in, held_as, kind_of, place_index};
+use plain_protocol::{Deed, Protocol};
+use std::marker::Brand;
+
+impl<P: Protocol> Domain<P> {
+    /// Puts null, or a reference that the seat gives, into a place, and retires what the place held.
+    pub fn swap<D: Deed<P>>(
+        &self,
+        seat: &mut Seat<P>,
+        place: EventPlace,
+        new: Option<SlotId>,
+        deed: D,
+    ) -> Outcome
+        requires seat { IsOf self.now seat.old }
+        requires may { May self.now.shape (act.Swap place new) seat.old.view.core }
+        requires opened { IsOpen self.now.shape seat.old.view.core place }
+        requires deed { IsReady (D.ready deed self.now.protocol) self.now.shape
+            (act.Swap place new) seat.old.view }
+        ensures { Steps self.now (D.next deed self.now.protocol)
+            (D.allows deed self.now.protocol) (act.Swap place new) seat.old seat.new result }
+    {
+        let at = place_index(&self.shape, place);
+        let word = held_as(new);
+        let found = self.swap_as::<D, Brand>(&mut seat.seat, Act::Swap(place, new), deed, at, word);
+        let old = found_in(found);
+        retire(&mut seat.batch, kind_of(place), old);
+        Outcome::Found(old)
+    }
+
+    /// The same where the place holds what is expected: `Done`, else `LostTo` what it holds, and nothing has changed.
+    pub fn cas<D: Deed<P>>(
+        &self,
+        seat: &mut Seat<P>,
+        place: EventPlace,
+        old: Option<SlotId>,
+        new: Option<SlotId>,
+        deed: D,
+    ) -> Outcome
+        requires seat { IsOf self.now seat.old }
+        requires may { May self.now.shape (act.Cas place old new) seat.old.view.core }
+        requires deed { IsReady (D.ready deed self.now.protocol) self.now.shape
+            (act.Cas place old new) seat.old.view }
+        ensures { Steps self.now (D.next deed self.now.protocol)
+            (D.allows deed self.now.protocol) (act.Cas place old new) seat.old seat.new result }
+    {
+        let at = place_index(&self.shape, place);
+        let expected = held_as(old);
+        let word = held_as(new);
+        let found = self.compare_exchange_as::<D, Brand>(
+            &mut seat.seat,
+            Act::Cas(place, old, new),
+            deed,
+            at,
+            expected,
+            word,
+        );
+        let held = found_in(found);
+        if found != expected {
+            return Outcome::LostTo(held);
+        }
+        retire(&mut seat.batch, kind_of(place), held);
+        Outcome::Done
+    }
+}

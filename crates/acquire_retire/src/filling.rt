@@ -1,0 +1,86 @@
+//! Calls on a slot that a seat claims, fills and makes live, and on the payload of an object. Each is one atomic step.
+ghost use Rattle.std.specs.Prelude.{◌≡◌};
+ghost use Rattle.plain_state.specs.declared.slot.SlotId.{SlotId};
+ghost use Rattle.core_events.specs.declared.act.Act.TheVariants as act;
+ghost use Rattle.core_events.specs.declared.view.Phase.TheVariants as phase;
+ghost use Rattle.core_events.specs.Steps.{May};
+ghost use Rattle.domain_rule.specs.Views.{object_in};
+ghost use Rattle.acquire_retire.specs.Calls.{IsOf, IsReady, IsSameView, Steps, same_view};
+
+use crate::domain::Domain;
+use crate::seat::Seat;
+use core_events::{Act, Kind, Outcome, Phase, SlotId};
+use core_parts::{ZERO_FLAG, counter_index, slot_in_phase, slot_index};
+use plain_protocol::{Deed, Protocol, Still};
+use std::marker::Brand;
+
+/// The first payload word of a slot, counted from its first word.
+const FIRST_PAYLOAD: usize = 5;
+
+impl<P: Protocol> Domain<P> {
+    /// Claims a slot: `Claimed` where it was free, and the seat fills it then, else `Taken`.
+    pub fn claim(&self, seat: &mut Seat<P>, slot: SlotId) -> Outcome
+        requires seat { IsOf self.now seat.old }
+        requires may { May self.now.shape (act.Claim slot) seat.old.view.core }
+        ensures { Steps self.now same_view IsSameView (act.Claim slot) seat.old seat.new result }
+    {
+        let word = counter_index(&self.shape, Kind::Weak, slot);
+        let found = self.compare_exchange_as::<Still, Brand>(
+            &mut seat.seat,
+            Act::Claim(slot),
+            Still,
+            word,
+            ZERO_FLAG,
+            1,
+        );
+        if found == ZERO_FLAG {
+            seat.makes += 1;
+            seat.phase = Phase::Blank(slot);
+            return Outcome::Claimed;
+        }
+        Outcome::Taken
+    }
+
+    /// Writes a payload word of the slot that the seat has claimed.
+    pub fn fill(&self, seat: &mut Seat<P>, index: u32, word: u64) -> Outcome
+        requires seat { IsOf self.now seat.old }
+        requires may { May self.now.shape (act.Fill index word) seat.old.view.core }
+        ensures { Steps self.now same_view IsSameView (act.Fill index word) seat.old seat.new result }
+    {
+        let slot = slot_in_phase(seat.phase);
+        let at = slot_index(&self.shape, slot) + FIRST_PAYLOAD + index as usize;
+        self.store_as::<Still, Brand>(&mut seat.seat, Act::Fill(index, word), Still, at, word);
+        Outcome::Plain
+    }
+
+    /// Makes the slot that the seat has claimed live, with one strong reference, which is the seat's. What the seat
+    /// has filled it with fits the protocol's kind of payload.
+    pub fn start<D: Deed<P>>(&self, seat: &mut Seat<P>, deed: D) -> Outcome
+        requires seat { IsOf self.now seat.old }
+        requires may { May self.now.shape act.Start seat.old.view.core }
+        requires fits { (slot : SlotId) → seat.old.view.core.phase ≡ phase.Blank slot
+            → P.Kind.fits (object_in seat.old.view slot).payload }
+        requires deed { IsReady (D.ready deed self.now.protocol) self.now.shape act.Start
+            seat.old.view }
+        ensures { Steps self.now (D.next deed self.now.protocol)
+            (D.allows deed self.now.protocol) act.Start seat.old seat.new result }
+    {
+        let slot = slot_in_phase(seat.phase);
+        let word = slot_index(&self.shape, slot);
+        self.store_as::<D, Brand>(&mut seat.seat, Act::Start, deed, word, 1);
+        seat.adds += 1;
+        seat.phase = Phase::Idle;
+        Outcome::Plain
+    }
+
+    /// Reads a payload word of a slot that the seat holds or has ended.
+    pub fn see(&self, seat: &mut Seat<P>, slot: SlotId, index: u32) -> Outcome
+        requires seat { IsOf self.now seat.old }
+        requires may { May self.now.shape (act.See slot index) seat.old.view.core }
+        ensures { Steps self.now same_view IsSameView (act.See slot index) seat.old seat.new result }
+    {
+        let at = slot_index(&self.shape, slot) + FIRST_PAYLOAD + index as usize;
+        let found = self.load_as::<Still, Brand>(&mut seat.seat, Act::See(slot, index), Still, at);
+        Outcome::Word(found)
+    }
+}

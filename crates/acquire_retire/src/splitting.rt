@@ -1,0 +1,37 @@
+//! The split of a batch by the announcements that a scan has read, and an entry that joins a batch.
+ghost use Rattle.std.specs.Prelude.{◌≡◌, ◌<◌, [], length};
+ghost use Rattle.plain_state.specs.Steps.{joined};
+ghost use Rattle.retire_batch.specs.Ejection.{kept, ejected};
+ghost use Rattle.retire_batch.specs.Entries.{entry_count};
+ghost use Rattle.eject_scan.specs.Seen.{announced_in};
+
+use core_events::{Kind, SlotId};
+use eject_scan::Seen;
+use retire_batch::Batch;
+
+/// Splits the retired entries, and tells how many stay and how many go.
+pub(crate) fn split(batch: &mut Batch, seen: &Seen) -> (u32, u32)
+    requires { batch.old.owed ≡ [] }
+    ensures batch { let announced = announced_in seen.now.words in
+        batch.new ≡ record batch.old {
+          retired = kept batch.old.retired announced;
+          owed = ejected batch.old.retired announced;
+        } }
+    ensures stay { result.0 ≡ length batch.new.retired }
+    ensures go { result.1 ≡ length batch.new.owed }
+{
+    let all = batch.len();
+    batch.split(seen);
+    let stay = batch.len();
+    (stay, all - stay)
+}
+
+/// Retires what a place of this kind held.
+pub(crate) fn retire(batch: &mut Batch, kind: Kind, old: Option<SlotId>)
+    requires { entry_count batch.old < batch.old.room }
+    ensures { batch.new ≡ record batch.old { retired = joined kind old batch.old.retired } }
+{
+    if let Some(slot) = old {
+        batch.push(kind, slot);
+    }
+}
