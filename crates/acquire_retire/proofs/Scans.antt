@@ -1,7 +1,7 @@
 -- The words of a scan: there is room for each, and the last one splits the batch as the table of
 -- events does.
-use Rattle.std.proofs.Common.{◌≡◌, ℕ, ◌+◌, ◌*◌, ◌<◌, ◌≤◌, ◌^◌, Bool, true, false, List, [], ◌∷◌, ◌++◌, length, refl, ap, sym, ◌∙◌, subst, arith}
-use Rattle.std.specs.Prelude.{if◌then◌else◌, ◌==◌, not}
+use Rattle.std.proofs.Common.{◌≡◌, ℕ, ◌+◌, ◌*◌, ◌<◌, ◌≤◌, ◌^◌, true, List, [], ◌∷◌, ◌++◌, length, refl, ap, sym, ◌∙◌, subst, arith}
+use Rattle.std.specs.Prelude.{◌==◌, not}
 use Rattle.std.proofs.lemmas.Bool.Decides.{nat_tests}
 use Rattle.std.proofs.lemmas.List.Elements.{All-cons, All-nil, filter-append}
 use Rattle.atomic_table.specs.declared.shared.Seat.{Seat as TableSeat}
@@ -13,15 +13,13 @@ use Rattle.plain_state.specs.Lists.{Entry, entry_times}
 use Rattle.plain_state.specs.State.{Plain}
 use Rattle.plain_protocol.specs.Owns.{OwnPart}
 use Rattle.core_events.specs.declared.act.Act.TheVariants as act
-use Rattle.core_events.specs.declared.outcome.Outcome.{Outcome}
 use Rattle.core_events.specs.declared.outcome.Outcome.TheVariants as outcome
 use Rattle.core_events.specs.declared.shape.Shape.{Shape}
 use Rattle.core_events.specs.declared.view.CoreView.{CoreView}
 use Rattle.core_events.specs.declared.view.Phase.TheVariants as phase
 use Rattle.core_events.specs.Counts.{naming}
-use Rattle.core_events.specs.Ejection as table
 use Rattle.core_events.specs.Good.{SeatLaw}
-use Rattle.core_events.specs.Steps.{all_seen, answer, is_last, moved, noted, scanned}
+use Rattle.core_events.specs.Steps.{all_seen, answer, is_last, moved}
 use Rattle.core_law.proofs.Kit.{entry_cons, one_same}
 use Rattle.core_law.proofs.Steady.{named_in_range}
 use Rattle.eject_scan.specs.Seen.{announced_in, announcements}
@@ -119,7 +117,7 @@ module _ {P V : Type 0} (d : DomainState P) (next_view : OwnPart → V → Plain
       (announced_in (announcements old.me.0.core.seen ++ announcements (w ∷ [])))
   alike =
       let law = subst (λ (z : Shape). SeatLaw z old.me.0.core.seat old.me.0.core) same
-          seat.seated.law in
+      seat.seated.law in
       let few = seat.seated.shape.3 in
       let slots = ap (λ (z : Shape). z.slots) same in
       split_alike d.shape old.me.0.core.seat old.me.0.core w law (omega arith)
@@ -127,7 +125,8 @@ module _ {P V : Type 0} (d : DomainState P) (next_view : OwnPart → V → Plain
   -- the seat is one after the last word
   pub scan_ends : IsSeat new.me (last_stored w s) batch_room seen_room dying_room
   scan_ends = seat_after d next_view allows act.Scan old new w step (last_stored w) s batch_room
-      seen_room dying_room same seat.stores seat.rooms (last_kept d.shape old.me.0.core w last alike)
+      seen_room dying_room same seat.stores seat.rooms
+      (last_kept d.shape old.me.0.core w last alike)
 
   -- and the call answers how many entries stay and go
   pub split_answers : (stay go : ℕ) → stay ≡ length (last_stored w s).retired
@@ -135,6 +134,7 @@ module _ {P V : Type 0} (d : DomainState P) (next_view : OwnPart → V → Plain
       → outcome.Split w stay go ≡ answer d.shape act.Scan w old.me.0.core
   split_answers stay go stays goes =
       let stored_is = ap (last_stored w) seat.stores in
-      let stay_is = stays ∙ (ap (λ (t : Stored). length t.retired) stored_is ∙ sym (ap length alike.0)) in
+      let stay_is = stays
+      ∙ (ap (λ (t : Stored). length t.retired) stored_is ∙ sym (ap length alike.0)) in
       let go_is = goes ∙ (ap (λ (t : Stored). length t.owed) stored_is ∙ sym (ap length alike.1)) in
       rw last (λ i. outcome.Split w (stay_is i) (go_is i))

@@ -13,17 +13,17 @@ load_as-found-requires-clause-can g c = can_still c.args.self.now _ act.Scan
 pub note-requires : goal.note-requires
 note-requires g c =
     let room = room_to_read c.seat.inside.seat.me.0.core _ _ _ _ c.seat.invariant.seated.law
-        c.seat.invariant.stores c.seat.invariant.rooms in
+    c.seat.invariant.stores c.seat.invariant.rooms in
     search rules
 
 pub invariant_of-seat-2 : goal.invariant_of-seat-2
 invariant_of-seat-2 g c =
     let can = can_still c.args.self.now g.P.Kind.PayloadKind.fits act.Scan c.seat.inside.seat
-        c.args.seat.now c.seat.view_is c.seat.invariant.seated c.requires.seat tt tt
-        c.requires.may in
+    c.args.seat.now c.seat.view_is c.seat.invariant.seated c.requires.seat tt tt
+    c.requires.may in
     let shape = c.self.invariant.same ∙ ap (λ (d : DomainState _). d.shape) c.self.view_is in
     let last = reads_last c.args.self.now.shape _ c.seat.inside.seat.me.0.core _ shape
-        c.seat.invariant.stores c.if-seat-self.false in
+    c.seat.invariant.stores c.if-seat-self.false in
     rw (c.split-stay.ensures.batch, c.clear.ensures, c.note.ensures)
     (scan_ends c.args.self.now _ _ c.seat.inside.seat c.load_as-found.new.seat c.load_as-found.result
     c.load_as-found.ensures _ _ _ _ c.seat.invariant can.shape last)
@@ -31,11 +31,11 @@ invariant_of-seat-2 g c =
 pub returns : goal.returns
 returns g c =
     let can = can_still c.args.self.now g.P.Kind.PayloadKind.fits act.Scan c.seat.inside.seat
-        c.args.seat.now c.seat.view_is c.seat.invariant.seated c.requires.seat tt tt
-        c.requires.may in
+    c.args.seat.now c.seat.view_is c.seat.invariant.seated c.requires.seat tt tt
+    c.requires.may in
     let shape = c.self.invariant.same ∙ ap (λ (d : DomainState _). d.shape) c.self.view_is in
     let last = reads_last c.args.self.now.shape _ c.seat.inside.seat.me.0.core _ shape
-        c.seat.invariant.stores c.if-seat-self.false in
+    c.seat.invariant.stores c.if-seat-self.false in
     let e = c.split-stay.ensures in
     call_tells c.args.self.now _ _ act.Scan c.seat.inside.seat c.load_as-found.new.seat
     c.load_as-found.result c.load_as-found.ensures c.args.seat.now c.seat.view_is _
