@@ -24,7 +24,6 @@ mod domain;
 mod errors;
 mod exchanging;
 mod filling;
-mod found;
 mod opening;
 mod protecting;
 mod seat;
