@@ -46,24 +46,24 @@ other_has : (root v : CoreView) (s : SlotId) → HasSlot (show_seat (taken_over 
 other_has root v s has not_root = let p = parts root v s in grind (arith, nat_tests)
 
 module _ {V : Type 0} (root v : SeatView V) (z : Shape) (same : root.core.shape ≡ z) (s : SlotId)
-    where
-  abbrev known : ℕ → Known
-  known x =
-      let t : SlotId = record { 0 = x } in
-      known_of (if has_slot (show_seat root.core) t then object_in root t else object_in v t)
+  where
+    abbrev known : ℕ → Known
+    known x =
+        let t : SlotId = record { 0 = x } in
+        known_of (if has_slot (show_seat root.core) t then object_in root t else object_in v t)
 
-  -- what seat 0 has of each slot's object then
-  merged_at : s.0 < z.slots → get_or (merged_objects root v) s.0 no_object ≡ known s.0
-  merged_at hs =
-      let n = ap (λ (y : Shape). y.slots) same in
-      let e : 0 + s.0 ≡ s.0 = omega arith in
-      get_each 0 root.core.shape.slots s.0 known no_object (omega arith) ∙ ap known e
+    -- what seat 0 has of each slot's object then
+    merged_at : s.0 < z.slots → get_or (merged_objects root v) s.0 no_object ≡ known s.0
+    merged_at hs =
+        let n = ap (λ (y : Shape). y.slots) same in
+        let e : 0 + s.0 ≡ s.0 = omega arith in
+        get_each 0 root.core.shape.slots s.0 known no_object (omega arith) ∙ ap known e
 
-  merged_past : z.slots ≤ s.0 → get_or (merged_objects root v) s.0 no_object ≡ no_object
-  merged_past le =
-      let n = ap (λ (y : Shape). y.slots) same in
-      let l = length_each 0 root.core.shape.slots known in
-      get_or_past (merged_objects root v) s.0 no_object (omega arith)
+    merged_past : z.slots ≤ s.0 → get_or (merged_objects root v) s.0 no_object ≡ no_object
+    merged_past le =
+        let n = ap (λ (y : Shape). y.slots) same in
+        let l = length_each 0 root.core.shape.slots known in
+        get_or_past (merged_objects root v) s.0 no_object (omega arith)
 
 module _ {V : Type 0} (law : Plain → List V → Type 0) (first : ℕ → V) (fits : List ℕ → Type 0)
     (z : Shape) (qs : List Quota) (joined : V → V → V) (gone : V)

@@ -61,23 +61,23 @@ set_tells z c views i w own others = set_all (Tells z c) views i w own others
 
 module _ {V : Type 0} {law : Plain → List V → Type 0} {first : ℕ → V} {fits : List ℕ → Type 0}
     (z : Shape) (qs : List Quota) (s : State (Unit {0}) (SeatView V)) (k : Kept law first fits z qs s)
-    where
-  pub kept_sound : Sound z k.core
-  kept_sound = history_sound z qs k.events k.core k.shape k.quotas k.history
+  where
+    pub kept_sound : Sound z k.core
+    kept_sound = history_sound z qs k.events k.core k.shape k.quotas k.history
 
-  module _ (n : ℕ) (v : SeatView V) (at : get_elem? s.views n ≡ some v) where
-    pub in_seats : n < z.seats
-    in_seats = let l = at_less s.views n v at in let f = k.few.1 in omega arith
+    module _ (n : ℕ) (v : SeatView V) (at : get_elem? s.views n ≡ some v) where
+      pub in_seats : n < z.seats
+      in_seats = let l = at_less s.views n v at in let f = k.few.1 in omega arith
 
-    pub true_of : v.gone ≡ false → IsTrueOf z k.core n v
-    true_of here = here_case ((view_at k.core n).left ≡ true) (IsTrueOf z k.core n v) v.gone here
-        (k.tells n v at)
+      pub true_of : v.gone ≡ false → IsTrueOf z k.core n v
+      true_of here = here_case ((view_at k.core n).left ≡ true) (IsTrueOf z k.core n v) v.gone here
+          (k.tells n v at)
 
-    -- the seat's number stands in its view
-    pub number_of : v.gone ≡ false → v.core.seat ≡ n
-    number_of here =
-        ap (λ (u : CoreView). u.seat) (true_of here).core ∙ (kept_sound.seats n in_seats).number
+      -- the seat's number stands in its view
+      pub number_of : v.gone ≡ false → v.core.seat ≡ n
+      number_of here =
+          ap (λ (u : CoreView). u.seat) (true_of here).core ∙ (kept_sound.seats n in_seats).number
 
-    -- seat 0 is there, by its number
-    pub is_root : v.gone ≡ false → v.core.seat ≡ 0 → n ≡ 0
-    is_root here root = sym (number_of here) ∙ root
+      -- seat 0 is there, by its number
+      pub is_root : v.gone ≡ false → v.core.seat ≡ 0 → n ≡ 0
+      is_root here root = sym (number_of here) ∙ root
