@@ -2,3 +2,4 @@ pub mod Domains
 pub mod Seats
 pub mod Calls
 pub mod Openings
+pub mod Leavings

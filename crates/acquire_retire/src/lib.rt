@@ -9,9 +9,12 @@ mod errors;
 mod exchanging;
 mod filling;
 mod found;
+mod leaving;
 mod opening;
 mod protecting;
+mod reading;
 mod seat;
+mod site;
 mod splitting;
 mod standing;
 

@@ -133,6 +133,8 @@ module _ {V : Type 0} (law : Plain → List V → Type 0) (first : ℕ → V) (f
 
       found : FoundIn z qs told word (slice_index s.words word)
       found = record {
+        shape = k.shape;
+        quotas = k.quotas;
         events = k.events;
         core = k.core;
         history = k.history;

@@ -3,7 +3,7 @@ use Rattle.std.specs.Prelude.{ℕ, ◌≡◌, ◌↔◌, List, slice_index, IsSo
 use Rattle.core_events.specs.declared.act.Event.{Event}
 use Rattle.core_events.specs.declared.shape.Shape.{Shape}
 use Rattle.core_events.specs.declared.shape.Quota.{Quota}
-use Rattle.core_events.specs.Runs.{Core, History}
+use Rattle.core_events.specs.Runs.{AreQuotas, Core, History, IsShape}
 use Rattle.domain_rule.specs.declared.view.SeatView.{SeatView}
 use Rattle.domain_rule.specs.Rule.{IsTrueOf}
 use Rattle.domain_rule.specs.Views.{IsAlone}
@@ -11,6 +11,8 @@ use Rattle.domain_rule.specs.Views.{IsAlone}
 module _ {V : Type 0} where
   -- a state that events reach, of which all that the view says is so, and that has w in word i
   pub record FoundIn (z : Shape) (qs : List Quota) (v : SeatView V) (i w : ℕ) : Type 0 where
+    pub shape : IsShape z
+    pub quotas : AreQuotas z qs
     pub events : List Event
     pub core : Core
     pub history : History z qs events core
