@@ -1,5 +1,5 @@
 -- What a call of a seat makes of the seat, from the atomic step that it makes.
-use Rattle.std.proofs.Common.{◌≡◌, ℕ, ◌*◌, ◌<◌, ◌≤◌, Bool, true, false, List, [], ◌∷◌, refl, ap, sym, ◌∙◌, subst, arith}
+use Rattle.std.proofs.Common.{◌≡◌, ℕ, ◌*◌, ◌≤◌, Bool, true, false, List, [], ◌∷◌, ap, sym, ◌∙◌, subst, arith}
 use Rattle.std.specs.Prelude.{◌==◌, if◌then◌else◌}
 use Rattle.atomic_table.specs.declared.shared.Seat.{Seat as TableSeat}
 use Rattle.plain_state.specs.declared.act.PlainAct.{PlainAct}
@@ -29,11 +29,11 @@ use Rattle.acquire_retire.specs.Seats.{HasRooms, IsSeat, IsSeated, SeatState, St
 abbrev pub kept : CoreView → Stored × ℕ
 kept v = (stored v, v.room)
 
-module _ {P V : Type 0} (d : DomainState P) where
-  -- what clauses see of the seat of a table
-  abbrev pub value_of : TableSeat (Unit {0}) (SeatView V) → SeatState V
-  value_of seat = record { table = seat.table_id; view = seat.me.0 }
+-- what clauses see of the seat of a table
+abbrev pub value_of : {V : Type 0} → TableSeat (Unit {0}) (SeatView V) → SeatState V
+value_of seat = record { table = seat.table_id; view = seat.me.0 }
 
+module _ {P V : Type 0} (d : DomainState P) where
   -- what a call requires is what its atomic step requires
   pub can_step : (ready : OwnPart → V → PlainAct → Type 0) (fits : List ℕ → Type 0) (a : Act)
       (seat : TableSeat (Unit {0}) (SeatView V)) (s : SeatState V) → value_of seat ≡ s
@@ -41,7 +41,7 @@ module _ {P V : Type 0} (d : DomainState P) where
       → IsReady ready d.shape a s.view → CanStep d ready fits a seat
   can_step ready fits a seat s is seated of own may starts is_ready =
       let T : SeatState V → Type 0 = λ x. IsOf d x × May d.shape a x.view.core
-          × FitsStart fits a x.view × IsReady ready d.shape a x.view in
+      × FitsStart fits a x.view × IsReady ready d.shape a x.view in
       let t = subst T (sym is) (of, may, starts, is_ready) in
       record {
         table = t.0.0;
@@ -159,7 +159,7 @@ not_start a quiet is = subst IsQuiet is quiet
 
 -- what a call without a deed requires is what its atomic step requires
 pub can_still : {P V : Type 0} (d : DomainState P) (fits : List ℕ → Type 0) (a : Act)
-    (seat : TableSeat (Unit {0}) (SeatView V)) (s : SeatState V) → value_of d seat ≡ s
+    (seat : TableSeat (Unit {0}) (SeatView V)) (s : SeatState V) → value_of seat ≡ s
     → IsSeated seat.me → IsOf d s → IsOwn a → IsQuiet a → May d.shape a s.view.core
     → CanStep d (λ own v act. IsCalm act) fits a seat
 can_still d fits a seat s is seated of own quiet may =

@@ -1,5 +1,5 @@
 -- The dying list of a seat is never longer than the domain has slots.
-use Rattle.std.proofs.Common.{◌≡◌, ◌≢◌, ⊎_elim, ℕ, zero, suc, ◌+◌, ◌<◌, ◌≤◌, List, [], ◌∷◌, ◌++◌, length, length-append, refl, ap, sym, ◌∙◌, subst, arith}
+use Rattle.std.proofs.Common.{◌≡◌, ⊎_elim, ℕ, zero, suc, ◌+◌, ◌<◌, ◌≤◌, List, [], ◌∷◌, ◌++◌, length, length-append, refl, ap, sym, ◌∙◌, subst, arith}
 use Rattle.std.proofs.lemmas.Bool.{cases_lt}
 use Rattle.atomic_table.specs.declared.shared.Seat.{Seat as TableSeat}
 use Rattle.plain_state.specs.declared.act.PlainAct.{PlainAct}
@@ -12,7 +12,7 @@ use Rattle.core_events.specs.declared.shape.Shape.{Shape}
 use Rattle.core_events.specs.declared.shape.Quota.{Quota}
 use Rattle.core_events.specs.declared.view.CoreView.{CoreView}
 use Rattle.core_events.specs.Counts.{one, sum_below}
-use Rattle.core_events.specs.Runs.{AreQuotas, Core, IsShape, after, found, view_at}
+use Rattle.core_events.specs.Runs.{AreQuotas, Core, IsShape, after, view_at}
 use Rattle.core_events.specs.Steps.{moved}
 use Rattle.core_law.specs.Sound.{Sound}
 use Rattle.core_law.proofs.Always.{history_sound, step_keeps}
@@ -44,7 +44,7 @@ one_below : (n : ℕ) (x : SlotId) → x.0 < n → sum_below n (λ i. one (slot 
 one_below n x h =
     let none = below_none n (λ i. 0) (λ i _. refl) in
     let but = below_but n x.0 (λ i. 0) (λ i. one (slot i) x) h
-        (λ i _ ne. one_other (slot i) x (λ e. ne (sym e))) in
+    (λ i _ ne. one_other (slot i) x (λ e. ne (sym e))) in
     let same = one_same (slot x.0) x refl in omega arith
 
 -- a list of slots below n is as long as these stand in it
@@ -53,12 +53,12 @@ length_below : (n : ℕ) (xs : List SlotId) → ((s : SlotId) → n ≤ s.0 → 
 length_below n [] range = sym (below_none n (λ i. times (slot i) []) (λ i _. times_none (slot i)))
 length_below n (x ∷ xs) range =
     let rest = length_below n xs (λ s past.
-        let e = range s past in let c = times_cons s x xs in omega arith) in
+    let e = range s past in let c = times_cons s x xs in omega arith) in
     let below : x.0 < n = ⊎_elim (λ lt. lt)
-        (λ past. let e = range x past in let c = times_cons x x xs in let o = one_same x x refl in
-        absurd (omega arith)) (cases_lt x.0 n) in
-    let split = below_same n (λ i. one (slot i) x + times (slot i) xs) (λ i. times (slot i) (x ∷ xs))
-        (λ i _. times_cons (slot i) x xs) in
+    (λ past. let e = range x past in let c = times_cons x x xs in let o = one_same x x refl in
+    absurd (omega arith)) (cases_lt x.0 n) in
+    let split = below_same n (λ i. one (slot i) x + times (slot i) xs)
+    (λ i. times (slot i) (x ∷ xs)) (λ i _. times_cons (slot i) x xs) in
     let sum = below_plus n (λ i. one (slot i) x) (λ i. times (slot i) xs) in
     let first = one_below n x below in omega arith
 
@@ -100,12 +100,13 @@ few_dying z qs next_view allows a v w v' shape quotas own told =
     let there = on.0 in
     let few = few_dying_in z (after z h.before n a) n so' (omega arith) in
     let moved_is : v'.core ≡ view_at (after z h.before n a) n =
-        told.core ∙ ((λ i. moved z a (h.found i) (h.view i))
-        ∙ sym (view_after z h.before so n a on own)) in
+    told.core ∙ ((λ i. moved z a (h.found i) (h.view i))
+    ∙ sym (view_after z h.before so n a on own)) in
     let same = ap (λ (u : CoreView). length u.dying) moved_is in omega arith
 
 -- before a step that made it longer there was room for one more
-pub room_to_end : {P V : Type 0} (d e : DomainState P) → e ≡ d → (kept : Shape) → IsDomain e kept
+pub room_to_end : {P V : Type 0} (d e : DomainState P) → e ≡ d → (kept : Shape)
+    → IsDomain e.table e.shape e.quotas kept
     → (next_view : OwnPart → V → PlainAct → ℕ → V) (allows : Plain → Plain → ℕ → V → V → Type 0)
     (a : Act) (old new : TableSeat (Unit {0}) (SeatView V)) (w : ℕ)
     → Stepped d next_view allows a old w new → IsOwn a → old.me.0.core.shape ≡ d.shape
@@ -113,12 +114,12 @@ pub room_to_end : {P V : Type 0} (d e : DomainState P) → e ≡ d → (kept : S
     → IsSeat old.me s batch_room seen_room dying_room
     → (x : SlotId) → (moved d.shape a w old.me.0.core).dying ≡ old.me.0.core.dying ++ x ∷ []
     → length s.dying < dying_room
-room_to_end d e same kept in_domain next_view allows a old new w step own shape s batch_room seen_room
-    dying_room seat x longer =
+room_to_end d e same kept in_domain next_view allows a old new w step own shape s batch_room
+    seen_room dying_room seat x longer =
     let ranges = subst (λ (f : DomainState _). IsShape f.shape × AreQuotas f.shape f.quotas) same
-        (in_domain.shape, in_domain.quotas) in
-    let few = few_dying d.shape d.quotas next_view allows a old.me.0 w new.me.0 ranges.0 ranges.1 own
-        step.told in
+    (in_domain.shape, in_domain.quotas) in
+    let few = few_dying d.shape d.quotas next_view allows a old.me.0 w new.me.0 ranges.0 ranges.1
+    own step.told in
     let after = ap (λ (u : CoreView). length u.dying) step.told.core ∙ ap length longer in
     let more = length-append old.me.0.core.dying (x ∷ []) in
     let had = ap (λ (t : Stored). length t.dying) seat.stores in

@@ -22,7 +22,7 @@ use Rattle.core_law.proofs.Trails.{changed_trail}
 use Rattle.domain_rule.specs.declared.view.SeatView.{SeatView}
 use Rattle.domain_rule.specs.declared.view.Whole.{Whole}
 use Rattle.domain_rule.specs.Rule.{Kept}
-use Rattle.domain_rule.specs.Told.{Told, whole_after}
+use Rattle.domain_rule.specs.Told.{Told}
 use Rattle.domain_rule.specs.Views.{IsAlone, core_in, whole_of}
 use Rattle.domain_rule.proofs.StepKeeps.{step_allowed}
 use Rattle.acquire_retire.specs.Calls.{Aimed, CanStep, Finds, Stepped, aimed}
@@ -42,13 +42,14 @@ word_there z v a words word law there same may all at =
     let there' = subst (λ (y : Shape). v.seat < y.seats) same there in
     let inside = place_in z v.seat v law' there' a may in omega arith
 
-still_known : (f : Whole → Whole) (known : Option Whole) → IsSome known → IsSome (option_map f known)
+still_known : (f : Whole → Whole) (known : Option Whole) → IsSome known
+    → IsSome (option_map f known)
 still_known f None is = is
 still_known f (Some all) is = refl
 
 -- a seat that has made a step is a seat
-seated_after : {V : Type 0} (z : Shape) (qs : List Quota) (next_view : OwnPart → V → PlainAct → ℕ → V)
-    (allows : Plain → Plain → ℕ → V → V → Type 0) (a : Act) (w : ℕ)
+seated_after : {V : Type 0} (z : Shape) (qs : List Quota)
+    (next_view : OwnPart → V → PlainAct → ℕ → V) (allows : Plain → Plain → ℕ → V → V → Type 0) (a : Act) (w : ℕ)
     (me new : Me (Unit {0}) (SeatView V)) → me.0.core.shape ≡ z → IsSeated me
     → Told z qs next_view allows a me.0 w new.0 → new.1 ≡ me.1 → IsSeated new
 seated_after z qs next_view allows a w me new same seated told carried = record {
@@ -101,10 +102,11 @@ module _ {P D V : Type 0} (law : P → Plain → List V → Type 0) (first : P �
       → Finds d (next_view deed d.protocol) (allows deed d.protocol) a seat.me w new → Tells w new
   tells w new found x aims =
       let T : Aimed P D → Type 0 = λ x. Finds x.domain (next_view x.deed x.domain.protocol)
-          (allows x.deed x.domain.protocol) x.act seat.me w new in
+      (allows x.deed x.domain.protocol) x.act seat.me w new in
       subst T (same_aim (aimed d deed a) x aim is aims) found
 
-  module _ (e : DomainState P) (same : e ≡ d) (kept : Shape) (in_domain : IsDomain e kept)
+  module _ (e : DomainState P) (same : e ≡ d) (kept : Shape)
+      (in_domain : IsDomain e.table e.shape e.quotas kept)
       (word : ℕ) (at : word ≡ place d.shape a seat.me.0.core) (f : ℕ → ℕ)
       (kind : (w : ℕ) → next a w ≡ f w) where
     table_is : seat.table_id ≡ e.table
@@ -120,29 +122,37 @@ module _ {P D V : Type 0} (law : P → Plain → List V → Type 0) (first : P �
         (λ w new. Finds d (next_view deed d.protocol) (allows deed d.protocol) a seat.me w new)
     allowed =
         let r = step_allowed (law d.protocol) (first d.protocol) gone fits (ready deed d.protocol)
-            (next_view deed d.protocol) (allows deed d.protocol) (keep deed d.protocol) d.shape
-            d.quotas a e.table.slots seat.id seat.me can.seated.here can.seated.knows can.own can.may
-            can.starts can.is_ready in
+        (next_view deed d.protocol) (allows deed d.protocol) (keep deed d.protocol) d.shape
+        d.quotas a e.table.slots seat.id seat.me can.seated.here can.seated.knows can.own can.may
+        can.starts can.is_ready in
         let T : DomainState P × (ℕ × (ℕ → ℕ)) → Type 0 = λ x.
-            Allows (Kept (law x.0.protocol) (first x.0.protocol) fits x.0.shape x.0.quotas)
-            e.table.slots seat.id seat.me x.1.0 x.1.1
-            (λ w new. Finds d (next_view deed d.protocol) (allows deed d.protocol) a seat.me w new) in
+        Allows (Kept (law x.0.protocol) (first x.0.protocol) fits x.0.shape x.0.quotas)
+        e.table.slots seat.id seat.me x.1.0 x.1.1
+        (λ w new. Finds d (next_view deed d.protocol) (allows deed d.protocol) a seat.me w new) in
         subst T (λ i. (sym same i, (sym at i, λ w. kind w i))) r
 
     -- what the table requires of an atomic step, where the step tells the word that it finds
     pub step_requires : (seat.table_id ≡ e.table) × (word < e.table.words)
         × Allows (Kept (law e.protocol) (first e.protocol) fits e.shape e.quotas) e.table.slots
         seat.id seat.me word f Tells
-    step_requires = (table_is, inside, λ s k len there fit.
-        let r = allowed s k len there fit in (r.0, r.1, r.2, r.3, tells _ _ r.4))
+    step_requires = (
+      table_is,
+      inside,
+      λ s k len there fit.
+          let r = allowed s k len there fit in (r.0, r.1, r.2, r.3, tells _ _ r.4),
+    )
 
     -- and where it doesn't
     pub store_requires : (seat.table_id ≡ e.table) × (word < e.table.words)
         × Allows (Kept (law e.protocol) (first e.protocol) fits e.shape e.quotas) e.table.slots
         seat.id seat.me word f (λ _ new. TellsSome new)
-    store_requires = (table_is, inside, λ s k len there fit.
-        let r = allowed s k len there fit in
-        (r.0, r.1, r.2, r.3, λ x aims. (_, tells _ _ r.4 x aims)))
+    store_requires = (
+      table_is,
+      inside,
+      λ s k len there fit.
+          let r = allowed s k len there fit in
+          (r.0, r.1, r.2, r.3, λ x aims. (_, tells _ _ r.4 x aims)),
+    )
 
   -- what the step has told the seat
   stepped_by : (w : ℕ) (new : TableSeat (Unit {0}) (SeatView V)) → new.table_id ≡ seat.table_id

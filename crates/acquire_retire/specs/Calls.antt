@@ -1,6 +1,5 @@
 -- What a call of a seat asks, and what it tells: each call is one event.
 use Rattle.std.specs.Prelude.{ℕ, ◌≡◌, List}
-use Rattle.atomic_table.specs.Seated.{TableId}
 use Rattle.atomic_table.specs.Table.{Me}
 use Rattle.atomic_table.specs.declared.shared.Seat.{Seat as TableSeat}
 use Rattle.plain_state.specs.declared.act.PlainAct.{PlainAct}

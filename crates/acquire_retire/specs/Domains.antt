@@ -1,5 +1,5 @@
 -- What callers see of a domain.
-use Rattle.std.specs.Prelude.{ℕ, ◌≡◌, List}
+use Rattle.std.specs.Prelude.{◌≡◌, List}
 use Rattle.atomic_table.specs.Seated.{TableId}
 use Rattle.core_events.specs.declared.shape.Shape.{Shape}
 use Rattle.core_events.specs.declared.shape.Quota.{Quota}
@@ -13,10 +13,11 @@ pub record DomainState (P : Type 0) : Type 0 where
   pub shape : Shape
   pub quotas : List Quota
 
--- shape and quotas are in their ranges, and the table has the words of the shape, and nothing else
-pub record IsDomain {P : Type 0} (d : DomainState P) (kept : Shape) : Type 0 where
-  pub shape : IsShape d.shape
-  pub quotas : AreQuotas d.shape d.quotas
-  pub same : kept ≡ d.shape
-  pub words : d.table.words ≡ word_count d.shape
-  pub slots : d.table.slots ≡ 0
+-- shape and quotas are in their ranges, the domain keeps the shape, and the table has its words and
+-- nothing else
+pub record IsDomain (table : TableId) (z : Shape) (qs : List Quota) (kept : Shape) : Type 0 where
+  pub shape : IsShape z
+  pub quotas : AreQuotas z qs
+  pub same : kept ≡ z
+  pub words : table.words ≡ word_count z
+  pub slots : table.slots ≡ 0

@@ -35,8 +35,8 @@ pub record Stored : Type 0 where
   pub dying : List SlotId
   pub left : ℕ
 
--- of the words that its scan has read it stores those that announce something, and of the seats that
--- have left their number
+-- of the words that its scan has read it stores those that announce something, and of the seats
+-- that have left their number
 abbrev pub stored : CoreView → Stored
 stored v = record {
   number = v.seat;

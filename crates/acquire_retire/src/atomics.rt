@@ -85,7 +85,9 @@ impl<P: Protocol> Domain<P> {
         ensures { Stepped self.now (D.next deed self.now.protocol)
             (D.allows deed self.now.protocol) act seat.old result seat.new }
     {
-        self.table.shared.compare_exchange::<Reads<P, D, B>>(seat, word, old, new)
+        self.table
+            .shared
+            .compare_exchange::<Reads<P, D, B>>(seat, word, old, new)
     }
 
     /// An act that adds 1.
@@ -140,6 +142,8 @@ impl<P: Protocol> Domain<P> {
         ensures { Stepped self.now (D.next deed self.now.protocol)
             (D.allows deed self.now.protocol) act seat.old result seat.new }
     {
-        self.table.shared.fetch_and::<Reads<P, D, B>>(seat, word, mask)
+        self.table
+            .shared
+            .fetch_and::<Reads<P, D, B>>(seat, word, mask)
     }
 }

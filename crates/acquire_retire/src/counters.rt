@@ -1,14 +1,15 @@
 //! Calls on the strong words of slots. Each is one atomic step.
-ghost use Rattle.std.specs.Prelude.{◌≡◌, List, ◌∷◌};
+ghost use Rattle.std.specs.Prelude.{◌≡◌, nat_lt, List, ◌∷◌, if◌then◌else◌};
 ghost use Rattle.plain_state.specs.declared.slot.Kind.TheVariants.{Strong};
 ghost use Rattle.plain_state.specs.declared.slot.SlotId.{SlotId};
 ghost use Rattle.plain_state.specs.Lists.{Entry};
 ghost use Rattle.core_events.specs.declared.act.Act.TheVariants as act;
+ghost use Rattle.core_events.specs.declared.outcome.Outcome.TheVariants as outcome;
 ghost use Rattle.core_events.specs.Steps.{May};
+ghost use Rattle.core_events.specs.Words.{ZERO};
 ghost use Rattle.acquire_retire.specs.Calls.{IsOf, IsReady, IsSameView, Steps, same_view};
 
 use crate::domain::Domain;
-use crate::found::added;
 use crate::seat::Seat;
 use core_events::{Act, Kind, Outcome, Phase, SlotId};
 use core_parts::{
@@ -16,6 +17,17 @@ use core_parts::{
 };
 use plain_protocol::{Deed, Protocol, Still};
 use std::marker::Brand;
+
+/// Whether an add counted, by the word that it found.
+fn added(word: u64) -> Outcome
+    ensures { result ≡ (if nat_lt word ZERO then outcome.Up else outcome.Dead) }
+{
+    if word < ZERO_FLAG {
+        Outcome::Up
+    } else {
+        Outcome::Dead
+    }
+}
 
 impl<P: Protocol> Domain<P> {
     /// Counts one more strong reference to a slot that the seat holds: `Up`, or `Dead` where the zero flag stood.
@@ -103,8 +115,13 @@ impl<P: Protocol> Domain<P> {
     {
         let slot = slot_in_phase(seat.phase);
         let word = slot_index(&self.shape, slot);
-        let found =
-            self.fetch_and_as::<Still, Brand>(&mut seat.seat, Act::Take, Still, word, !HELP_FLAG);
+        let found = self.fetch_and_as::<Still, Brand>(
+            &mut seat.seat,
+            Act::Take,
+            Still,
+            word,
+            !HELP_FLAG,
+        );
         seat.phase = Phase::Idle;
         if helps(found) {
             seat.dying.push_reserved(slot);

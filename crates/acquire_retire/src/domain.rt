@@ -1,7 +1,7 @@
 //! The domain, which threads share.
+use atomic_table::Table;
 use core_events::Shape;
 use domain_rule::{Charter, DomainRule, SeatView};
-use atomic_table::Table;
 use plain_protocol::Protocol;
 use std::alloc::Global;
 use std::marker::Model;
@@ -26,10 +26,6 @@ impl<P: Protocol> Model for Domain<P> {
       quotas = d.table.shared.key.quotas.items;
     } };
 
-    ghost invariant = { λ d. IsDomain (record {
-      table = d.table.shared.table_id;
-      protocol = d.table.shared.key.protocol;
-      shape = d.table.shared.key.shape;
-      quotas = d.table.shared.key.quotas.items;
-    }) d.shape };
+    ghost invariant = { λ d. IsDomain d.table.shared.table_id d.table.shared.key.shape
+        d.table.shared.key.quotas.items d.shape };
 }

@@ -1,4 +1,5 @@
-//! Calls on a slot that a seat claims, fills and makes live, and on the payload of an object. Each is one atomic step.
+//! Calls on a slot that a seat claims, fills and makes live, and on the payload of an object. Each is one atomic
+//! step.
 ghost use Rattle.std.specs.Prelude.{◌≡◌};
 ghost use Rattle.plain_state.specs.declared.slot.SlotId.{SlotId};
 ghost use Rattle.core_events.specs.declared.act.Act.TheVariants as act;
@@ -45,7 +46,8 @@ impl<P: Protocol> Domain<P> {
     pub fn fill(&self, seat: &mut Seat<P>, index: u32, word: u64) -> Outcome
         requires seat { IsOf self.now seat.old }
         requires may { May self.now.shape (act.Fill index word) seat.old.view.core }
-        ensures { Steps self.now same_view IsSameView (act.Fill index word) seat.old seat.new result }
+        ensures { Steps self.now same_view IsSameView (act.Fill index word) seat.old
+            seat.new result }
     {
         let slot = slot_in_phase(seat.phase);
         let at = slot_index(&self.shape, slot) + FIRST_PAYLOAD + index as usize;
@@ -77,7 +79,8 @@ impl<P: Protocol> Domain<P> {
     pub fn see(&self, seat: &mut Seat<P>, slot: SlotId, index: u32) -> Outcome
         requires seat { IsOf self.now seat.old }
         requires may { May self.now.shape (act.See slot index) seat.old.view.core }
-        ensures { Steps self.now same_view IsSameView (act.See slot index) seat.old seat.new result }
+        ensures { Steps self.now same_view IsSameView (act.See slot index) seat.old
+            seat.new result }
     {
         let at = slot_index(&self.shape, slot) + FIRST_PAYLOAD + index as usize;
         let found = self.load_as::<Still, Brand>(&mut seat.seat, Act::See(slot, index), Still, at);

@@ -1,4 +1,5 @@
-//! Calls that protect what a seat reads from a place, and the scan that reads all announcements. Each is one atomic step.
+//! Calls that protect what a seat reads from a place, and the scan that reads all announcements. Each is one atomic
+//! step.
 ghost use Rattle.std.specs.Prelude.{◌≡◌};
 ghost use Rattle.core_events.specs.declared.act.Act.TheVariants as act;
 ghost use Rattle.core_events.specs.Steps.{May};

@@ -1,5 +1,5 @@
 -- The word that an event is on is there, and a place holds null or a slot that is there.
-use Rattle.std.proofs.Common.{◌≡◌, ◌<◌, ◌≤◌, ℕ, length, arith}
+use Rattle.std.proofs.Common.{◌<◌, ℕ, length, arith}
 use Rattle.std.specs.Prelude.{slice_index}
 use Rattle.plain_state.specs.declared.slot.SlotId.{SlotId}
 use Rattle.core_events.specs.declared.act.Act.{Act}
@@ -37,8 +37,10 @@ module _ (z : Shape) (c : Core) (n : ℕ) (so : Sound z c) (there : n < length c
   pub word_for : (a : Act) → May z a v → IsWordFor z a (slice_index c.words (place z a v))
   word_for (act.Look q) may = content_in z c so q (open_in_range z n v (so.seats n hn) q may.1)
   word_for (act.Check j q) may = content_in z c so q (open_in_range z n v (so.seats n hn) q may.3)
-  word_for (act.Swap q new) may = content_in z c so q (put_in_range z n v (so.seats n hn) q new may)
-  word_for (act.Cas q old new) may = content_in z c so q (open_in_range z n v (so.seats n hn) q may.2)
+  word_for (act.Swap q new) may =
+      content_in z c so q (put_in_range z n v (so.seats n hn) q new may)
+  word_for (act.Cas q old new) may =
+      content_in z c so q (open_in_range z n v (so.seats n hn) q may.2)
   word_for (act.Add s) may = tt
   word_for (act.Drop s) may = tt
   word_for act.Pay may = tt

@@ -123,7 +123,8 @@ module _ (z : Shape) (n : ℕ) (v : CoreView) (law : SeatLaw z n v) where
   place_in hn (act.Swap q new) may = place_bound z q (put_in_range q new may)
   place_in hn (act.Cas q old new) may = place_bound z q (open_in_range q may.2)
   place_in hn (act.Claim s) may = let h = may.1 in omega arith
-  place_in hn (act.Fill i x) may = let h = blank_there may.0.0 may.0.1 in let i16 = may.1 in omega arith
+  place_in hn (act.Fill i x) may =
+      let h = blank_there may.0.0 may.0.1 in let i16 = may.1 in omega arith
   place_in hn act.Start may = let h = blank_there may.0 may.1 in omega arith
   place_in hn (act.See s i) may = seen_there s i may.2 may.1
   place_in hn act.Free may = let h = give_there may.0 may.1 in omega arith

@@ -208,7 +208,8 @@ module _ {V : Type 0} (law : Plain → List V → Type 0) (first : ℕ → V) (g
       law = subst (λ (m : ℕ). SeatLaw z m v'.core) (sym seat_is)
           (subst (SeatLaw z n) (sym (core_after z c so n a on own v told w found_is))
           ((step_keeps z c n a so on).seats n (in_seats z qs s k n v at)));
-      happened = subst (λ (m : ℕ). Happened z qs m v.core a w (λ p q. allows p q m v.client client'))
+      happened = subst
+          (λ (m : ℕ). Happened z qs m v.core a w (λ p q. allows p q m v.client client'))
           (sym seat_is) (record {
             events = k.events;
             before = c;

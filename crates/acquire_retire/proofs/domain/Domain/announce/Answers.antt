@@ -3,6 +3,6 @@ use Rattle.acquire_retire.proofs.Calls.{can_still}
 use Rattle.acquire_retire.proofs.domain.Domain.announce.Goals as goal
 
 pub store_as-requires-clause-can : goal.store_as-requires-clause-can
-store_as-requires-clause-can g c = can_still c.args.self.now _ (act.Announce c.args.note c.args.kind c.args.slot)
-    c.seat.inside.seat c.args.seat.now c.seat.view_is c.seat.invariant.seated c.requires.seat tt tt
-    c.requires.may
+store_as-requires-clause-can g c =
+    can_still c.args.self.now _ (act.Announce c.args.note c.args.kind c.args.slot) c.seat.inside.seat c.args.seat.now
+    c.seat.view_is c.seat.invariant.seated c.requires.seat tt tt c.requires.may

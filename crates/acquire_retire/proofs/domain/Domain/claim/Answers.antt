@@ -3,6 +3,6 @@ use Rattle.acquire_retire.proofs.Calls.{can_still}
 use Rattle.acquire_retire.proofs.domain.Domain.claim.Goals as goal
 
 pub compare_exchange_as-found-requires-clause-can : goal.compare_exchange_as-found-requires-clause-can
-compare_exchange_as-found-requires-clause-can g c = can_still c.args.self.now _ (act.Claim c.args.slot)
-    c.seat.inside.seat c.args.seat.now c.seat.view_is c.seat.invariant.seated c.requires.seat tt tt
-    c.requires.may
+compare_exchange_as-found-requires-clause-can g c =
+    can_still c.args.self.now _ (act.Claim c.args.slot) c.seat.inside.seat c.args.seat.now
+    c.seat.view_is c.seat.invariant.seated c.requires.seat tt tt c.requires.may

@@ -7,19 +7,17 @@ use Rattle.acquire_retire.proofs.Dying.{room_to_end}
 use Rattle.acquire_retire.proofs.domain.Domain.finish.Goals as goal
 
 pub compare_exchange_as-found-requires-clause-can : goal.compare_exchange_as-found-requires-clause-can
-compare_exchange_as-found-requires-clause-can g c = can_still c.args.self.now _ act.Finish
-    c.seat.inside.seat c.args.seat.now c.seat.view_is c.seat.invariant.seated c.requires.seat tt tt
-    c.requires.may
+compare_exchange_as-found-requires-clause-can g c =
+    can_still c.args.self.now _ act.Finish c.seat.inside.seat c.args.seat.now
+    c.seat.view_is c.seat.invariant.seated c.requires.seat tt tt c.requires.may
 
 pub push_reserved-requires : goal.push_reserved-requires
 push_reserved-requires g c =
-    let of = can_still c.args.self.now g.P.Kind.PayloadKind.fits act.Finish c.seat.inside.seat
-        c.args.seat.now c.seat.view_is c.seat.invariant.seated c.requires.seat tt tt
-        c.requires.may in
+    let can = can_still c.args.self.now g.P.Kind.PayloadKind.fits act.Finish c.seat.inside.seat
+    c.args.seat.now c.seat.view_is c.seat.invariant.seated c.requires.seat tt tt c.requires.may in
     let v = c.seat.inside.seat.me.0.core in
-    let w = c.compare_exchange_as-found.result in
+    let longer = ap (λ w. (moved c.args.self.now.shape act.Finish w v).dying) c.if-found-eq0.true in
     let room = room_to_end c.args.self.now _ c.self.view_is _ c.self.invariant _ _ act.Finish
-        c.seat.inside.seat c.compare_exchange_as-found.new.seat w c.compare_exchange_as-found.ensures tt of.shape _ _ _ _
-        c.seat.invariant (slot_of v.phase)
-        (ap (λ n. (moved c.args.self.now.shape act.Finish n v).dying) c.if-found-eq0.true) in
+    c.seat.inside.seat c.compare_exchange_as-found.new.seat _ c.compare_exchange_as-found.ensures tt
+    can.shape _ _ _ _ c.seat.invariant (slot_of v.phase) longer in
     search rules

@@ -3,6 +3,6 @@ use Rattle.acquire_retire.proofs.Calls.{can_still}
 use Rattle.acquire_retire.proofs.domain.Domain.pay.Goals as goal
 
 pub fetch_sub_as-found-requires-clause-can : goal.fetch_sub_as-found-requires-clause-can
-fetch_sub_as-found-requires-clause-can g c = can_still c.args.self.now _ act.Pay
-    c.seat.inside.seat c.args.seat.now c.seat.view_is c.seat.invariant.seated c.requires.seat tt tt
-    c.requires.may
+fetch_sub_as-found-requires-clause-can g c =
+    can_still c.args.self.now _ act.Pay c.seat.inside.seat c.args.seat.now
+    c.seat.view_is c.seat.invariant.seated c.requires.seat tt tt c.requires.may

@@ -3,6 +3,6 @@ use Rattle.acquire_retire.proofs.Calls.{can_still}
 use Rattle.acquire_retire.proofs.domain.Domain.see.Goals as goal
 
 pub load_as-found-requires-clause-can : goal.load_as-found-requires-clause-can
-load_as-found-requires-clause-can g c = can_still c.args.self.now _ (act.See c.args.slot c.args.index)
-    c.seat.inside.seat c.args.seat.now c.seat.view_is c.seat.invariant.seated c.requires.seat tt tt
-    c.requires.may
+load_as-found-requires-clause-can g c =
+    can_still c.args.self.now _ (act.See c.args.slot c.args.index) c.seat.inside.seat c.args.seat.now
+    c.seat.view_is c.seat.invariant.seated c.requires.seat tt tt c.requires.may

@@ -8,19 +8,18 @@ use Rattle.acquire_retire.proofs.Dying.{room_to_end}
 use Rattle.acquire_retire.proofs.domain.Domain.take.Goals as goal
 
 pub fetch_and_as-found-requires-clause-can : goal.fetch_and_as-found-requires-clause-can
-fetch_and_as-found-requires-clause-can g c = can_still c.args.self.now _ act.Take
-    c.seat.inside.seat c.args.seat.now c.seat.view_is c.seat.invariant.seated c.requires.seat tt tt
-    c.requires.may
+fetch_and_as-found-requires-clause-can g c =
+    can_still c.args.self.now _ act.Take c.seat.inside.seat c.args.seat.now
+    c.seat.view_is c.seat.invariant.seated c.requires.seat tt tt c.requires.may
 
 pub push_reserved-requires : goal.push_reserved-requires
 push_reserved-requires g c =
-    let of = can_still c.args.self.now g.P.Kind.PayloadKind.fits act.Take c.seat.inside.seat
-        c.args.seat.now c.seat.view_is c.seat.invariant.seated c.requires.seat tt tt
-        c.requires.may in
+    let can = can_still c.args.self.now g.P.Kind.PayloadKind.fits act.Take c.seat.inside.seat
+    c.args.seat.now c.seat.view_is c.seat.invariant.seated c.requires.seat tt tt c.requires.may in
     let v = c.seat.inside.seat.me.0.core in
-    let w = c.fetch_and_as-found.result in
+    let longer = ap (λ b. (ended b (slot_of v.phase) phase.Idle v).dying)
+    (sym c.helps.ensures ∙ c.if-helps.true) in
     let room = room_to_end c.args.self.now _ c.self.view_is _ c.self.invariant _ _ act.Take
-        c.seat.inside.seat c.fetch_and_as-found.new.seat w c.fetch_and_as-found.ensures tt of.shape _ _ _ _
-        c.seat.invariant (slot_of v.phase)
-        (ap (λ b. (ended b (slot_of v.phase) phase.Idle v).dying) (sym c.helps.ensures ∙ c.if-helps.true)) in
+    c.seat.inside.seat c.fetch_and_as-found.new.seat _ c.fetch_and_as-found.ensures tt
+    can.shape _ _ _ _ c.seat.invariant (slot_of v.phase) longer in
     search rules
