@@ -98,7 +98,7 @@ module _ {P V : Type 0} (law : P → Plain → List V → Type 0) (first : P →
 
   -- what the table requires of the load
   pub read_requires : seat.table_id ≡ d.table → seat.me.0.gone ≡ false → word < word_count d.shape
-      → (e : DomainState P) → e ≡ d → (kept : Shape) → IsDomain e kept
+      → (e : DomainState P) → e ≡ d → (kept : Shape) → IsDomain e.table e.shape e.quotas kept
       → (seat.table_id ≡ e.table) × (word < e.table.words)
       × Allows (Kept (law e.protocol) (first e.protocol) fits e.shape e.quotas) e.table.slots
       seat.id seat.me word (λ w. w) Tells

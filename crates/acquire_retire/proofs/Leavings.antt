@@ -32,7 +32,7 @@ module _ {P V : Type 0} (law : P → Plain → List V → Type 0) (first : P →
     (site : Option (DomainState P)) (is : site ≡ Some d) (root v : TableSeat (Unit {0}) (SeatView V))
     (may : MayJoin d root v) where
   -- what the table requires where seat 0 takes over what another has
-  pub join_requires : (e : DomainState P) → e ≡ d → (kept : Shape) → IsDomain e kept
+  pub join_requires : (e : DomainState P) → e ≡ d → (kept : Shape) → IsDomain e.table e.shape e.quotas kept
       → (root.table_id ≡ e.table) × (v.table_id ≡ e.table) × (v.me.1 ≡ []) × (0 < e.table.words)
       × Joins (Kept (law e.protocol) (first e.protocol) fits e.shape e.quotas) root.id root.me.0 v.id
       v.me.0 (joined_in joined site root.me.0 v.me.0) (gone_view gone)
@@ -63,7 +63,7 @@ taken s t = record s {
 
 -- two seats may join where what clauses see of them may
 pub may_join : {P V : Type 0} (d : DomainState P) (root v : TableSeat (Unit {0}) (SeatView V))
-    (r w : SeatState V) → value_of d root ≡ r → value_of d v ≡ w → IsSeated root.me → IsSeated v.me
+    (r w : SeatState V) → value_of root ≡ r → value_of v ≡ w → IsSeated root.me → IsSeated v.me
     → IsOf d r × IsOf d w → r.view.core.seat ≡ 0 → CanLeave r.view.core × CanLeave w.view.core
     → MayJoin d root v
 may_join {V = V} d root v r w root_is is root_seated seated of first may =
