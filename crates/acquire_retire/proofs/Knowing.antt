@@ -33,8 +33,8 @@ few_gone (v ∷ vs) =
     let r = few_gone vs in
     let one : gone v ≤ 1 = grind arith in omega arith
 
-module _ {V : Type 0} (z : Shape) (qs : List Quota) (v : SeatView V) (i w : ℕ)
-    (f : FoundIn z qs v i w) (inside : v.core.seat < z.seats) where
+module _ {V : Type 0} (fits : List ℕ → Type 0) (z : Shape) (qs : List Quota) (v : SeatView V)
+    (i w : ℕ) (f : FoundIn fits z qs v i w) (inside : v.core.seat < z.seats) where
   sound : Sound z f.core
   sound = history_sound z qs f.events f.core f.shape f.quotas f.history
 
@@ -87,13 +87,13 @@ module _ {P V : Type 0} (law : P → Plain → List V → Type 0) (first : P →
   -- a load tells what it found for each domain that it is in, which is one
   abbrev Tells : ℕ → Me (Unit {0}) (SeatView V) → Type 0
   Tells w new = (x : DomainState P) → site ≡ Some x
-      → HasRead x.shape x.quotas word w seat.me.0 new.0 × (new.1 ≡ seat.me.1)
+      → HasRead fits x.shape x.quotas word w seat.me.0 new.0 × (new.1 ≡ seat.me.1)
 
   tells : (w : ℕ) (new : Me (Unit {0}) (SeatView V))
-      → HasRead d.shape d.quotas word w seat.me.0 new.0 × (new.1 ≡ seat.me.1) → Tells w new
+      → HasRead fits d.shape d.quotas word w seat.me.0 new.0 × (new.1 ≡ seat.me.1) → Tells w new
   tells w new read x names =
       let same : d ≡ x = cc (is, names) in
-      subst (λ (y : DomainState P). HasRead y.shape y.quotas word w seat.me.0 new.0
+      subst (λ (y : DomainState P). HasRead fits y.shape y.quotas word w seat.me.0 new.0
       × (new.1 ≡ seat.me.1)) same read
 
   -- what the table requires of the load
@@ -106,7 +106,7 @@ module _ {P V : Type 0} (law : P → Plain → List V → Type 0) (first : P →
       let count = in_domain.words ∙ ap (λ (x : DomainState P). word_count x.shape) same in
       let T : DomainState P → Type 0 = λ x. Allows (Kept (law x.protocol) (first x.protocol) fits
           x.shape x.quotas) e.table.slots seat.id seat.me word (λ w. w)
-          (λ w new. HasRead d.shape d.quotas word w seat.me.0 new.0 × (new.1 ≡ seat.me.1)) in
+          (λ w new. HasRead fits d.shape d.quotas word w seat.me.0 new.0 × (new.1 ≡ seat.me.1)) in
       let r = subst T (sym same) (reads (law d.protocol) (first d.protocol) fits d.shape d.quotas
           e.table.slots seat.id word seat.me here) in (
         table ∙ sym (ap (λ (x : DomainState P). x.table) same),

@@ -77,9 +77,9 @@ may_join {V = V} d root v r w root_is is root_seated seated of first may =
       may = t.2;
     }
 
-module _ {P V : Type 0} (d : DomainState P) (joined : V → V → V)
+module _ {P V : Type 0} (d : DomainState P) (fits : List ℕ → Type 0) (joined : V → V → V)
     (root v new : TableSeat (Unit {0}) (SeatView V)) (may : MayJoin d root v)
-    (join : HasJoined d joined root v new) where
+    (join : HasJoined d fits joined root v new) where
   abbrev both : CoreView
   both = noted (act.Leave v.me.0.core.seat) outcome.Plain (taken_over root.me.0.core v.me.0.core)
 
@@ -113,7 +113,7 @@ module _ {P V : Type 0} (d : DomainState P) (joined : V → V → V)
 
     room_after : new.me.0.core.room ≤ batch_room
     room_after =
-        let most = found_room d.shape d.quotas new.me.0 0 join.word join.found inside
+        let most = found_room fits d.shape d.quotas new.me.0 0 join.word join.found inside
             root_after in
         let all = rooms.root may.first in
         let same = ap (λ (z : Shape). z.seats * room_of z) may.shape in omega arith
@@ -121,7 +121,7 @@ module _ {P V : Type 0} (d : DomainState P) (joined : V → V → V)
     -- all that both have to give up finds room
     pub entries_fit : length s.retired + length s.owed + (length t.retired + length t.owed) ≤ batch_room
     entries_fit =
-        let few = found_entries d.shape d.quotas new.me.0 0 join.word join.found inside in
+        let few = found_entries fits d.shape d.quotas new.me.0 0 join.word join.found inside in
         let room = room_after in
         let retired = ap (λ (x : Stored). length x.retired) stores_after in
         let owed = ap (λ (x : Stored). length x.owed) stores_after in
@@ -131,7 +131,7 @@ module _ {P V : Type 0} (d : DomainState P) (joined : V → V → V)
     -- and so do the slots that they have ended
     pub dying_fit : length s.dying + length t.dying ≤ dying_room
     dying_fit =
-        let few = found_dying d.shape d.quotas new.me.0 0 join.word join.found inside in
+        let few = found_dying fits d.shape d.quotas new.me.0 0 join.word join.found inside in
         let dying = ap (λ (x : Stored). length x.dying) stores_after in
         let more = length-append s.dying t.dying in
         let slots = ap (λ (z : Shape). z.slots) may.shape in
@@ -139,7 +139,7 @@ module _ {P V : Type 0} (d : DomainState P) (joined : V → V → V)
 
     pub left_fits : s.left + 1 < 2 ^ 32
     left_fits =
-        let few = found_trails d.shape d.quotas new.me.0 0 join.word join.found inside
+        let few = found_trails fits d.shape d.quotas new.me.0 0 join.word join.found inside
             root_after in
         let left = ap (λ (x : Stored). x.left) stores_after in
         let most = join.found.shape.1 in omega arith
@@ -165,7 +165,7 @@ module _ {P V : Type 0} (d : DomainState P) (joined : V → V → V)
         shape = subst IsShape (sym shape_after) join.found.shape;
         there = subst (λ (z : Shape). new.me.0.core.seat < z.seats) (sym shape_after) inside;
         law = subst (λ (z : Shape). SeatLaw z new.me.0.core.seat new.me.0.core) (sym shape_after)
-            (found_law d.shape d.quotas new.me.0 0 join.word join.found inside);
+            (found_law fits d.shape d.quotas new.me.0 0 join.word join.found inside);
         knows = join.knows.1;
       };
       stores = (λ i. record (taken s t) {

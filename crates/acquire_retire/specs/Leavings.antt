@@ -1,5 +1,5 @@
 -- What callers see of seat 0 when another seat has left.
-use Rattle.std.specs.Prelude.{ℕ, ◌≡◌, ◌↔◌, Option, Some, None, IsSome}
+use Rattle.std.specs.Prelude.{ℕ, ◌≡◌, ◌↔◌, List, Option, Some, None, IsSome}
 use Rattle.atomic_table.specs.declared.shared.Seat.{Seat as TableSeat}
 use Rattle.core_events.specs.Steps.{CanLeave}
 use Rattle.domain_rule.specs.declared.view.SeatView.{SeatView}
@@ -24,14 +24,14 @@ module _ {P V : Type 0} where
     pub may : CanLeave root.me.0.core × CanLeave v.me.0.core
 
   -- the bare seat 0 has taken over what the other had, and what its view says is so
-  pub record HasJoined (d : DomainState P) (joined : V → V → V)
+  pub record HasJoined (d : DomainState P) (fits : List ℕ → Type 0) (joined : V → V → V)
       (root v new : TableSeat (Unit {0}) (SeatView V)) : Type 0 where
     pub table : new.table_id ≡ root.table_id
     pub carries : new.me.1 ≡ root.me.1
     pub view : new.me.0 ≡ record (joined_view joined root.me.0 v.me.0) { whole = new.me.0.whole }
     pub knows : IsSome new.me.0.whole ↔ IsAlone new.me.0
     pub word : ℕ
-    pub found : FoundIn d.shape d.quotas new.me.0 0 word
+    pub found : FoundIn fits d.shape d.quotas new.me.0 0 word
 
 module _ {V : Type 0} where
   -- seat 0 has taken over what a seat had that left, and it knows the whole core exactly where it is

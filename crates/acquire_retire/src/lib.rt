@@ -19,6 +19,7 @@
 
 mod aim;
 mod atomics;
+mod closing;
 mod counters;
 mod domain;
 mod errors;

@@ -29,7 +29,7 @@ alone_cases v = ⊎_elim
     (cases_eq v.core.seat 0)
 
 -- what is known is that
-known_is : (known : Option Whole) (Fact : Type 0) → ((all : Whole) → known ≡ Some all → Fact)
+pub known_is : (known : Option Whole) (Fact : Type 0) → ((all : Whole) → known ≡ Some all → Fact)
     → IsSome known → Fact
 known_is None Fact then is = absurd (cc (is))
 known_is (Some all) Fact then is = then all refl
@@ -39,7 +39,7 @@ module _ {V : Type 0} (law : Plain → List V → Type 0) (first : ℕ → V) (f
     (here : me.0.gone ≡ false) where
   -- what the load tells
   abbrev Then : ℕ → Me (Unit {0}) (SeatView V) → Type 0
-  Then w m = HasRead z qs word w me.0 m.0 × (m.1 ≡ me.1)
+  Then w m = HasRead fits z qs word w me.0 m.0 × (m.1 ≡ me.1)
 
   module _ (s : State (Unit {0}) (SeatView V)) (k : Kept law first fits z qs s)
       (at : get_elem? s.views id ≡ some me.0) where
@@ -131,13 +131,14 @@ module _ {V : Type 0} (law : Plain → List V → Type 0) (first : ℕ → V) (f
                 (sym (clients_same first z.seats s.views id me.0 told at refl)) k.client;
           }
 
-      found : FoundIn z qs told word (slice_index s.words word)
+      found : FoundIn fits z qs told word (slice_index s.words word)
       found = record {
         shape = k.shape;
         quotas = k.quotas;
         events = k.events;
         core = k.core;
         history = k.history;
+        fit = k.fit;
         says = subst (λ (n : ℕ). IsTrueOf z k.core n told) (sym number) told_true;
         word = ap (λ (ws : List ℕ). slice_index ws word) k.words;
       }
@@ -148,7 +149,7 @@ module _ {V : Type 0} (law : Plain → List V → Type 0) (first : ℕ → V) (f
 
       answer : (IsSome me.0.whole → whole ≡ me.0.whole) → (IsAlone me.0 → IsSome whole) → Reads
       answer stays all =
-          let read : HasRead z qs word (slice_index s.words word) me.0 told = record {
+          let read : HasRead fits z qs word (slice_index s.words word) me.0 told = record {
             same = refl;
             stays = stays;
             knows = (known_alone, all);

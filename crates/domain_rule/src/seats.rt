@@ -43,5 +43,5 @@ pub fn reading_keeps<P: Protocol>()
     ensures { (it : P) (z : Shape) (qs : List Quota) (slots id word : ℕ)
         (me : Me (Unit {0}) (SeatView P.View)) → me.0.gone ≡ false
         → Allows (Kept (P.law it) (P.first it) P.Kind.fits z qs) slots id me word (λ w. w)
-        (λ w m. HasRead z qs word w me.0 m.0 × (m.1 ≡ me.1)) }
+        (λ w m. HasRead P.Kind.fits z qs word w me.0 m.0 × (m.1 ≡ me.1)) }
 {}
