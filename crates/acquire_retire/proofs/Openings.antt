@@ -2,6 +2,7 @@
 use Rattle.std.proofs.Common.{◌≡◌, ℕ, suc, ◌+◌, ◌<◌, false, List, [], ◌∷◌, ◌++◌, length, refl, ap, sym, ◌∙◌, subst, arith}
 use Rattle.std.specs.Prelude.{◌==◌, Option, Some, None, IsSome, if◌then◌else◌}
 use Rattle.std.proofs.lemmas.Bool.Decides.{nat_tests}
+use Rattle.atomic_table.specs.Seated.{TableId}
 use Rattle.atomic_table.specs.Table.{Me, Splits, opening}
 use Rattle.atomic_table.specs.declared.shared.Seat.{Seat as TableSeat}
 use Rattle.plain_state.specs.State.{Plain}
@@ -25,15 +26,15 @@ use Rattle.acquire_retire.specs.Openings.{IsFirst, IsNew, begun_seat, newcomer}
 use Rattle.acquire_retire.specs.Seats.{IsSeated, SeatState}
 
 -- a table with the first words is one of a domain
-pub begun_domain : {P : Type 0} (z : Shape) (qs : List Quota) (d : DomainState P) (words : List ℕ)
-    → IsShape z → AreQuotas z qs → d.shape ≡ z → d.quotas ≡ qs → words ≡ first_words z
-    → d.table.words ≡ length words → d.table.slots ≡ 0 → IsDomain d z
-begun_domain z qs d words shape quotas same same_quotas are count none = record {
+pub begun_domain : (z : Shape) (qs kept : List Quota) (table : TableId) (key : Shape)
+    (words : List ℕ) → IsShape z → AreQuotas z qs → key ≡ z → kept ≡ qs → words ≡ first_words z
+    → table.words ≡ length words → table.slots ≡ 0 → IsDomain table key kept z
+begun_domain z qs kept table key words shape quotas same same_quotas are count none = record {
   shape = subst IsShape (sym same) shape;
   quotas = subst (λ (t : Shape × List Quota). AreQuotas t.0 t.1)
       (λ i. (sym same i, sym same_quotas i)) quotas;
   same = sym same;
-  words = subst (λ (y : Shape). d.table.words ≡ word_count y) (sym same)
+  words = subst (λ (y : Shape). table.words ≡ word_count y) (sym same)
       (count ∙ (ap length are ∙ (start_sound z qs shape quotas).words));
   slots = none;
 }
@@ -67,7 +68,7 @@ opened_seated first z qs n opened shape quotas there = record {
 }
 
 -- the sizes of a domain are in their ranges
-pub in_ranges : {P : Type 0} (d e : DomainState P) (kept : Shape) → e ≡ d → IsDomain e kept
+pub in_ranges : {P : Type 0} (d e : DomainState P) (kept : Shape) → e ≡ d → IsDomain e.table e.shape e.quotas kept
     → IsShape d.shape × AreQuotas d.shape d.quotas
 in_ranges {P = P} d e kept same in_domain =
     subst (λ (x : DomainState P). IsShape x.shape × AreQuotas x.shape x.quotas) same
@@ -113,7 +114,7 @@ module _ {P V : Type 0} (law : P → Plain → List V → Type 0) (first : P →
     (begun : IsFirst (first d.protocol) d root.me.0.opened root) where
   -- what the table requires where seat 0 opens one more seat
   pub another_requires : root.me.0.opened < d.shape.seats → (e : DomainState P) → e ≡ d
-      → (kept : Shape) → IsDomain e kept
+      → (kept : Shape) → IsDomain e.table e.shape e.quotas kept
       → (root.table_id ≡ e.table) × (0 < e.table.words)
       × Splits (Kept (law e.protocol) (first e.protocol) fits e.shape e.quotas) root.id root.me.0
       (opened_more root.me.0) (newcomer first site root.me.0)

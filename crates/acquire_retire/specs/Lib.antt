@@ -2,3 +2,5 @@ pub mod Domains
 pub mod Seats
 pub mod Calls
 pub mod Openings
+pub mod Leavings
+pub mod Closings

@@ -19,14 +19,18 @@
 
 mod aim;
 mod atomics;
+mod closing;
 mod counters;
 mod domain;
 mod errors;
 mod exchanging;
 mod filling;
+mod leaving;
 mod opening;
 mod protecting;
+mod reading;
 mod seat;
+mod site;
 mod splitting;
 mod standing;
 

@@ -7,13 +7,13 @@ ghost use Rattle.core_events.specs.Views.{first_view, room_of};
 ghost use Rattle.core_parts.specs.Fields.{IsFirstBad};
 ghost use Rattle.domain_rule.specs.Opening.{opened_more};
 ghost use Rattle.acquire_retire.specs.declared.errors.OpenError.TheVariants.{BadShape};
-ghost use Rattle.acquire_retire.specs.Domains.{DomainState};
 ghost use Rattle.acquire_retire.specs.Openings.{IsFirst, IsNew, begun_seat, newcomer, opened_seats};
 ghost use Rattle.acquire_retire.specs.Seats.{IsSeated};
 
 use crate::domain::Domain;
 use crate::errors::OpenError;
 use crate::seat::{Seat, SeatOf};
+use crate::site::Site;
 use atomic_table::{Split, Table};
 use core_events::{Note, Phase, Quota, Shape};
 use core_parts::{first_bad, first_words};
@@ -24,15 +24,6 @@ use plain_protocol::Protocol;
 use retire_batch::Batch;
 use std::alloc::Global;
 use std::marker::{Brand, PhantomData};
-
-/// Which domain a seat is opened in, or leaves. A call at `Brand` picks it, since a `Split` and a `Join` see no key.
-pub(crate) trait Site<P> {
-    ghost site: { Option (DomainState P) };
-}
-
-impl<P> Site<P> for Brand {
-    ghost site = { None };
-}
 
 /// Seat 0 opens one more seat.
 pub(crate) struct Opens<P, B> {

@@ -15,5 +15,5 @@ pub invariant_of-result : goal.invariant_of-result
 invariant_of-result g c =
     let are : c.as_slice.result.now ≡ first_words c.args.shape = search rules in
     let told = c.in_ok-table.ensures in
-    begun_domain c.args.shape c.args.quotas.now _ _ c.requires.shape c.requires.quotas
+    begun_domain c.args.shape c.args.quotas.now _ _ _ _ c.requires.shape c.requires.quotas
     (search rules) (search rules) are told.0 told.1
