@@ -26,6 +26,7 @@ mod filling;
 mod protecting;
 mod seat;
 mod splitting;
+mod weak_counters;
 
 pub use core_events::{EventPlace, Kind, Outcome, Quota, Shape, ShapeField, SlotId};
 pub use domain::Domain;
