@@ -1,3 +1,4 @@
 pub mod Domains
 pub mod Seats
 pub mod Calls
+pub mod Collecting

@@ -19,10 +19,12 @@
 
 mod aim;
 mod atomics;
+mod collecting;
 mod counters;
 mod domain;
 mod exchanging;
 mod filling;
+mod payment;
 mod protecting;
 mod seat;
 mod splitting;
@@ -30,4 +32,5 @@ mod weak_counters;
 
 pub use core_events::{EventPlace, Kind, Outcome, Quota, Shape, ShapeField, SlotId};
 pub use domain::Domain;
+pub use payment::{Payment, Work};
 pub use seat::{Seat, SeatOf};
