@@ -4,3 +4,4 @@ pub mod Calls
 pub mod Openings
 pub mod Leavings
 pub mod Closings
+pub mod Collecting

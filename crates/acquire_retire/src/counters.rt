@@ -1,8 +1,5 @@
 //! Calls on the strong words of slots. Each is one atomic step.
-ghost use Rattle.std.specs.Prelude.{◌≡◌, nat_lt, List, ◌∷◌, if◌then◌else◌};
-ghost use Rattle.plain_state.specs.declared.slot.Kind.TheVariants.{Strong};
-ghost use Rattle.plain_state.specs.declared.slot.SlotId.{SlotId};
-ghost use Rattle.plain_state.specs.Lists.{Entry};
+ghost use Rattle.std.specs.Prelude.{◌≡◌, nat_lt, if◌then◌else◌};
 ghost use Rattle.core_events.specs.declared.act.Act.TheVariants as act;
 ghost use Rattle.core_events.specs.declared.outcome.Outcome.TheVariants as outcome;
 ghost use Rattle.core_events.specs.Steps.{May};
@@ -59,12 +56,11 @@ impl<P: Protocol> Domain<P> {
         outcome
     }
 
-    /// Gives up the reference of the first entry that is owed, as a drop does.
+    /// Gives up the reference of the first entry that is owed, as a drop does: `Zeroed` where it was the last strong
+    /// one, and `Last` where it was the last weak one, and the seat is to give the slot back then.
     pub fn pay(&self, seat: &mut Seat<P>) -> Outcome
         requires seat { IsOf self.now seat.old }
         requires may { May self.now.shape act.Pay seat.old.view.core }
-        requires strong { (slot : SlotId) × (rest : List Entry)
-            × (seat.old.view.core.owed ≡ (Strong, slot) ∷ rest) }
         ensures { Steps self.now same_view IsSameView act.Pay seat.old seat.new result }
     {
         let Some((kind, slot)) = seat.batch.next_owed() else {

@@ -2,7 +2,6 @@
 ghost use Rattle.std.specs.Prelude.{◌≡◌};
 ghost use Rattle.core_events.specs.declared.act.Act.TheVariants as act;
 ghost use Rattle.core_events.specs.Steps.{May};
-ghost use Rattle.core_events.specs.Views.{IsOpen};
 ghost use Rattle.acquire_retire.specs.Calls.{IsOf, IsReady, Steps};
 
 use crate::domain::Domain;
@@ -14,7 +13,8 @@ use plain_protocol::{Deed, Protocol};
 use std::marker::Brand;
 
 impl<P: Protocol> Domain<P> {
-    /// Puts null, or a reference that the seat gives, into a place, and retires what the place held.
+    /// Puts null, or a reference that the seat gives, into a place, and retires what the place held. A field of a slot
+    /// that the seat has ended takes null alone.
     pub fn swap<D: Deed<P>>(
         &self,
         seat: &mut Seat<P>,
@@ -24,7 +24,6 @@ impl<P: Protocol> Domain<P> {
     ) -> Outcome
         requires seat { IsOf self.now seat.old }
         requires may { May self.now.shape (act.Swap place new) seat.old.view.core }
-        requires opened { IsOpen self.now.shape seat.old.view.core place }
         requires deed { IsReady (D.ready deed self.now.protocol) self.now.shape
             (act.Swap place new) seat.old.view }
         ensures { Steps self.now (D.next deed self.now.protocol)
