@@ -1,15 +1,21 @@
 //! How seats come and go keeps the rule.
 ghost use Rattle.std.specs.Prelude.{ℕ, ◌≡◌, ◌<◌, false, List, []};
 ghost use Rattle.atomic_table.specs.Table.{Allows, Joins, Me, Splits, opening};
+ghost use Rattle.core_events.specs.declared.act.Act.TheVariants as act;
+ghost use Rattle.core_events.specs.declared.outcome.Outcome.TheVariants as outcome;
 ghost use Rattle.core_events.specs.declared.shape.Shape.{Shape};
 ghost use Rattle.core_events.specs.declared.shape.Quota.{Quota};
-ghost use Rattle.core_events.specs.Runs.{AreQuotas, IsShape};
-ghost use Rattle.core_events.specs.Steps.{CanLeave};
+ghost use Rattle.core_events.specs.declared.view.CoreView.{CoreView};
+ghost use Rattle.core_events.specs.Good.{SeatLaw};
+ghost use Rattle.core_events.specs.Runs.{AreQuotas, IsShape, taken_over};
+ghost use Rattle.core_events.specs.Steps.{CanLeave, noted};
+ghost use Rattle.core_events.specs.Views.{first_view};
 ghost use Rattle.core_events.specs.Words.{first_words};
 ghost use Rattle.domain_rule.specs.declared.view.SeatView.{SeatView};
 ghost use Rattle.domain_rule.specs.Opening.{first_of, gone_view, joined_view, opened_more, opened_view};
 ghost use Rattle.domain_rule.specs.Reading.{HasRead};
 ghost use Rattle.domain_rule.specs.Rule.{Kept};
+ghost use Rattle.domain_rule.specs.Views.{quota_at};
 
 use plain_protocol::Protocol;
 
@@ -44,4 +50,17 @@ pub fn reading_keeps<P: Protocol>()
         (me : Me (Unit {0}) (SeatView P.View)) → me.0.gone ≡ false
         → Allows (Kept (P.law it) (P.first it) P.Kind.fits z qs) slots id me word (λ w. w)
         (λ w m. HasRead P.Kind.fits z qs word w me.0 m.0 × (m.1 ≡ me.1)) }
+{}
+
+/// What holds of a seat by itself holds as it is opened,
+pub fn opened_seat_law()
+    ensures { (z : Shape) (qs : List Quota) (n : ℕ) → IsShape z → AreQuotas z qs → n < z.seats
+        → SeatLaw z n (first_view z n (quota_at qs n)) }
+{}
+
+/// and of seat 0 where it takes over what a seat has that leaves.
+pub fn joined_seat_law()
+    ensures { (z : Shape) (j : ℕ) (root v : CoreView) → SeatLaw z 0 root → SeatLaw z j v
+        → CanLeave root → CanLeave v
+        → SeatLaw z 0 (noted (act.Leave j) outcome.Plain (taken_over root v)) }
 {}
