@@ -9,8 +9,8 @@ use core_events::{Kind, SlotId};
 use eject_scan::Seen;
 use retire_batch::Batch;
 
-#[tactic(auto, using(retire_batch::proofs::Splits::split_length))]
 /// Splits the retired entries, and tells how many stay and how many go.
+#[tactic(auto, using(retire_batch::proofs::Splits::split_length))]
 pub(crate) fn split(batch: &mut Batch, seen: &Seen) -> (u32, u32)
     requires { batch.old.owed ≡ [] }
     ensures batch { let announced = announced_in seen.now.words in

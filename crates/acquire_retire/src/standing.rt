@@ -4,24 +4,8 @@ ghost use Rattle.domain_rule.specs.Views.{IsAlone};
 ghost use Rattle.acquire_retire.specs.Calls.{IsOf};
 
 use crate::domain::Domain;
-use crate::seat::{Seat, SeatOf};
+use crate::seat::Seat;
 use plain_protocol::Protocol;
-
-impl<W> SeatOf<W> {
-    /// How many adds it has used of its quota.
-    pub fn adds(&self) -> u64
-        ensures { result ≡ self.now.view.core.adds }
-    {
-        self.adds
-    }
-
-    /// How many makes it has used of its quota.
-    pub fn makes(&self) -> u64
-        ensures { result ≡ self.now.view.core.makes }
-    {
-        self.makes
-    }
-}
 
 impl<P: Protocol> Domain<P> {
     /// Whether the seat is seat 0, and every other one has left.
@@ -30,5 +14,21 @@ impl<P: Protocol> Domain<P> {
         ensures { IsTrue result ↔ IsAlone seat.now.view }
     {
         seat.number == 0 && seat.left == self.shape.seats - 1
+    }
+
+    /// How many adds the seat has used of its quota.
+    pub fn adds(&self, seat: &Seat<P>) -> u64
+        requires { IsOf self.now seat.now }
+        ensures { result ≡ seat.now.view.core.adds }
+    {
+        seat.adds
+    }
+
+    /// How many makes the seat has used of its quota.
+    pub fn makes(&self, seat: &Seat<P>) -> u64
+        requires { IsOf self.now seat.now }
+        ensures { result ≡ seat.now.view.core.makes }
+    {
+        seat.makes
     }
 }
