@@ -3,4 +3,4 @@ pub mod Seats
 pub mod Calls
 pub mod Openings
 pub mod Leavings
-pub mod Closings
+pub mod Wholes

@@ -25,6 +25,7 @@ mod domain;
 mod errors;
 mod exchanging;
 mod filling;
+mod image;
 mod leaving;
 mod opening;
 mod protecting;
