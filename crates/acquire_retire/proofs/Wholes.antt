@@ -1,12 +1,14 @@
 -- What a seat that is alone knows of the whole state.
-use Rattle.std.proofs.Common.{◌≡◌, ℕ, suc, false, List, [], ◌∷◌, length, ap, sym, ◌∙◌, subst, arith}
-use Rattle.std.specs.Prelude.{Some, IsSome}
+use Rattle.std.proofs.Common.{◌≡◌, ℕ, suc, false, List, [], ◌∷◌, length, Result, Ok, Err, ap, sym, ◌∙◌, subst, arith}
+use Rattle.std.specs.Prelude.{Some, IsSome, IfOk}
 use Rattle.std.specs.Option.{option_map}
 use mathlib.Core.Option.{some, some-injective, some-ne-none}
 use lib.ListN.{get_elem?}
 use Rattle.atomic_table.specs.Table.{Seen, State}
 use Rattle.atomic_table.specs.declared.shared.Seat.{Seat as TableSeat}
+use Rattle.plain_state.specs.declared.image.Heap.{Heap}
 use Rattle.plain_state.specs.Fits.{AllFit}
+use Rattle.plain_state.specs.Images.{IsImage}
 use Rattle.plain_state.specs.State.{Plain}
 use Rattle.core_events.specs.declared.shape.Shape.{Shape}
 use Rattle.core_events.specs.declared.shape.Quota.{Quota}
@@ -22,7 +24,7 @@ use Rattle.domain_rule.specs.Views.{IsAlone, core_in}
 use Rattle.domain_rule.proofs.Padding.{client_found, clients_length}
 use Rattle.domain_rule.proofs.Reading.{known_is}
 use Rattle.domain_rule.proofs.Telling.{in_seats, is_root, kept_sound, true_of}
-use Rattle.acquire_retire.specs.Closings.{IsLast, KnowsState}
+use Rattle.acquire_retire.specs.Wholes.{IsLast, IsWholeImage, KnowsCore, KnowsState, core_known, known_core, known_state}
 use Rattle.acquire_retire.specs.Domains.{DomainState}
 use Rattle.acquire_retire.specs.Seats.{IsSeated, SeatState}
 use Rattle.acquire_retire.proofs.Calls.{value_of}
@@ -88,3 +90,26 @@ closed_last {P = P} {V = V} law first fits d e same seat r is seated alone s see
     subst T (λ i. (same i, is i))
     (λ here. last (law e.protocol) (first e.protocol) fits e.shape e.quotas s seen.0 seat.id seat.me.0
     seen.1 seated.here here.0 (seated.knows here)) alone
+
+-- an image of the state that a seat knows is one of what clauses see of the seat
+pub whole_image : {P V : Type 0} (d : DomainState P) (fits : List ℕ → Type 0)
+    (seat : TableSeat (Unit {0}) (SeatView V)) (r : SeatState V) → value_of seat ≡ r
+    → r.view.core.shape ≡ d.shape → KnowsCore d fits seat → (heap : Heap)
+    → IsImage (known_state d seat) heap → IsWholeImage fits r.view heap
+whole_image {V = V} d fits seat r is shape k heap image =
+    let T : SeatState V → Type 0 = λ x.
+        x.view.core.shape ≡ d.shape → IsWholeImage fits x.view heap in
+    subst T is
+    (λ same. record {
+      state = known_state d seat;
+      knows = known_is seat.me.0.whole (KnowsState fits seat.me.0 (known_state d seat))
+          (λ all e. knows_state fits d.shape (known_core seat.me.0) seat.me.0 all same k.sound k.fit e
+          (sym (ap core_known e))) k.knows;
+      image = image;
+    }) shape
+
+-- what follows for each value follows for that of a result
+pub then_ok : {T E : Type 0} (P Q : T → Type 0) (r : Result T E) → ((x : T) → P x → Q x) → IfOk r P
+    → IfOk r Q
+then_ok P Q (Ok x) follows p = follows x p
+then_ok P Q (Err e) follows p = tt

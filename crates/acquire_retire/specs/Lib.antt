@@ -3,5 +3,5 @@ pub mod Seats
 pub mod Calls
 pub mod Openings
 pub mod Leavings
-pub mod Closings
 pub mod Collecting
+pub mod Wholes

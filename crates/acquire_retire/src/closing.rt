@@ -2,7 +2,7 @@
 ghost use Rattle.core_events.specs.Steps.{CanLeave};
 ghost use Rattle.domain_rule.specs.Views.{IsAlone};
 ghost use Rattle.acquire_retire.specs.Calls.{IsOf};
-ghost use Rattle.acquire_retire.specs.Closings.{IsLast};
+ghost use Rattle.acquire_retire.specs.Wholes.{IsLast};
 
 use crate::domain::Domain;
 use crate::seat::{Seat, SeatOf};

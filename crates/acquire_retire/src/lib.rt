@@ -26,6 +26,7 @@ mod domain;
 mod errors;
 mod exchanging;
 mod filling;
+mod image;
 mod leaving;
 mod opening;
 mod payment;

@@ -91,6 +91,13 @@ impl Batch {
         self.retired.len() as u32
     }
 
+    /// The retired entries, in order.
+    pub fn retired(&self) -> &[(Kind, SlotId)]
+        ensures { result.now ≡ self.now.retired }
+    {
+        self.retired.as_slice()
+    }
+
     /// Takes over all entries of another batch, behind its own: a seat that leaves hands them to the first seat.
     pub fn absorb(&mut self, other: &mut Batch)
         requires { entry_count self.old + entry_count other.old ≤ self.old.room }

@@ -1,0 +1,35 @@
+use Rattle.std.proofs.Common.{◌≡◌, ℕ, ◌+◌, ap, ◌∙◌}
+use Rattle.plain_state.specs.declared.act.EventPlace.TheVariants.{Cell, WeakCell}
+use Rattle.plain_state.specs.Images.{image_at}
+use Rattle.plain_state.specs.State.{Plain}
+use Rattle.core_events.specs.declared.shape.Shape.{Shape}
+use Rattle.core_events.specs.Shows.{each_from}
+use Rattle.core_events.specs.Words.{place_at}
+use Rattle.acquire_retire.specs.Domains.{DomainState}
+use Rattle.acquire_retire.specs.Wholes.{IsSame, known_core, known_word}
+use Rattle.acquire_retire.proofs.Images.{heap_words, same_state, same_words}
+use Rattle.acquire_retire.proofs.domain.Domain.heap_image.Goals as goal
+
+pub returns-clause-image : goal.returns-clause-image
+returns-clause-image g c =
+    let seat = c.args.seat.now in
+    let z = c.args.self.now.shape in
+    let kept = c.self.invariant.same ∙ ap (λ (d : DomainState _). d.shape) c.self.view_is in
+    let second = c.known_words.new.seat in
+    let third = c.known_words-2.new.seat in
+    let before : IsSame seat second = (cc, cc) in
+    let then : IsSame seat third = (cc, cc) in
+    heap_words z (known_core seat.me.0) _ c.place_index-first.result c.place_index-first-2.result
+    (c.in_ok-slots.ensures.images
+    ∙ ap (λ (p : Plain). each_from 0 z.slots (λ x. image_at p (record { 0 = x })))
+    (same_state seat third then c.args.self.now))
+    (c.in_ok-cells.ensures.words
+    ∙ ap (λ (y : Shape). each_from 0 y.cells
+    (λ i. known_word seat (c.place_index-first.result + i))) kept)
+    (c.place_index-first.ensures ∙ ap (λ (y : Shape). place_at y (Cell 0)) kept)
+    (c.in_ok-weak_cells.ensures.words
+    ∙ (same_words seat second before c.place_index-first-2.result c.self.inside.shape.weak_cells
+    ∙ ap (λ (y : Shape). each_from 0 y.weak_cells
+    (λ i. known_word seat (c.place_index-first-2.result + i))) kept))
+    (c.place_index-first-2.ensures ∙ ap (λ (y : Shape). place_at y (WeakCell 0)) kept)
+    c.requires.deferred

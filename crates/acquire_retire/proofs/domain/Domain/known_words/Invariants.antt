@@ -1,0 +1,12 @@
+use Rattle.std.proofs.Common.{◌≡◌, ℕ, ◌+◌, vec_capacity, vec_len}
+use Rattle.core_events.specs.Shows.{each_from}
+use Rattle.acquire_retire.specs.Wholes.{IsSame, known_word}
+use Rattle.acquire_retire.proofs.domain.Domain.known_words.Given as goal
+
+abbrev pub invariant-loop-i : goal.invariant-loop-i
+invariant-loop-i g l = record {
+  same : IsSame l.fn.seat l.seat;
+  words : l.words.items ≡ each_from 0 l.i (λ i. known_word l.fn.seat (l.first + i));
+  count : vec_len l.words ≡ l.i;
+  capacity : vec_capacity l.words ≡ l.count;
+}

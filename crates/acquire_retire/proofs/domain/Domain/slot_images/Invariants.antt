@@ -1,0 +1,14 @@
+use Rattle.std.proofs.Common.{◌≡◌, ℕ, vec_capacity, vec_len}
+use Rattle.plain_state.specs.Images.{image_at}
+use Rattle.core_events.specs.Shows.{each_from}
+use Rattle.acquire_retire.specs.Wholes.{IsSame, known_state}
+use Rattle.acquire_retire.proofs.domain.Domain.slot_images.Given as goal
+
+abbrev pub invariant-loop-slot : goal.invariant-loop-slot
+invariant-loop-slot g l = record {
+  same : IsSame l.fn.seat l.seat;
+  images : l.images.items ≡ each_from 0 l.slot
+      (λ x. image_at (known_state l.fn.self l.fn.seat) (record { 0 = x }));
+  count : vec_len l.images ≡ l.slot;
+  capacity : vec_capacity l.images ≡ l.fn.self.shape.slots;
+}
