@@ -115,8 +115,8 @@ each_of f i (suc n) (x ∷ xs) size each =
     let at : i + 0 ≡ i = omega arith in
     let head : x ≡ f i = each 0 (omega arith) ∙ ap f at in
     let tail : xs ≡ each_from (i + 1) n f = each_of f (i + 1) n xs (omega arith)
-        (λ k h. let next : i + suc k ≡ i + 1 + k = omega arith in
-        each (suc k) (omega arith) ∙ ap f next) in
+    (λ k h. let next : i + suc k ≡ i + 1 + k = omega arith in
+    each (suc k) (omega arith) ∙ ap f next) in
     λ j. head j ∷ tail j
 
 pub all_each : (f : ℕ → ℕ) (n : ℕ) (xs : List ℕ) → length xs ≡ n

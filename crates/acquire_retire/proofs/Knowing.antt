@@ -105,10 +105,10 @@ module _ {P V : Type 0} (law : P → Plain → List V → Type 0) (first : P →
   read_requires table here inside e same kept in_domain =
       let count = in_domain.words ∙ ap (λ (x : DomainState P). word_count x.shape) same in
       let T : DomainState P → Type 0 = λ x. Allows (Kept (law x.protocol) (first x.protocol) fits
-          x.shape x.quotas) e.table.slots seat.id seat.me word (λ w. w)
-          (λ w new. HasRead fits d.shape d.quotas word w seat.me.0 new.0 × (new.1 ≡ seat.me.1)) in
+      x.shape x.quotas) e.table.slots seat.id seat.me word (λ w. w)
+      (λ w new. HasRead fits d.shape d.quotas word w seat.me.0 new.0 × (new.1 ≡ seat.me.1)) in
       let r = subst T (sym same) (reads (law d.protocol) (first d.protocol) fits d.shape d.quotas
-          e.table.slots seat.id word seat.me here) in (
+      e.table.slots seat.id word seat.me here) in (
         table ∙ sym (ap (λ (x : DomainState P). x.table) same),
         omega arith,
         λ s k len at fit.

@@ -29,27 +29,28 @@ use Rattle.acquire_retire.proofs.Knowing.{found_dying, found_entries, found_law,
 module _ {P V : Type 0} (law : P → Plain → List V → Type 0) (first : P → ℕ → V)
     (fits : List ℕ → Type 0) (joined : P → V → V → V) (gone : V)
     (leave : (it : P) → KeptByLeave (law it) (joined it) gone) (d : DomainState P)
-    (site : Option (DomainState P)) (is : site ≡ Some d) (root v : TableSeat (Unit {0}) (SeatView V))
-    (may : MayJoin d root v) where
+    (site : Option (DomainState P)) (is : site ≡ Some d)
+    (root v : TableSeat (Unit {0}) (SeatView V)) (may : MayJoin d root v) where
   -- what the table requires where seat 0 takes over what another has
-  pub join_requires : (e : DomainState P) → e ≡ d → (kept : Shape) → IsDomain e.table e.shape e.quotas kept
+  pub join_requires : (e : DomainState P) → e ≡ d → (kept : Shape)
+      → IsDomain e.table e.shape e.quotas kept
       → (root.table_id ≡ e.table) × (v.table_id ≡ e.table) × (v.me.1 ≡ []) × (0 < e.table.words)
-      × Joins (Kept (law e.protocol) (first e.protocol) fits e.shape e.quotas) root.id root.me.0 v.id
-      v.me.0 (joined_in joined site root.me.0 v.me.0) (gone_view gone)
+      × Joins (Kept (law e.protocol) (first e.protocol) fits e.shape e.quotas) root.id root.me.0
+      v.id v.me.0 (joined_in joined site root.me.0 v.me.0) (gone_view gone)
   join_requires e same kept in_domain =
       let count = in_domain.words in
       let table = sym (ap (λ (x : DomainState P). x.table) same) in
       let T : DomainState P × Option (DomainState P) → Type 0 = λ x.
-          Joins (Kept (law x.0.protocol) (first x.0.protocol) fits x.0.shape x.0.quotas) root.id
-          root.me.0 v.id v.me.0 (joined_in joined x.1 root.me.0 v.me.0) (gone_view gone) in (
+      Joins (Kept (law x.0.protocol) (first x.0.protocol) fits x.0.shape x.0.quotas) root.id
+      root.me.0 v.id v.me.0 (joined_in joined x.1 root.me.0 v.me.0) (gone_view gone) in (
         may.tables.0 ∙ table,
         may.tables.1 ∙ table,
         may.seated.1.carries,
         omega arith,
         subst T (λ i. (sym same i, sym is i))
-        (leaves (law d.protocol) (first d.protocol) fits d.shape d.quotas (joined d.protocol) gone
-        (leave d.protocol) root.id v.id root.me.0 v.me.0 may.seated.0.here may.seated.1.here may.first
-        may.may.0 may.may.1),
+            (leaves (law d.protocol) (first d.protocol) fits d.shape d.quotas (joined d.protocol) gone
+            (leave d.protocol) root.id v.id root.me.0 v.me.0 may.seated.0.here may.seated.1.here
+            may.first may.may.0 may.may.1),
       )
 
 -- what seat 0 stores when it has taken over what the other stores
@@ -68,7 +69,7 @@ pub may_join : {P V : Type 0} (d : DomainState P) (root v : TableSeat (Unit {0})
     → MayJoin d root v
 may_join {V = V} d root v r w root_is is root_seated seated of first may =
     let T : SeatState V × SeatState V → Type 0 = λ x. (IsOf d x.0 × IsOf d x.1)
-        × (x.0.view.core.seat ≡ 0) × (CanLeave x.0.view.core × CanLeave x.1.view.core) in
+    × (x.0.view.core.seat ≡ 0) × (CanLeave x.0.view.core × CanLeave x.1.view.core) in
     let t = subst T (λ i. (sym root_is i, sym is i)) (of, first, may) in record {
       tables = (t.0.0.0, t.0.1.0);
       seated = (root_seated, seated);
@@ -100,10 +101,13 @@ module _ {P V : Type 0} (d : DomainState P) (fits : List ℕ → Type 0) (joined
   stored_both : stored both ≡ taken (stored root.me.0.core) (stored v.me.0.core)
   stored_both =
       let owes : root.me.0.core.owed ≡ root.me.0.core.owed ++ v.me.0.core.owed =
-          may.may.0.1 ∙ sym (λ i. may.may.0.1 i ++ may.may.1.1 i) in
+      may.may.0.1 ∙ sym (λ i. may.may.0.1 i ++ may.may.1.1 i) in
       let left = length-append root.me.0.core.left_trails
-          (record { seat = v.me.0.core.seat; trail = v.me.0.core.trail } ∷ []) in
-      λ i. record (taken (stored root.me.0.core) (stored v.me.0.core)) { owed = owes i; left = left i }
+      (record { seat = v.me.0.core.seat; trail = v.me.0.core.trail } ∷ []) in
+      λ i. record (taken (stored root.me.0.core) (stored v.me.0.core)) {
+        owed = owes i;
+        left = left i;
+      }
 
   module _ (s t : Stored) (batch_room seen_room dying_room : ℕ) (stores : s ≡ stored root.me.0.core)
       (other_stores : t ≡ stored v.me.0.core)
@@ -114,12 +118,13 @@ module _ {P V : Type 0} (d : DomainState P) (fits : List ℕ → Type 0) (joined
     room_after : new.me.0.core.room ≤ batch_room
     room_after =
         let most = found_room fits d.shape d.quotas new.me.0 0 join.word join.found inside
-            root_after in
+        root_after in
         let all = rooms.root may.first in
         let same = ap (λ (z : Shape). z.seats * room_of z) may.shape in omega arith
 
     -- all that both have to give up finds room
-    pub entries_fit : length s.retired + length s.owed + (length t.retired + length t.owed) ≤ batch_room
+    pub entries_fit : length s.retired + length s.owed + (length t.retired + length t.owed)
+        ≤ batch_room
     entries_fit =
         let few = found_entries fits d.shape d.quotas new.me.0 0 join.word join.found inside in
         let room = room_after in
@@ -140,7 +145,7 @@ module _ {P V : Type 0} (d : DomainState P) (fits : List ℕ → Type 0) (joined
     pub left_fits : s.left + 1 < 2 ^ 32
     left_fits =
         let few = found_trails fits d.shape d.quotas new.me.0 0 join.word join.found inside
-            root_after in
+        root_after in
         let left = ap (λ (x : Stored). x.left) stores_after in
         let most = join.found.shape.1 in omega arith
 

@@ -68,15 +68,15 @@ opened_seated first z qs n opened shape quotas there = record {
 }
 
 -- the sizes of a domain are in their ranges
-pub in_ranges : {P : Type 0} (d e : DomainState P) (kept : Shape) → e ≡ d → IsDomain e.table e.shape e.quotas kept
-    → IsShape d.shape × AreQuotas d.shape d.quotas
+pub in_ranges : {P : Type 0} (d e : DomainState P) (kept : Shape) → e ≡ d
+    → IsDomain e.table e.shape e.quotas kept → IsShape d.shape × AreQuotas d.shape d.quotas
 in_ranges {P = P} d e kept same in_domain =
     subst (λ (x : DomainState P). IsShape x.shape × AreQuotas x.shape x.quotas) same
     (in_domain.shape, in_domain.quotas)
 
 module _ {P V : Type 0} where
-  module _ (first : ℕ → V) (d : DomainState P) (ranges : IsShape d.shape × AreQuotas d.shape d.quotas)
-      (n : ℕ) (s : TableSeat (Unit {0}) (SeatView V)) where
+  module _ (first : ℕ → V) (d : DomainState P)
+      (ranges : IsShape d.shape × AreQuotas d.shape d.quotas) (n : ℕ) (s : TableSeat (Unit {0}) (SeatView V)) where
     pub first_seated : IsFirst first d n s → IsSeated s.me
     first_seated is = subst IsSeated (sym is.1)
         (opened_seated first d.shape d.quotas 0 n ranges.0 ranges.1

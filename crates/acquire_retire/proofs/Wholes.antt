@@ -64,7 +64,7 @@ module _ {V : Type 0} (law : Plain → List V → Type 0) (first : ℕ → V) (f
       let says = true_of z qs s k id v at here in
       let so = kept_sound z qs s k in
       let shape = ap (λ (u : CoreView). u.shape) says.core
-          ∙ (so.seats id (in_seats z qs s k id v at)).same_shape in
+      ∙ (so.seats id (in_seats z qs s k id v at)).same_shape in
       let count = clients_length first z.seats s.views k.few.1 in
       let length_is = ap length first_client.1 in record {
         state = shows z k.core;
@@ -86,10 +86,10 @@ pub closed_last : {P V : Type 0} (law : P → Plain → List V → Type 0) (firs
     → IsLast fits (law d.protocol) d.shape.seats r.view
 closed_last {P = P} {V = V} law first fits d e same seat r is seated alone s seen =
     let T : DomainState P × SeatState V → Type 0 = λ x.
-        IsAlone x.1.view → IsLast fits (law x.0.protocol) x.0.shape.seats x.1.view in
+    IsAlone x.1.view → IsLast fits (law x.0.protocol) x.0.shape.seats x.1.view in
     subst T (λ i. (same i, is i))
-    (λ here. last (law e.protocol) (first e.protocol) fits e.shape e.quotas s seen.0 seat.id seat.me.0
-    seen.1 seated.here here.0 (seated.knows here)) alone
+    (λ here. last (law e.protocol) (first e.protocol) fits e.shape e.quotas s seen.0 seat.id
+    seat.me.0 seen.1 seated.here here.0 (seated.knows here)) alone
 
 -- an image of the state that a seat knows is one of what clauses see of the seat
 pub whole_image : {P V : Type 0} (d : DomainState P) (fits : List ℕ → Type 0)
@@ -98,13 +98,13 @@ pub whole_image : {P V : Type 0} (d : DomainState P) (fits : List ℕ → Type 0
     → IsImage (known_state d seat) heap → IsWholeImage fits r.view heap
 whole_image {V = V} d fits seat r is shape k heap image =
     let T : SeatState V → Type 0 = λ x.
-        x.view.core.shape ≡ d.shape → IsWholeImage fits x.view heap in
+    x.view.core.shape ≡ d.shape → IsWholeImage fits x.view heap in
     subst T is
     (λ same. record {
       state = known_state d seat;
       knows = known_is seat.me.0.whole (KnowsState fits seat.me.0 (known_state d seat))
-          (λ all e. knows_state fits d.shape (known_core seat.me.0) seat.me.0 all same k.sound k.fit e
-          (sym (ap core_known e))) k.knows;
+          (λ all e. knows_state fits d.shape (known_core seat.me.0) seat.me.0 all same k.sound k.fit
+          e (sym (ap core_known e))) k.knows;
       image = image;
     }) shape
 

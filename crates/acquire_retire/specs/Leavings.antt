@@ -11,7 +11,8 @@ use Rattle.acquire_retire.specs.Seats.{IsSeated, SeatState}
 
 module _ {P V : Type 0} where
   -- seat 0 takes over what the seat has, in the domain that was named
-  abbrev pub joined_in : (P → V → V → V) → Option (DomainState P) → SeatView V → SeatView V → SeatView V
+  abbrev pub joined_in : (P → V → V → V) → Option (DomainState P) → SeatView V → SeatView V
+      → SeatView V
   joined_in joined None root v = root
   joined_in joined (Some d) root v = joined_view (joined d.protocol) root v
 
@@ -34,7 +35,7 @@ module _ {P V : Type 0} where
     pub found : FoundIn fits d.shape d.quotas new.me.0 0 word
 
 module _ {V : Type 0} where
-  -- seat 0 has taken over what a seat had that left, and it knows the whole core exactly where it is
+  -- seat 0 has taken over what a seat had that left, and knows the whole core exactly where it is
   -- alone now
   pub record TookOver (joined : V → V → V) (root v new : SeatState V) : Type 0 where
     pub table : new.table ≡ root.table

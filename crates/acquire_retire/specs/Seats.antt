@@ -53,8 +53,8 @@ stored v = record {
   left = length v.left_trails;
 }
 
--- there is room for all that it may have to store: at seat 0 for what all seats may retire, since it
--- takes over from those that leave
+-- there is room for all that it may have to store: at seat 0 for what all seats may retire, since
+-- it takes over from those that leave
 pub record HasRooms (v : CoreView) (batch_room seen_room dying_room : ℕ) : Type 0 where
   pub batch : v.room ≤ batch_room
   pub root : v.seat ≡ 0 → v.shape.seats * room_of v.shape ≤ batch_room

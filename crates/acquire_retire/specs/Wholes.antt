@@ -28,8 +28,8 @@ abbrev pub known_core : {V : Type 0} → SeatView V → Core
 known_core v = core_known v.whole
 
 module _ {P V : Type 0} where
-  -- the bare seat is of the domain and knows the whole core: that is sound, its payloads fit, and the
-  -- seat's half of it is the view's
+  -- the bare seat is of the domain and knows the whole core: that is sound, its payloads fit, and
+  -- the seat's half of it is the view's
   pub record KnowsCore (d : DomainState P) (fits : List ℕ → Type 0)
       (s : TableSeat (Unit {0}) (SeatView V)) : Type 0 where
     pub table : s.table_id ≡ d.table

@@ -47,7 +47,8 @@ impl<P: Protocol> Domain<P> {
         seat: atomic_table::Seat<(), SeatView<P::View>>,
     )
         requires { MayJoin self.now root.old seat }
-        ensures { HasJoined self.now P.Kind.fits (P.joined self.now.protocol) root.old seat root.new }
+        ensures { HasJoined self.now P.Kind.fits (P.joined self.now.protocol)
+            root.old seat root.new }
     {
         self.join_as::<Brand>(root, seat);
         let _base = self.read(root, 0);

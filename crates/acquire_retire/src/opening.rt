@@ -72,7 +72,7 @@ fn new_seat<W>(
 
 impl<P: Protocol> Domain<P> {
     /// The domain in which nothing has happened, and the bare seat 0.
-    fn found(
+    fn begin(
         alloc: Global,
         shape: Shape,
         quotas: &[Quota],
@@ -195,7 +195,7 @@ pub fn open_domain<P: Protocol + Drop>(
     if let Some(field) = first_bad(&shape, quotas) {
         return Err(OpenError::BadShape(field));
     }
-    let (domain, root) = Domain::found(alloc, shape, quotas, protocol)?;
+    let (domain, root) = Domain::begin(alloc, shape, quotas, protocol)?;
     let seats = domain.open_seats(alloc, root, quotas)?;
     Ok((domain, seats))
 }

@@ -46,8 +46,8 @@ module _ {V : Type 0} (first : ℕ → V) (seats : ℕ) where
       let c = length-map-range_with_len first (length views) (seats - length views) in
       omega arith
 
-  pub client_found : (views : List (SeatView V)) (i : ℕ) (v : SeatView V) → get_elem? views i ≡ some v
-      → get_elem? (clients first seats views) i ≡ some v.client
+  pub client_found : (views : List (SeatView V)) (i : ℕ) (v : SeatView V)
+      → get_elem? views i ≡ some v → get_elem? (clients first seats views) i ≡ some v.client
   client_found views i v at = at_longer (map client_of views) (rest_from (length views)) i v.client
       (at_map client_of views i v at)
 

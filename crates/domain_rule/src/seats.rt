@@ -43,8 +43,8 @@ pub fn leave_keeps<P: Protocol>()
         (joined_view (P.joined it) v w) (gone_view P.gone) }
 {}
 
-/// A seat keeps it where it reads a word. What its view says is so of the state in which it read, and it knows the whole
-/// core from then on exactly where it is alone.
+/// A seat keeps it where it reads a word. What its view says is so of the state in which it read, and from then on it
+/// knows the whole core exactly where it is alone.
 pub fn reading_keeps<P: Protocol>()
     ensures { (it : P) (z : Shape) (qs : List Quota) (slots id word : ℕ)
         (me : Me (Unit {0}) (SeatView P.View)) → me.0.gone ≡ false

@@ -8,5 +8,5 @@ returns-clause-words g c =
     let f : ℕ → ℕ = λ i. known_word c.args.seat.now (c.args.first + i) in
     let all = c.loop-i-test.false in
     let each : (k : ℕ) → k < 16 → get_or c.loop-i.payload k 0 ≡ f k =
-        λ k h. c.loop-i.invariant.words k (omega arith) in
+    λ k h. c.loop-i.invariant.words k (omega arith) in
     all_each f 16 c.loop-i.payload c.loop-i.invariant.size each

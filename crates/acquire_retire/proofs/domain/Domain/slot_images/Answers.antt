@@ -9,10 +9,10 @@ use Rattle.acquire_retire.proofs.domain.Domain.slot_images.Goals as goal
 pub loop-slot-preserved : goal.loop-slot-preserved
 loop-slot-preserved g c =
     let f : ℕ → SlotImage = λ x.
-        image_at (known_state c.args.self.now c.args.seat.now) (record { 0 = x }) in
+    image_at (known_state c.args.self.now c.args.seat.now) (record { 0 = x }) in
     let is : c.slot_image.result ≡ f c.loop-slot.slot = c.slot_image.ensures.image
-        ∙ ap (λ (p : Plain). image_at p (record { 0 = c.loop-slot.slot }))
-        (same_state c.args.seat.now c.loop-slot.seat c.loop-slot.invariant.same c.args.self.now) in
+    ∙ ap (λ (p : Plain). image_at p (record { 0 = c.loop-slot.slot }))
+    (same_state c.args.seat.now c.loop-slot.seat c.loop-slot.invariant.same c.args.self.now) in
     record {
       same = search rules;
       images = one_each f _ _ _ _ c.push_reserved.ensures.items c.loop-slot.invariant.images is;

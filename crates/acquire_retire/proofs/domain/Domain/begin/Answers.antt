@@ -1,7 +1,7 @@
 use Rattle.std.proofs.Common.{◌≡◌, rules}
 use Rattle.core_events.specs.Words.{first_words}
 use Rattle.acquire_retire.proofs.Openings.{begun_domain, begun_kept}
-use Rattle.acquire_retire.proofs.domain.Domain.found.Goals as goal
+use Rattle.acquire_retire.proofs.domain.Domain.begin.Goals as goal
 
 pub of_words-requires : goal.of_words-requires
 of_words-requires g c =
