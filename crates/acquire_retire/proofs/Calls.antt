@@ -1,5 +1,5 @@
 -- What a call of a seat makes of the seat, from the atomic step that it makes.
-use Rattle.std.proofs.Common.{◌≡◌, ℕ, Bool, true, false, List, [], ◌∷◌, ap, sym, ◌∙◌, subst, arith}
+use Rattle.std.proofs.Common.{◌≡◌, ℕ, ◌*◌, ◌≤◌, Bool, true, false, List, [], ◌∷◌, ap, sym, ◌∙◌, subst, arith}
 use Rattle.std.specs.Prelude.{◌==◌, if◌then◌else◌}
 use Rattle.atomic_table.specs.declared.shared.Seat.{Seat as TableSeat}
 use Rattle.plain_state.specs.declared.act.PlainAct.{PlainAct}
@@ -17,7 +17,7 @@ use Rattle.core_events.specs.declared.view.Note.{Note}
 use Rattle.core_events.specs.declared.view.Note.TheVariants as note
 use Rattle.core_events.specs.ShownSteps.{ejects, releases, shown_act}
 use Rattle.core_events.specs.Steps.{May, answer, is_last, moved}
-use Rattle.core_events.specs.Views.{note_of, slot_of}
+use Rattle.core_events.specs.Views.{note_of, room_of, slot_of}
 use Rattle.core_events.specs.Words.{ZERO, has_help}
 use Rattle.domain_rule.specs.declared.view.SeatView.{SeatView}
 use Rattle.domain_rule.specs.Told.{FitsStart, IsOwn}
@@ -87,6 +87,8 @@ module _ {P V : Type 0} (d : DomainState P) where
           stores = ap f stores ∙ sym (ap (λ (k : Stored × ℕ). k.0) after);
           rooms = record {
             batch = omega (arith, rooms.batch);
+            root = λ first. subst (λ (z : Shape). z.seats * room_of z ≤ batch_room) (sym shape)
+                (rooms.root (sym step.told.law.number ∙ first));
             seen = omega (arith, rooms.seen);
             dying = omega (arith, rooms.dying);
           };

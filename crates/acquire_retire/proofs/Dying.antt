@@ -68,7 +68,7 @@ few_once n xs range once =
     let len = length_below n xs range in
     let most = below_most n (λ i. times (slot i) xs) (λ i. once (slot i)) in omega arith
 
-few_dying_in : (z : Shape) (c : Core) (n : ℕ) → Sound z c → n < length c.views
+pub few_dying_in : (z : Shape) (c : Core) (n : ℕ) → Sound z c → n < length c.views
     → length (view_at c n).dying ≤ z.slots
 few_dying_in z c n so hn = few_once z.slots (view_at c n).dying range once
   where

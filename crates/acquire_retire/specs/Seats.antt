@@ -10,6 +10,7 @@ use Rattle.core_events.specs.declared.view.Note.{Note}
 use Rattle.core_events.specs.declared.view.Phase.{Phase}
 use Rattle.core_events.specs.Good.{SeatLaw}
 use Rattle.core_events.specs.Runs.{IsShape}
+use Rattle.core_events.specs.Views.{room_of}
 use Rattle.eject_scan.specs.Seen.{announcements}
 use Rattle.domain_rule.specs.declared.view.SeatView.{SeatView}
 use Rattle.domain_rule.specs.Views.{KnowsAll}
@@ -52,9 +53,11 @@ stored v = record {
   left = length v.left_trails;
 }
 
--- there is room for all that it may have to store
+-- there is room for all that it may have to store: at seat 0 for what all seats may retire, since it
+-- takes over from those that leave
 pub record HasRooms (v : CoreView) (batch_room seen_room dying_room : ℕ) : Type 0 where
   pub batch : v.room ≤ batch_room
+  pub root : v.seat ≡ 0 → v.shape.seats * room_of v.shape ≤ batch_room
   pub seen : seen_room ≡ 4 * v.shape.seats
   pub dying : v.shape.slots ≤ dying_room
 

@@ -19,18 +19,27 @@
 
 mod aim;
 mod atomics;
+mod closing;
 mod collecting;
 mod counters;
 mod domain;
+mod errors;
 mod exchanging;
 mod filling;
+mod leaving;
+mod opening;
 mod payment;
 mod protecting;
+mod reading;
 mod seat;
+mod site;
 mod splitting;
+mod standing;
 mod weak_counters;
 
 pub use core_events::{EventPlace, Kind, Outcome, Quota, Shape, ShapeField, SlotId};
 pub use domain::Domain;
+pub use errors::OpenError;
+pub use opening::open_domain;
 pub use payment::{Payment, Work};
 pub use seat::{Seat, SeatOf};

@@ -2,7 +2,6 @@ pub mod FirstBad
 pub mod InRange
 pub mod Leaving
 pub mod Replaying
-pub mod Slots
 pub mod Starting
 pub mod Starts
 pub mod Stays

@@ -20,8 +20,6 @@
 
 mod errors;
 mod events;
-mod fields;
-mod laws;
 mod machine;
 mod replays;
 mod seats;
@@ -37,7 +35,7 @@ mod words;
 pub use core_events::{
     Act, Event, EventPlace, Kind, Note, Outcome, Phase, Quota, Shape, ShapeField, SlotId,
 };
+pub use core_parts::one_first_bad;
 pub use core_seats::SeatView;
 pub use errors::{ReplayError, StartError, StepError};
-pub use laws::one_first_bad;
 pub use machine::Core;

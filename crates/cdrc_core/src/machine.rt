@@ -4,14 +4,14 @@ ghost use Rattle.core_events.specs.declared.shape.ShapeField.{ShapeField};
 ghost use Rattle.core_events.specs.Counts.{strong, weak};
 ghost use Rattle.core_events.specs.Good.{Good};
 ghost use Rattle.core_events.specs.Runs.{AreQuotas, Enabled, IsShape, after, outcome_of, start, view_at};
-ghost use Rattle.cdrc_core.specs.Fields.{IsFirstBad};
+ghost use Rattle.core_parts.specs.Fields.{IsFirstBad};
 ghost use Rattle.cdrc_core.specs.declared.errors.StartError.TheVariants.{BadShape};
 ghost use Rattle.cdrc_core.specs.declared.errors.StepError.TheVariants.{NotEnabled, OutOfMemory};
 
 use crate::errors::{StartError, StepError};
-use crate::fields::first_bad;
 use crate::table::Table;
 use core_events::{Event, Outcome, Quota, Shape, SlotId};
+use core_parts::first_bad;
 use core_seats::SeatView;
 use std::alloc::Global;
 use std::marker::Model;

@@ -6,8 +6,9 @@ ghost use Rattle.core_law.specs.Sound.{Sound};
 ghost use Rattle.cdrc_core.specs.State.{State};
 
 use crate::seats::first_seats;
-use crate::words::{first_words, slot_index};
+use crate::words::slot_index;
 use core_events::{Quota, Shape, SlotId};
+use core_parts::first_words;
 use core_seats::SeatView;
 use out_of_memory::OutOfMemory;
 use std::alloc::Global;

@@ -1,40 +1,17 @@
-//! The words of a core: those at the start, and what becomes of one.
-ghost use Rattle.std.specs.Prelude.{◌≡◌, IfOk, List};
+//! The words of a core: where they are, and what becomes of one.
+ghost use Rattle.std.specs.Prelude.{◌≡◌};
 ghost use Rattle.plain_state.specs.Steps.{word_of};
-ghost use Rattle.core_events.specs.Words.{code, first_words, slot_at};
+ghost use Rattle.core_events.specs.Words.{code, slot_at};
 ghost use Rattle.core_events.specs.Steps.{next};
-ghost use Rattle.core_events.specs.Runs.{IsShape};
 ghost use prog.Atomic.{either};
 
 use core_events::{Act, Kind, Shape, SlotId};
-use out_of_memory::OutOfMemory;
-use std::alloc::Global;
 
 /// The zero flag of a strong word, and the weak word of a free slot.
 const ZERO: u64 = 1 << 63;
 
 /// The help flag of a strong word.
 const HELP: u64 = 1 << 62;
-
-/// The words of a free slot: both counters, three fields and the payload.
-const FREE_SLOT: [u64; 21] = [
-    ZERO, ZERO, 0, 0, 0, 0, 0, 0, 0, 0, 0, 0, 0, 0, 0, 0, 0, 0, 0, 0, 0,
-];
-
-/// The words at the start, in the order of the table.
-pub fn first_words(alloc: Global, shape: &Shape) -> Result<Vec<u64>, OutOfMemory>
-    requires { IsShape shape.now }
-    ensures { IfOk result (λ words. words.items ≡ first_words shape.now) }
-{
-    let front = 1 + 4 * shape.seats as usize + shape.cells as usize + shape.weak_cells as usize;
-    let slots = shape.slots as usize;
-    let mut words = Vec::with_capacity(alloc, front + 21 * slots)?;
-    words.resize(front, 0)?;
-    for _slot in 0..slots {
-        words.extend_from_slice(&FREE_SLOT)?;
-    }
-    Ok(words)
-}
 
 /// Where the words of a slot begin: the strong one, the weak one, three fields, the payload.
 pub fn slot_index(shape: &Shape, slot: SlotId) -> usize

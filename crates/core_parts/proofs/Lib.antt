@@ -1,3 +1,5 @@
+pub mod FirstBad
+pub mod FirstWords
 pub mod Slots
 pub mod Snapshots
 pub mod Scans

@@ -1,8 +1,9 @@
 //! The parts of a seat's half of the table of events, as functions over plain values: what a word says, where a word
-//! is, the slot of a phase, the first copy in a list, and the split of what is retired.
+//! is, the slot of a phase, the first copy in a list, and the split of what is retired. Beside them, what a core and a
+//! running domain begin with: the test of their sizes, and the first words.
 //!
-//! Each answers what the definition of that name in `core_events` says; `core_seats` makes of them what a seat does.
-//! Nothing is promised of a word that its callers don't ask for.
+//! Each answers what the definition of that name in `core_events` says, and the test what `specs/Fields` says;
+//! `core_seats` makes of the others what a seat does. Nothing is promised of a word that its callers don't ask for.
 //!
 //! ```text
 //! let place = place_index(&shape, EventPlace::Cell(0));
@@ -10,12 +11,18 @@
 //! ```
 #![tactic(auto)]
 
+mod beginning;
+mod fields;
+mod laws;
 mod lists;
 mod phases;
 mod places;
 mod splitting;
 mod words;
 
+pub use beginning::first_words;
+pub use fields::first_bad;
+pub use laws::one_first_bad;
 pub use lists::{are_idle, has_slot, has_snapshot, take_first};
 pub use phases::{given_up, slot_in_phase};
 pub use places::{counter_index, kind_of, note_index, place_index, slot_index};

@@ -24,7 +24,7 @@ use Rattle.core_law.proofs.Always.{history_sound, is_leave}
 use Rattle.domain_rule.specs.Rule.{OthersLeft}
 
 -- 1 for a seat that has left
-abbrev gone : CoreView → ℕ
+abbrev pub gone : CoreView → ℕ
 gone v = if v.left then 1 else 0
 
 -- seat 0 is there, and has one trail for each seat that has left

@@ -46,11 +46,15 @@ module _ {V : Type 0} (first : ℕ → V) (seats : ℕ) where
       let c = length-map-range_with_len first (length views) (seats - length views) in
       omega arith
 
+  pub client_found : (views : List (SeatView V)) (i : ℕ) (v : SeatView V) → get_elem? views i ≡ some v
+      → get_elem? (clients first seats views) i ≡ some v.client
+  client_found views i v at = at_longer (map client_of views) (rest_from (length views)) i v.client
+      (at_map client_of views i v at)
+
   pub client_at : (views : List (SeatView V)) (i : ℕ) (v : SeatView V) (d : V)
       → get_elem? views i ≡ some v → get_or (clients first seats views) i d ≡ v.client
   client_at views i v d at = at_or (clients first seats views) i v.client d
-      (at_longer (map client_of views) (rest_from (length views)) i v.client
-      (at_map client_of views i v at))
+      (client_found views i v at)
 
   -- one seat's view is given anew
   pub clients_set : (views : List (SeatView V)) (i : ℕ) (w : SeatView V) → i < length views

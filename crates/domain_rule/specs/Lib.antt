@@ -2,3 +2,4 @@ pub mod Views
 pub mod Rule
 pub mod Told
 pub mod Opening
+pub mod Reading

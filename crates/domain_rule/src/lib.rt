@@ -6,8 +6,8 @@
 //! objects fit the protocol's kind, and the protocol's law holds of the plain state and the clients' views.
 //!
 //! `step_keeps` says that each event of a seat keeps the rule under every deed that is ready for it; `opening_keeps`,
-//! `split_keeps` and `leave_keeps` say so of the seats' coming and going. Nothing is promised about which step comes, or
-//! when.
+//! `split_keeps` and `leave_keeps` say so of the seats' coming and going, and `reading_keeps` of a load that is no event.
+//! Nothing is promised about which step comes, or when.
 #![tactic(auto)]
 
 mod charter;
@@ -17,5 +17,5 @@ mod view;
 
 pub use charter::{Charter, DomainRule};
 pub use laws::step_keeps;
-pub use seats::{learning_keeps, leave_keeps, opening_keeps, split_keeps};
+pub use seats::{leave_keeps, opening_keeps, reading_keeps, split_keeps};
 pub use view::{Known, SeatView, Whole};

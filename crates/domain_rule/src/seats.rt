@@ -1,5 +1,5 @@
 //! How seats come and go keeps the rule.
-ghost use Rattle.std.specs.Prelude.{ℕ, ◌≡◌, ◌<◌, false, List, [], Some};
+ghost use Rattle.std.specs.Prelude.{ℕ, ◌≡◌, ◌<◌, false, List, []};
 ghost use Rattle.atomic_table.specs.Table.{Allows, Joins, Me, Splits, opening};
 ghost use Rattle.core_events.specs.declared.shape.Shape.{Shape};
 ghost use Rattle.core_events.specs.declared.shape.Quota.{Quota};
@@ -7,10 +7,9 @@ ghost use Rattle.core_events.specs.Runs.{AreQuotas, IsShape};
 ghost use Rattle.core_events.specs.Steps.{CanLeave};
 ghost use Rattle.core_events.specs.Words.{first_words};
 ghost use Rattle.domain_rule.specs.declared.view.SeatView.{SeatView};
-ghost use Rattle.domain_rule.specs.declared.view.Whole.{Whole};
 ghost use Rattle.domain_rule.specs.Opening.{first_of, gone_view, joined_view, opened_more, opened_view};
+ghost use Rattle.domain_rule.specs.Reading.{HasRead};
 ghost use Rattle.domain_rule.specs.Rule.{Kept};
-ghost use Rattle.domain_rule.specs.Views.{IsAlone};
 
 use plain_protocol::Protocol;
 
@@ -38,10 +37,11 @@ pub fn leave_keeps<P: Protocol>()
         (joined_view (P.joined it) v w) (gone_view P.gone) }
 {}
 
-/// A seat that is alone may come to know the whole core, by a load of word 0.
-pub fn learning_keeps<P: Protocol>()
-    ensures { (it : P) (z : Shape) (qs : List Quota) (slots id : ℕ)
-        (me : Me (Unit {0}) (SeatView P.View)) → me.0.gone ≡ false → IsAlone me.0
-        → Allows (Kept (P.law it) (P.first it) P.Kind.fits z qs) slots id me 0 (λ w. w)
-        (λ w m. ((all : Whole) × (m.0 ≡ record me.0 { whole = Some all })) × (m.1 ≡ me.1)) }
+/// A seat keeps it where it reads a word. What its view says is so of the state in which it read, and it knows the whole
+/// core from then on exactly where it is alone.
+pub fn reading_keeps<P: Protocol>()
+    ensures { (it : P) (z : Shape) (qs : List Quota) (slots id word : ℕ)
+        (me : Me (Unit {0}) (SeatView P.View)) → me.0.gone ≡ false
+        → Allows (Kept (P.law it) (P.first it) P.Kind.fits z qs) slots id me word (λ w. w)
+        (λ w m. HasRead P.Kind.fits z qs word w me.0 m.0 × (m.1 ≡ me.1)) }
 {}

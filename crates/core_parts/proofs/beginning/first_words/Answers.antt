@@ -1,5 +1,5 @@
-use Rattle.cdrc_core.proofs.Slots.{one_more}
-use Rattle.cdrc_core.proofs.words.first_words.Goals as goal
+use Rattle.core_parts.proofs.FirstWords.{one_more}
+use Rattle.core_parts.proofs.beginning.first_words.Goals as goal
 
 pub loop-slot-preserved : goal.loop-slot-preserved
 loop-slot-preserved c =

@@ -1,5 +1,5 @@
-use Rattle.cdrc_core.proofs.FirstBad as lemma
-use Rattle.cdrc_core.proofs.laws.one_first_bad.Goals as goal
+use Rattle.core_parts.proofs.FirstBad as lemma
+use Rattle.core_parts.proofs.laws.one_first_bad.Goals as goal
 
 pub returns-clause-one : goal.returns-clause-one
 returns-clause-one c = lemma.one_bad

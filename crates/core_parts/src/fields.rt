@@ -1,7 +1,7 @@
 //! The test of a shape and its quotas.
 ghost use Rattle.std.specs.Prelude.{◌^◌, ◌≤◌, ◌↔◌, IsTrue, All, IfSome, IsNone};
 ghost use Rattle.core_events.specs.Runs.{AreQuotas, IsQuota, IsShape};
-ghost use Rattle.cdrc_core.specs.Fields.{IsFirstBad};
+ghost use Rattle.core_parts.specs.Fields.{IsFirstBad};
 
 use core_events::{Quota, Shape, ShapeField};
 

@@ -1,0 +1,189 @@
+-- Seat 0 takes over what a seat had that leaves.
+use Rattle.std.proofs.Common.{◌≡◌, ℕ, ◌+◌, ◌*◌, ◌^◌, ◌<◌, ◌≤◌, false, List, [], ◌∷◌, ◌++◌, length, refl, ap, sym, ◌∙◌, subst, arith, length-append}
+use Rattle.std.specs.Prelude.{Option, Some, None}
+use Rattle.atomic_table.specs.Table.{Joins}
+use Rattle.atomic_table.specs.declared.shared.Seat.{Seat as TableSeat}
+use Rattle.plain_state.specs.declared.slot.SlotId.{SlotId}
+use Rattle.plain_state.specs.State.{Plain}
+use Rattle.plain_protocol.specs.Laws.{KeptByLeave}
+use Rattle.core_events.specs.declared.act.Act.TheVariants as act
+use Rattle.core_events.specs.declared.outcome.Outcome.TheVariants as outcome
+use Rattle.core_events.specs.declared.shape.Shape.{Shape}
+use Rattle.core_events.specs.declared.view.CoreView.{CoreView}
+use Rattle.core_events.specs.Good.{SeatLaw}
+use Rattle.core_events.specs.Runs.{IsShape, taken_over}
+use Rattle.core_events.specs.Steps.{CanLeave, noted}
+use Rattle.core_events.specs.Views.{room_of}
+use Rattle.retire_batch.specs.Entries.{Entries}
+use Rattle.domain_rule.specs.declared.view.SeatView.{SeatView}
+use Rattle.domain_rule.specs.Opening.{gone_view, joined_view}
+use Rattle.domain_rule.specs.Rule.{Kept}
+use Rattle.domain_rule.proofs.Leaves.{leaves}
+use Rattle.acquire_retire.specs.Calls.{IsOf}
+use Rattle.acquire_retire.specs.Domains.{DomainState, IsDomain}
+use Rattle.acquire_retire.specs.Leavings.{HasJoined, MayJoin, joined_in}
+use Rattle.acquire_retire.specs.Seats.{HasRooms, IsSeat, IsSeated, SeatState, Stored, stored}
+use Rattle.acquire_retire.proofs.Calls.{value_of}
+use Rattle.acquire_retire.proofs.Knowing.{found_dying, found_entries, found_law, found_room, found_trails}
+
+module _ {P V : Type 0} (law : P → Plain → List V → Type 0) (first : P → ℕ → V)
+    (fits : List ℕ → Type 0) (joined : P → V → V → V) (gone : V)
+    (leave : (it : P) → KeptByLeave (law it) (joined it) gone) (d : DomainState P)
+    (site : Option (DomainState P)) (is : site ≡ Some d) (root v : TableSeat (Unit {0}) (SeatView V))
+    (may : MayJoin d root v) where
+  -- what the table requires where seat 0 takes over what another has
+  pub join_requires : (e : DomainState P) → e ≡ d → (kept : Shape) → IsDomain e.table e.shape e.quotas kept
+      → (root.table_id ≡ e.table) × (v.table_id ≡ e.table) × (v.me.1 ≡ []) × (0 < e.table.words)
+      × Joins (Kept (law e.protocol) (first e.protocol) fits e.shape e.quotas) root.id root.me.0 v.id
+      v.me.0 (joined_in joined site root.me.0 v.me.0) (gone_view gone)
+  join_requires e same kept in_domain =
+      let count = in_domain.words in
+      let table = sym (ap (λ (x : DomainState P). x.table) same) in
+      let T : DomainState P × Option (DomainState P) → Type 0 = λ x.
+          Joins (Kept (law x.0.protocol) (first x.0.protocol) fits x.0.shape x.0.quotas) root.id
+          root.me.0 v.id v.me.0 (joined_in joined x.1 root.me.0 v.me.0) (gone_view gone) in (
+        may.tables.0 ∙ table,
+        may.tables.1 ∙ table,
+        may.seated.1.carries,
+        omega arith,
+        subst T (λ i. (sym same i, sym is i))
+        (leaves (law d.protocol) (first d.protocol) fits d.shape d.quotas (joined d.protocol) gone
+        (leave d.protocol) root.id v.id root.me.0 v.me.0 may.seated.0.here may.seated.1.here may.first
+        may.may.0 may.may.1),
+      )
+
+-- what seat 0 stores when it has taken over what the other stores
+abbrev pub taken : Stored → Stored → Stored
+taken s t = record s {
+  retired = s.retired ++ t.retired;
+  owed = s.owed ++ t.owed;
+  dying = s.dying ++ t.dying;
+  left = s.left + 1;
+}
+
+-- two seats may join where what clauses see of them may
+pub may_join : {P V : Type 0} (d : DomainState P) (root v : TableSeat (Unit {0}) (SeatView V))
+    (r w : SeatState V) → value_of root ≡ r → value_of v ≡ w → IsSeated root.me → IsSeated v.me
+    → IsOf d r × IsOf d w → r.view.core.seat ≡ 0 → CanLeave r.view.core × CanLeave w.view.core
+    → MayJoin d root v
+may_join {V = V} d root v r w root_is is root_seated seated of first may =
+    let T : SeatState V × SeatState V → Type 0 = λ x. (IsOf d x.0 × IsOf d x.1)
+        × (x.0.view.core.seat ≡ 0) × (CanLeave x.0.view.core × CanLeave x.1.view.core) in
+    let t = subst T (λ i. (sym root_is i, sym is i)) (of, first, may) in record {
+      tables = (t.0.0.0, t.0.1.0);
+      seated = (root_seated, seated);
+      shape = t.0.0.1;
+      first = t.1;
+      may = t.2;
+    }
+
+module _ {P V : Type 0} (d : DomainState P) (fits : List ℕ → Type 0) (joined : V → V → V)
+    (root v new : TableSeat (Unit {0}) (SeatView V)) (may : MayJoin d root v)
+    (join : HasJoined d fits joined root v new) where
+  abbrev both : CoreView
+  both = noted (act.Leave v.me.0.core.seat) outcome.Plain (taken_over root.me.0.core v.me.0.core)
+
+  core_is : new.me.0.core ≡ both
+  core_is = ap (λ (u : SeatView V). u.core) join.view
+
+  inside : new.me.0.core.seat < d.shape.seats
+  inside =
+      let at = ap (λ (u : CoreView). u.seat) core_is in
+      let some_seat = join.found.shape.0 in omega arith
+
+  root_after : new.me.0.core.seat ≡ 0
+  root_after = ap (λ (u : CoreView). u.seat) core_is ∙ may.first
+
+  shape_after : new.me.0.core.shape ≡ d.shape
+  shape_after = ap (λ (u : CoreView). u.shape) core_is ∙ may.shape
+
+  stored_both : stored both ≡ taken (stored root.me.0.core) (stored v.me.0.core)
+  stored_both =
+      let owes : root.me.0.core.owed ≡ root.me.0.core.owed ++ v.me.0.core.owed =
+          may.may.0.1 ∙ sym (λ i. may.may.0.1 i ++ may.may.1.1 i) in
+      let left = length-append root.me.0.core.left_trails
+          (record { seat = v.me.0.core.seat; trail = v.me.0.core.trail } ∷ []) in
+      λ i. record (taken (stored root.me.0.core) (stored v.me.0.core)) { owed = owes i; left = left i }
+
+  module _ (s t : Stored) (batch_room seen_room dying_room : ℕ) (stores : s ≡ stored root.me.0.core)
+      (other_stores : t ≡ stored v.me.0.core)
+      (rooms : HasRooms root.me.0.core batch_room seen_room dying_room) where
+    stores_after : taken s t ≡ stored new.me.0.core
+    stores_after = (λ i. taken (stores i) (other_stores i)) ∙ sym (ap stored core_is ∙ stored_both)
+
+    room_after : new.me.0.core.room ≤ batch_room
+    room_after =
+        let most = found_room fits d.shape d.quotas new.me.0 0 join.word join.found inside
+            root_after in
+        let all = rooms.root may.first in
+        let same = ap (λ (z : Shape). z.seats * room_of z) may.shape in omega arith
+
+    -- all that both have to give up finds room
+    pub entries_fit : length s.retired + length s.owed + (length t.retired + length t.owed) ≤ batch_room
+    entries_fit =
+        let few = found_entries fits d.shape d.quotas new.me.0 0 join.word join.found inside in
+        let room = room_after in
+        let retired = ap (λ (x : Stored). length x.retired) stores_after in
+        let owed = ap (λ (x : Stored). length x.owed) stores_after in
+        let more = length-append s.retired t.retired in
+        let more_owed = length-append s.owed t.owed in omega arith
+
+    -- and so do the slots that they have ended
+    pub dying_fit : length s.dying + length t.dying ≤ dying_room
+    dying_fit =
+        let few = found_dying fits d.shape d.quotas new.me.0 0 join.word join.found inside in
+        let dying = ap (λ (x : Stored). length x.dying) stores_after in
+        let more = length-append s.dying t.dying in
+        let slots = ap (λ (z : Shape). z.slots) may.shape in
+        let room = rooms.dying in omega arith
+
+    pub left_fits : s.left + 1 < 2 ^ 32
+    left_fits =
+        let few = found_trails fits d.shape d.quotas new.me.0 0 join.word join.found inside
+            root_after in
+        let left = ap (λ (x : Stored). x.left) stores_after in
+        let most = join.found.shape.1 in omega arith
+
+    -- seat 0 is a seat still, and stores what its view has
+    pub taken_seat : (batch : Entries) (slots : List SlotId) (room : ℕ)
+        → batch ≡ record {
+          retired = s.retired ++ t.retired;
+          owed = s.owed ++ t.owed;
+          room = batch_room;
+        }
+        → slots ≡ s.dying ++ t.dying → dying_room ≤ room
+        → IsSeat new.me (record s {
+          retired = batch.retired;
+          owed = batch.owed;
+          dying = slots;
+          left = s.left + 1;
+        }) batch.room seen_room room
+    taken_seat batch slots room is dying more = record {
+      seated = record {
+        carries = join.carries ∙ may.seated.0.carries;
+        here = ap (λ (x : SeatView V). x.gone) join.view ∙ may.seated.0.here;
+        shape = subst IsShape (sym shape_after) join.found.shape;
+        there = subst (λ (z : Shape). new.me.0.core.seat < z.seats) (sym shape_after) inside;
+        law = subst (λ (z : Shape). SeatLaw z new.me.0.core.seat new.me.0.core) (sym shape_after)
+            (found_law fits d.shape d.quotas new.me.0 0 join.word join.found inside);
+        knows = join.knows.1;
+      };
+      stores = (λ i. record (taken s t) {
+        retired = (is i).retired;
+        owed = (is i).owed;
+        dying = dying i;
+      }) ∙ stores_after;
+      rooms = record {
+        batch = let few = room_after in let same = ap (λ (b : Entries). b.room) is in omega arith;
+        root = λ _. let all = rooms.root may.first in
+            let same = ap (λ (b : Entries). b.room) is in
+            let now = ap (λ (z : Shape). z.seats * room_of z) shape_after in
+            let was = ap (λ (z : Shape). z.seats * room_of z) may.shape in omega arith;
+        seen = let room = rooms.seen in
+            let now = ap (λ (z : Shape). z.seats) shape_after in
+            let was = ap (λ (z : Shape). z.seats) may.shape in omega arith;
+        dying = let room = rooms.dying in
+            let now = ap (λ (z : Shape). z.slots) shape_after in
+            let was = ap (λ (z : Shape). z.slots) may.shape in omega arith;
+      };
+    }

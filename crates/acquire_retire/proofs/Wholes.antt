@@ -1,0 +1,90 @@
+-- What a seat that is alone knows of the whole state.
+use Rattle.std.proofs.Common.{◌≡◌, ℕ, suc, false, List, [], ◌∷◌, length, ap, sym, ◌∙◌, subst, arith}
+use Rattle.std.specs.Prelude.{Some, IsSome}
+use Rattle.std.specs.Option.{option_map}
+use mathlib.Core.Option.{some, some-injective, some-ne-none}
+use lib.ListN.{get_elem?}
+use Rattle.atomic_table.specs.Table.{Seen, State}
+use Rattle.atomic_table.specs.declared.shared.Seat.{Seat as TableSeat}
+use Rattle.plain_state.specs.Fits.{AllFit}
+use Rattle.plain_state.specs.State.{Plain}
+use Rattle.core_events.specs.declared.shape.Shape.{Shape}
+use Rattle.core_events.specs.declared.shape.Quota.{Quota}
+use Rattle.core_events.specs.declared.view.CoreView.{CoreView}
+use Rattle.core_events.specs.Runs.{Core}
+use Rattle.core_events.specs.Shows.{shows}
+use Rattle.core_law.specs.Sound.{Sound}
+use Rattle.core_shows.proofs.Lawful.{shows_lawful}
+use Rattle.domain_rule.specs.declared.view.SeatView.{SeatView}
+use Rattle.domain_rule.specs.declared.view.Whole.{Whole}
+use Rattle.domain_rule.specs.Rule.{Kept, clients}
+use Rattle.domain_rule.specs.Views.{IsAlone, core_in}
+use Rattle.domain_rule.proofs.Padding.{client_found, clients_length}
+use Rattle.domain_rule.proofs.Reading.{known_is}
+use Rattle.domain_rule.proofs.Telling.{in_seats, is_root, kept_sound, true_of}
+use Rattle.acquire_retire.specs.Closings.{IsLast, KnowsState}
+use Rattle.acquire_retire.specs.Domains.{DomainState}
+use Rattle.acquire_retire.specs.Seats.{IsSeated, SeatState}
+use Rattle.acquire_retire.proofs.Calls.{value_of}
+
+split_first : {A : Type 0} (xs : List A) (a : A) → get_elem? xs 0 ≡ some a
+    → (rest : List A) × (xs ≡ a ∷ rest)
+split_first [] a e = absurd (some-ne-none a (sym e))
+split_first (x ∷ xs) a e = (xs, ap (λ y. y ∷ xs) (some-injective x a e))
+
+-- what a seat knows of a whole state that is sound
+pub knows_state : {V : Type 0} (fits : List ℕ → Type 0) (z : Shape) (c : Core) (v : SeatView V)
+    (all : Whole) → v.core.shape ≡ z → Sound z c → AllFit fits (shows z c) → v.whole ≡ Some all
+    → core_in all ≡ c → KnowsState fits v (shows z c)
+knows_state fits z c v all shape so fit knows same = record {
+  whole = ap (option_map (λ (w : Whole). shows v.core.shape (core_in w))) knows
+      ∙ (λ i. Some (shows (shape i) (same i)));
+  lawful = shows_lawful z c so;
+  fit = fit;
+}
+
+module _ {V : Type 0} (law : Plain → List V → Type 0) (first : ℕ → V) (fits : List ℕ → Type 0)
+    (z : Shape) (qs : List Quota) (s : State (Unit {0}) (SeatView V))
+    (k : Kept law first fits z qs s) (id : ℕ) (v : SeatView V) (at : get_elem? s.views id ≡ some v)
+    (here : v.gone ≡ false) (root : v.core.seat ≡ 0) where
+  abbrev all_clients : List V
+  all_clients = clients first z.seats s.views
+
+  first_client : (rest : List V) × (all_clients ≡ v.client ∷ rest)
+  first_client =
+      let first_seat = is_root z qs s k id v at here root in
+      split_first all_clients v.client
+      (client_found first z.seats s.views 0 v
+      (subst (λ (n : ℕ). get_elem? s.views n ≡ some v) first_seat at))
+
+  known_last : (all : Whole) → v.whole ≡ Some all → IsLast fits law z.seats v
+  known_last all knows =
+      let says = true_of z qs s k id v at here in
+      let so = kept_sound z qs s k in
+      let shape = ap (λ (u : CoreView). u.shape) says.core
+          ∙ (so.seats id (in_seats z qs s k id v at)).same_shape in
+      let count = clients_length first z.seats s.views k.few.1 in
+      let length_is = ap length first_client.1 in record {
+        state = shows z k.core;
+        knows = knows_state fits z k.core v all shape so k.fit knows (says.whole all knows).0;
+        others = first_client.0;
+        count = omega arith;
+        client = subst (law (shows z k.core)) first_client.1 k.client;
+      }
+
+  last : IsSome v.whole → IsLast fits law z.seats v
+  last = known_is v.whole (IsLast fits law z.seats v) known_last
+
+-- what a table that is closed with seat 0 tells of its last state
+pub closed_last : {P V : Type 0} (law : P → Plain → List V → Type 0) (first : P → ℕ → V)
+    (fits : List ℕ → Type 0) (d e : DomainState P) → e ≡ d
+    → (seat : TableSeat (Unit {0}) (SeatView V)) (r : SeatState V) → value_of seat ≡ r
+    → IsSeated seat.me → IsAlone r.view → (s : State (Unit {0}) (SeatView V))
+    → Seen (Kept (law e.protocol) (first e.protocol) fits e.shape e.quotas) seat.id seat.me.0 s
+    → IsLast fits (law d.protocol) d.shape.seats r.view
+closed_last {P = P} {V = V} law first fits d e same seat r is seated alone s seen =
+    let T : DomainState P × SeatState V → Type 0 = λ x.
+        IsAlone x.1.view → IsLast fits (law x.0.protocol) x.0.shape.seats x.1.view in
+    subst T (λ i. (same i, is i))
+    (λ here. last (law e.protocol) (first e.protocol) fits e.shape e.quotas s seen.0 seat.id seat.me.0
+    seen.1 seated.here here.0 (seated.knows here)) alone

@@ -1,0 +1,42 @@
+-- What callers see of seat 0 when another seat has left.
+use Rattle.std.specs.Prelude.{ℕ, ◌≡◌, ◌↔◌, List, Option, Some, None, IsSome}
+use Rattle.atomic_table.specs.declared.shared.Seat.{Seat as TableSeat}
+use Rattle.core_events.specs.Steps.{CanLeave}
+use Rattle.domain_rule.specs.declared.view.SeatView.{SeatView}
+use Rattle.domain_rule.specs.Opening.{joined_view}
+use Rattle.domain_rule.specs.Reading.{FoundIn}
+use Rattle.domain_rule.specs.Views.{IsAlone}
+use Rattle.acquire_retire.specs.Domains.{DomainState}
+use Rattle.acquire_retire.specs.Seats.{IsSeated, SeatState}
+
+module _ {P V : Type 0} where
+  -- seat 0 takes over what the seat has, in the domain that was named
+  abbrev pub joined_in : (P → V → V → V) → Option (DomainState P) → SeatView V → SeatView V → SeatView V
+  joined_in joined None root v = root
+  joined_in joined (Some d) root v = joined_view (joined d.protocol) root v
+
+  -- two bare seats of the domain, of which the first is seat 0, and the other may leave
+  pub record MayJoin (d : DomainState P) (root v : TableSeat (Unit {0}) (SeatView V)) : Type 0 where
+    pub tables : (root.table_id ≡ d.table) × (v.table_id ≡ d.table)
+    pub seated : IsSeated root.me × IsSeated v.me
+    pub shape : root.me.0.core.shape ≡ d.shape
+    pub first : root.me.0.core.seat ≡ 0
+    pub may : CanLeave root.me.0.core × CanLeave v.me.0.core
+
+  -- the bare seat 0 has taken over what the other had, and what its view says is so
+  pub record HasJoined (d : DomainState P) (fits : List ℕ → Type 0) (joined : V → V → V)
+      (root v new : TableSeat (Unit {0}) (SeatView V)) : Type 0 where
+    pub table : new.table_id ≡ root.table_id
+    pub carries : new.me.1 ≡ root.me.1
+    pub view : new.me.0 ≡ record (joined_view joined root.me.0 v.me.0) { whole = new.me.0.whole }
+    pub knows : IsSome new.me.0.whole ↔ IsAlone new.me.0
+    pub word : ℕ
+    pub found : FoundIn fits d.shape d.quotas new.me.0 0 word
+
+module _ {V : Type 0} where
+  -- seat 0 has taken over what a seat had that left, and it knows the whole core exactly where it is
+  -- alone now
+  pub record TookOver (joined : V → V → V) (root v new : SeatState V) : Type 0 where
+    pub table : new.table ≡ root.table
+    pub view : new.view ≡ record (joined_view joined root.view v.view) { whole = new.view.whole }
+    pub knows : IsSome new.view.whole ↔ IsAlone new.view

@@ -1,0 +1,24 @@
+//! How a domain ends.
+ghost use Rattle.core_events.specs.Steps.{CanLeave};
+ghost use Rattle.domain_rule.specs.Views.{IsAlone};
+ghost use Rattle.acquire_retire.specs.Calls.{IsOf};
+ghost use Rattle.acquire_retire.specs.Closings.{IsLast};
+
+use crate::domain::Domain;
+use crate::seat::{Seat, SeatOf};
+use plain_protocol::Protocol;
+
+impl<P: Protocol> Domain<P> {
+    /// Gives up the domain and seat 0, once every other seat has left. The client's law holds of the state that seat 0
+    /// knows, which is the last one.
+    pub fn close(self, root: Seat<P>)
+        requires seat { IsOf self root }
+        requires alone { IsAlone root.view }
+        requires may { CanLeave root.view.core }
+        ensures { IsLast P.Kind.fits (P.law self.protocol) self.shape.seats root.view }
+    {
+        let Domain { table, shape: _ } = self;
+        let SeatOf { seat, .. } = root;
+        table.close_with(seat).free();
+    }
+}

@@ -1,0 +1,201 @@
+//! How a domain is opened, with all its seats.
+ghost use Rattle.std.specs.Prelude.{ℕ, ◌≡◌, ◌↔◌, ◌+◌, ◌-◌, ◌*◌, ◌<◌, ◌≤◌, [], Option, Some, None, Err, IfOk, OnOk, vec_len, vec_capacity};
+ghost use Rattle.core_events.specs.declared.shape.ShapeField.{ShapeField};
+ghost use Rattle.core_events.specs.Runs.{AreQuotas, IsShape};
+ghost use Rattle.core_events.specs.Shows.{each_from};
+ghost use Rattle.core_events.specs.Views.{first_view, room_of};
+ghost use Rattle.core_parts.specs.Fields.{IsFirstBad};
+ghost use Rattle.domain_rule.specs.Opening.{opened_more};
+ghost use Rattle.acquire_retire.specs.declared.errors.OpenError.TheVariants.{BadShape};
+ghost use Rattle.acquire_retire.specs.Openings.{IsFirst, IsNew, begun_seat, newcomer, opened_seats};
+ghost use Rattle.acquire_retire.specs.Seats.{IsSeated};
+
+use crate::domain::Domain;
+use crate::errors::OpenError;
+use crate::seat::{Seat, SeatOf};
+use crate::site::Site;
+use atomic_table::{Split, Table};
+use core_events::{Note, Phase, Quota, Shape};
+use core_parts::{first_bad, first_words};
+use domain_rule::{Charter, SeatView};
+use eject_scan::Seen;
+use out_of_memory::OutOfMemory;
+use plain_protocol::Protocol;
+use retire_batch::Batch;
+use std::alloc::Global;
+use std::marker::{Brand, PhantomData};
+
+/// Seat 0 opens one more seat.
+pub(crate) struct Opens<P, B> {
+    marker: PhantomData<(P, B)>,
+}
+
+impl<P: Protocol, B: Site<P>> Split<SeatView<P::View>> for Opens<P, B> {
+    ghost left = { opened_more };
+
+    ghost right = { newcomer P.first B.site };
+}
+
+/// A seat that has done nothing, with room for all that it may have to store.
+fn new_seat<W>(
+    alloc: Global,
+    seat: atomic_table::Seat<(), SeatView<W>>,
+    shape: &Shape,
+    number: u32,
+    quota: Quota,
+    room: u32,
+) -> Result<SeatOf<W>, OutOfMemory>
+    requires seated { IsSeated seat.me }
+    requires new { seat.me.0.core ≡ first_view shape.now number quota }
+    requires room { room_of shape.now ≤ room }
+    requires root { number ≡ 0 → shape.now.seats * room_of shape.now ≤ room }
+    ensures { IfOk result (λ s. s ≡ record { table = seat.table_id; view = seat.me.0 }) }
+{
+    let batch = Batch::with_room(alloc, room)?;
+    let seen = Seen::with_room(alloc, 4 * shape.seats)?;
+    let dying = Vec::with_capacity(alloc, shape.slots as usize)?;
+    Ok(SeatOf {
+        seat,
+        number,
+        quota,
+        adds: 0,
+        makes: 0,
+        phase: Phase::Idle,
+        notes: [Note::Idle, Note::Idle, Note::Idle, Note::Idle],
+        batch,
+        seen,
+        read: 0,
+        dying,
+        left: 0,
+    })
+}
+
+impl<P: Protocol> Domain<P> {
+    /// The domain in which nothing has happened, and the bare seat 0.
+    fn found(
+        alloc: Global,
+        shape: Shape,
+        quotas: &[Quota],
+        protocol: P,
+    ) -> Result<(Domain<P>, atomic_table::Seat<(), SeatView<P::View>>), OutOfMemory>
+    where
+        P: Drop,
+        requires shape { IsShape shape }
+        requires quotas { AreQuotas shape quotas.now }
+        ensures domain { IfOk result (λ r. r.0 ≡ record {
+          table = r.0.table;
+          protocol = protocol;
+          shape = shape;
+          quotas = quotas.now;
+        }) }
+        ensures root { IfOk result (λ r. IsFirst (P.first protocol) r.0 1 r.1) }
+    {
+        let words = first_words(alloc, &shape)?;
+        let charter = Charter {
+            protocol,
+            shape,
+            quotas: quotas.to_vec(alloc)?,
+        };
+        let (table, root) = Table::of_words(alloc, words.as_slice(), &charter)?;
+        Ok((Domain { table, shape }, root))
+    }
+
+    fn open_another_as<B: Site<P>>(
+        &self,
+        root: &mut atomic_table::Seat<(), SeatView<P::View>>,
+    ) -> atomic_table::Seat<(), SeatView<P::View>>
+        requires site { B.site ≡ Some self.now }
+        requires root { IsFirst (P.first self.now.protocol) self.now root.old.me.0.opened root.old }
+        requires more { root.old.me.0.opened < self.now.shape.seats }
+        ensures root { IsFirst (P.first self.now.protocol) self.now
+            (root.old.me.0.opened + 1) root.new }
+        ensures seat { IsNew (P.first self.now.protocol) self.now root.old.me.0.opened result }
+    {
+        self.table.shared.split_seat::<Opens<P, B>>(root)
+    }
+
+    /// One more bare seat.
+    fn open_another(
+        &self,
+        root: &mut atomic_table::Seat<(), SeatView<P::View>>,
+    ) -> atomic_table::Seat<(), SeatView<P::View>>
+        requires root { IsFirst (P.first self.now.protocol) self.now root.old.me.0.opened root.old }
+        requires more { root.old.me.0.opened < self.now.shape.seats }
+        ensures root { IsFirst (P.first self.now.protocol) self.now
+            (root.old.me.0.opened + 1) root.new }
+        ensures seat { IsNew (P.first self.now.protocol) self.now root.old.me.0.opened result }
+    {
+        self.open_another_as::<Brand>(root)
+    }
+
+    /// The seats beside seat 0, in order, in a list with room for one more.
+    fn open_others(
+        &self,
+        alloc: Global,
+        root: &mut atomic_table::Seat<(), SeatView<P::View>>,
+        quotas: &[Quota],
+    ) -> Result<Vec<Seat<P>>, OutOfMemory>
+        requires root { IsFirst (P.first self.now.protocol) self.now 1 root.old }
+        requires quotas { quotas.now ≡ self.now.quotas }
+        ensures root { OnOk result
+            (IsFirst (P.first self.now.protocol) self.now self.now.shape.seats root.new) }
+        ensures others { IfOk result (λ others. others.items ≡ each_from 1
+            (self.now.shape.seats - 1) (begun_seat (P.first self.now.protocol) self.now)) }
+    {
+        let room = 4 * self.shape.seats + self.shape.batch;
+        let mut others = Vec::with_capacity(alloc, self.shape.seats as usize)?;
+        for number in 1..self.shape.seats {
+            let seat = self.open_another(root);
+            let quota = quotas[number as usize];
+            others.push_reserved(new_seat(alloc, seat, &self.shape, number, quota, room)?);
+        }
+        Ok(others)
+    }
+
+    /// All seats, in order.
+    fn open_seats(
+        &self,
+        alloc: Global,
+        mut root: atomic_table::Seat<(), SeatView<P::View>>,
+        quotas: &[Quota],
+    ) -> Result<Vec<Seat<P>>, OutOfMemory>
+        requires root { IsFirst (P.first self.now.protocol) self.now 1 root }
+        requires quotas { quotas.now ≡ self.now.quotas }
+        ensures { IfOk result (λ seats. seats.items
+            ≡ opened_seats (P.first self.now.protocol) self.now) }
+    {
+        let mut seats = self.open_others(alloc, &mut root, quotas)?;
+        let room = self.shape.seats * (4 * self.shape.seats + self.shape.batch);
+        let first = new_seat(alloc, root, &self.shape, 0, quotas[0], room)?;
+        seats.insert(0, first)?;
+        Ok(seats)
+    }
+}
+
+/// A domain in which nothing has happened, and its seats in order, one for each quota.
+///
+/// `BadShape` names the first field, in the order of `ShapeField`, that is out of its range. It takes all the memory
+/// that the domain ever needs.
+pub fn open_domain<P: Protocol + Drop>(
+    alloc: Global,
+    shape: Shape,
+    quotas: &[Quota],
+    protocol: P,
+) -> Result<(Domain<P>, Vec<Seat<P>>), OpenError>
+    ensures domain { IfOk result (λ r. r.0 ≡ record {
+      table = r.0.table;
+      protocol = protocol;
+      shape = shape;
+      quotas = quotas.now;
+    }) }
+    ensures seats { IfOk result (λ r. r.1.items ≡ opened_seats (P.first protocol) r.0) }
+    ensures ranges { OnOk result (IsShape shape × AreQuotas shape quotas.now) }
+    ensures bad { (f : ShapeField) → (result ≡ Err (BadShape f)) ↔ IsFirstBad shape quotas.now f }
+{
+    if let Some(field) = first_bad(&shape, quotas) {
+        return Err(OpenError::BadShape(field));
+    }
+    let (domain, root) = Domain::found(alloc, shape, quotas, protocol)?;
+    let seats = domain.open_seats(alloc, root, quotas)?;
+    Ok((domain, seats))
+}
