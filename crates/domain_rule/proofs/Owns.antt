@@ -1,9 +1,9 @@
 -- A seat's view tells the seat's own part of the plain state.
-use Rattle.std.proofs.Common.{◌≡◌, ⊎_elim, ℕ, zero, suc, ◌+◌, ◌<◌, Bool, true, false, List, [], ◌∷◌, length, get_or, drop, map, refl, ap, sym, ◌∙◌, arith}
+use Rattle.std.proofs.Common.{◌≡◌, ⊎_elim, ℕ, zero, suc, ◌+◌, ◌<◌, ◌≤◌, Bool, true, false, List, [], ◌∷◌, length, get_or, drop, map, refl, ap, sym, ◌∙◌, arith}
 use Rattle.std.specs.Prelude.{◌↔◌, ◌==◌, ◌&&◌, if◌then◌else◌, Option, Some, None}
 use Rattle.std.specs.List.{list_all}
 use Rattle.std.specs.Option.{option_map, is_some}
-use Rattle.std.proofs.lemmas.Bool.{cases_Bool}
+use Rattle.std.proofs.lemmas.Bool.{cases_Bool, cases_lt}
 use Rattle.std.proofs.lemmas.Bool.Decides.{nat_tests}
 use Rattle.std.proofs.Math.ListN.{get_or-map}
 use Rattle.plain_state.specs.declared.slot.PlainSlot.{PlainSlot}
@@ -16,7 +16,7 @@ use Rattle.core_events.specs.Runs.{Core, view_at}
 use Rattle.core_events.specs.Shows.{show_seat, shows}
 use Rattle.core_events.specs.Views.{no_view}
 use Rattle.core_law.specs.Sound.{Sound}
-use Rattle.core_shows.proofs.Bridge.{shown_seat}
+use Rattle.core_shows.proofs.Bridge.{shown_past, shown_seat, shown_slot}
 use Rattle.domain_rule.specs.declared.view.Known.{Known}
 use Rattle.domain_rule.specs.declared.view.SeatView.{SeatView}
 use Rattle.domain_rule.specs.declared.view.Whole.{Whole}
@@ -31,6 +31,13 @@ told_object p v s told =
     ap (λ (os : List Known). get_or os s.0 no_object) told
     ∙ get_or-map (λ (x : PlainSlot). known_of (object_of x)) p.slots s.0 new_slot in
     ap (λ (k : Known). record { life = k.life; payload = k.payload }) o
+
+-- each slot has 16 payload words
+pub shown_payload : (z : Shape) (c : Core) (s : SlotId) → length (slot_at (shows z c) s).payload ≡ 16
+shown_payload z c s = ⊎_elim
+    (λ (below : s.0 < z.slots). ap (λ (x : PlainSlot). length x.payload) (shown_slot z c s below))
+    (λ (past : z.slots ≤ s.0). ap (λ (x : PlainSlot). length x.payload) (shown_past z c s past))
+    (cases_lt s.0 z.slots)
 
 both : (a b : Bool) → (a && b) ≡ true → (a ≡ true) × (b ≡ true)
 both true b e = (refl, e)

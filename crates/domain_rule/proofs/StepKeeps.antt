@@ -37,7 +37,7 @@ use Rattle.domain_rule.proofs.Acts.{made_by_start}
 use Rattle.domain_rule.proofs.Counting.{others_left}
 use Rattle.domain_rule.proofs.Objects.{object_changes}
 use Rattle.domain_rule.proofs.Others.{fills_has, has_there, shown_there}
-use Rattle.domain_rule.proofs.Owns.{own_told, told_object}
+use Rattle.domain_rule.proofs.Owns.{own_told, shown_payload, told_object}
 use Rattle.domain_rule.proofs.Padding.{at_less, client_at, clients_length, clients_set}
 use Rattle.domain_rule.proofs.Step.{core_after, other_after, other_tells, own_tells, rest_may, stepped_view}
 use Rattle.domain_rule.proofs.Telling.{in_seats, kept_sound, number_of, true_of}
@@ -200,6 +200,8 @@ module _ {V : Type 0} (law : Plain → List V → Type 0) (first : ℕ → V) (g
           ∙ (object_changes (shows z c) (shows z d) n x step number
           (shown_there z c so x (there x had)) shown
           ∙ ap (changed_object step x) (sym (told.objects x had)));
+      payloads = λ x. ap (λ (o : Object). length o.payload) (told_object (shows z d) v' x refl)
+          ∙ shown_payload z d x;
       whole = refl;
       opened = refl;
       left_adds = refl;
