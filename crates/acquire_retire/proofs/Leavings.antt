@@ -1,6 +1,6 @@
 -- Seat 0 takes over what a seat had that leaves.
-use Rattle.std.proofs.Common.{◌≡◌, ℕ, ◌+◌, ◌*◌, ◌^◌, ◌<◌, ◌≤◌, false, List, [], ◌∷◌, ◌++◌, length, refl, ap, sym, ◌∙◌, subst, arith, length-append}
-use Rattle.std.specs.Prelude.{Option, Some, None}
+use Rattle.std.proofs.Common.{◌≡◌, ℕ, ◌+◌, ◌*◌, ◌^◌, ◌<◌, ◌≤◌, List, [], ◌∷◌, ◌++◌, length, ap, sym, ◌∙◌, subst, arith, length-append}
+use Rattle.std.specs.Prelude.{Option, Some}
 use Rattle.atomic_table.specs.Table.{Joins}
 use Rattle.atomic_table.specs.declared.shared.Seat.{Seat as TableSeat}
 use Rattle.plain_state.specs.declared.slot.SlotId.{SlotId}
@@ -16,7 +16,7 @@ use Rattle.core_events.specs.Steps.{CanLeave, noted}
 use Rattle.core_events.specs.Views.{room_of}
 use Rattle.retire_batch.specs.Entries.{Entries}
 use Rattle.domain_rule.specs.declared.view.SeatView.{SeatView}
-use Rattle.domain_rule.specs.Opening.{gone_view, joined_view}
+use Rattle.domain_rule.specs.Opening.{gone_view}
 use Rattle.domain_rule.specs.Rule.{Kept}
 use Rattle.domain_rule.proofs.Leaves.{leaves}
 use Rattle.acquire_retire.specs.Calls.{IsOf}

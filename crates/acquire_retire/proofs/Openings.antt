@@ -9,7 +9,7 @@ use Rattle.plain_state.specs.State.{Plain}
 use Rattle.plain_protocol.specs.Laws.{Starts}
 use Rattle.core_events.specs.declared.shape.Shape.{Shape}
 use Rattle.core_events.specs.declared.shape.Quota.{Quota}
-use Rattle.core_events.specs.Runs.{AreQuotas, IsQuota, IsShape}
+use Rattle.core_events.specs.Runs.{AreQuotas, IsShape}
 use Rattle.core_events.specs.Shows.{each_from}
 use Rattle.core_events.specs.Words.{first_words, word_count}
 use Rattle.core_law.proofs.Starts.{first_seat, start_sound}

@@ -1,5 +1,5 @@
 -- What a seat that is alone knows of the whole state.
-use Rattle.std.proofs.Common.{◌≡◌, ℕ, suc, false, List, [], ◌∷◌, length, Result, Ok, Err, ap, sym, ◌∙◌, subst, arith}
+use Rattle.std.proofs.Common.{◌≡◌, ℕ, false, List, [], ◌∷◌, length, Result, Ok, Err, ap, sym, ◌∙◌, subst, arith}
 use Rattle.std.specs.Prelude.{Some, IsSome, IfOk}
 use Rattle.std.specs.Option.{option_map}
 use mathlib.Core.Option.{some, some-injective, some-ne-none}

@@ -1,5 +1,5 @@
 -- A seat keeps the rule where it reads a word, and may come to know the whole core.
-use Rattle.std.proofs.Common.{◌≡◌, ◌⊎◌, inl, inr, ⊎_elim, ℕ, ◌+◌, ◌<◌, false, List, length, set, refl, ap, sym, ◌∙◌, subst, arith}
+use Rattle.std.proofs.Common.{◌≡◌, ◌⊎◌, inl, inr, ⊎_elim, ℕ, ◌+◌, false, List, length, set, refl, ap, sym, ◌∙◌, subst, arith}
 use Rattle.std.specs.Prelude.{◌↔◌, slice_index, Option, Some, None, IsSome}
 use Rattle.std.proofs.lemmas.List.{length-set, set-get_or}
 use Rattle.std.proofs.lemmas.Bool.{cases_eq}
@@ -18,8 +18,8 @@ use Rattle.domain_rule.specs.Reading.{FoundIn, HasRead}
 use Rattle.domain_rule.specs.Rule.{IsTrueOf, Kept, OthersLeft}
 use Rattle.domain_rule.specs.Views.{core_in, whole_of, IsAlone}
 use Rattle.domain_rule.proofs.Counting.{others_left}
-use Rattle.domain_rule.proofs.Padding.{at_less, clients_same}
-use Rattle.domain_rule.proofs.Telling.{kept_sound, in_seats, number_of, true_of, is_root, tells_here, set_all, set_tells}
+use Rattle.domain_rule.proofs.Padding.{clients_same}
+use Rattle.domain_rule.proofs.Telling.{kept_sound, in_seats, number_of, true_of, tells_here, set_all, set_tells}
 
 alone_cases : {V : Type 0} (v : SeatView V) → IsAlone v ⊎ (IsAlone v → ⊥)
 alone_cases v = ⊎_elim

@@ -1,4 +1,4 @@
-use Rattle.std.proofs.Common.{◌≡◌, ℕ, ◌+◌, ap, ◌∙◌}
+use Rattle.std.proofs.Common.{◌+◌, ap, ◌∙◌}
 use Rattle.plain_state.specs.declared.act.EventPlace.TheVariants.{Cell, WeakCell}
 use Rattle.plain_state.specs.Images.{image_at}
 use Rattle.plain_state.specs.State.{Plain}

@@ -1,4 +1,4 @@
-use Rattle.std.proofs.Common.{ap, sym, ◌∙◌, subst}
+use Rattle.std.proofs.Common.{subst}
 use Rattle.plain_state.specs.Images.{IsImage}
 use Rattle.plain_state.specs.State.{Plain}
 use Rattle.acquire_retire.specs.Wholes.{IsWholeImage, known_state}

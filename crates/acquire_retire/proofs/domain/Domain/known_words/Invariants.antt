@@ -1,4 +1,4 @@
-use Rattle.std.proofs.Common.{◌≡◌, ℕ, ◌+◌, vec_capacity, vec_len}
+use Rattle.std.proofs.Common.{◌≡◌, ◌+◌, vec_capacity, vec_len}
 use Rattle.core_events.specs.Shows.{each_from}
 use Rattle.acquire_retire.specs.Wholes.{IsSame, known_word}
 use Rattle.acquire_retire.proofs.domain.Domain.known_words.Given as goal
