@@ -150,8 +150,8 @@ impl<P: Protocol> Domain<P> {
         })
     }
 
-    /// The whole state as words, taken by a seat that is alone and in the middle of nothing: the strong word of a slot is
-    /// its count, or the zero flag alone where that stands. It loads each word of the cells and the slots once.
+    /// The whole state as words, taken by a seat that is alone and in the middle of nothing: the strong word of a slot
+    /// is its count, or the zero flag alone where that stands. It loads each word of the cells and the slots once.
     pub fn image(&self, alloc: Global, seat: &mut Seat<P>) -> Result<Heap, OutOfMemory>
         requires seat { IsOf self.now seat.old }
         requires alone { IsAlone seat.old.view }
