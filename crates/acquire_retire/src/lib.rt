@@ -40,6 +40,8 @@ mod seat;
 mod site;
 mod splitting;
 mod standing;
+#[cfg(test)]
+mod tests_seats;
 mod weak_counters;
 
 pub use core_events::{EventPlace, Kind, Outcome, Quota, Shape, ShapeField, SlotId};
