@@ -22,8 +22,8 @@ pub none_bad : (z : Shape) (qs : List Quota) (f : ShapeField) → IsShape z → 
 none_bad z qs f h q bad = bad.1 (in_range z qs f h q)
 
 -- of two fields the earlier one would be out of its range and in it
-pub one_bad : (z : Shape) (qs : List Quota) (f g : ShapeField) → IsFirstBad z qs f
-    → IsFirstBad z qs g → f ≡ g
+pub one_bad : (z : Shape) (qs : List Quota) (f g : ShapeField) → IsFirstBad z qs f → IsFirstBad z qs g
+    → f ≡ g
 one_bad z qs Seats Seats a b = refl
 one_bad z qs Seats Slots a b = absurd (a.1 (b.0 0 Seats (lit< tt)))
 one_bad z qs Seats Cells a b = absurd (a.1 (b.0 0 Seats (lit< tt)))

@@ -1,11 +1,10 @@
--- The words of the slots that nobody has claimed, one slot more at a time.
+-- The words of free slots.
 use Rattle.std.proofs.Common.{◌≡◌, ◌∙◌, List, ℕ, zero, suc, ◌+◌, ◌++◌, refl, ap, sym, append_assoc, add-one}
 use Rattle.core_events.specs.Words.{all_free, free_words}
 
 more : (n : ℕ) → all_free (suc n) ≡ all_free n ++ free_words
 more zero = refl
-more (suc n) = ap (λ ws. free_words ++ ws) (more n)
-    ∙ sym (append_assoc free_words (all_free n) free_words)
+more (suc n) = ap (λ ws. free_words ++ ws) (more n) ∙ sym (append_assoc free_words (all_free n) free_words)
 
 -- one more free slot comes last
 pub more_free : (n : ℕ) → all_free (n + 1) ≡ all_free n ++ free_words
