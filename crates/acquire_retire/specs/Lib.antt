@@ -5,3 +5,4 @@ pub mod Openings
 pub mod Leavings
 pub mod Collecting
 pub mod Wholes
+pub mod Scripts

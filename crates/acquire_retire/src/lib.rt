@@ -41,6 +41,8 @@ mod site;
 mod splitting;
 mod standing;
 #[cfg(test)]
+mod tests;
+#[cfg(test)]
 mod tests_seats;
 mod weak_counters;
 

@@ -1,0 +1,226 @@
+//! The calls of one seat by a table, and threads that share an object.
+ghost use Rattle.std.specs.Prelude.{◌≡◌, IfOk, IsTrue, length};
+ghost use Rattle.core_events.specs.declared.act.Act.TheVariants as act;
+ghost use Rattle.core_events.specs.declared.view.Phase.TheVariants as phase;
+ghost use Rattle.core_events.specs.Steps.{May};
+ghost use Rattle.plain_state.specs.Records.{IsRecord};
+ghost use Rattle.domain_rule.specs.Views.{object_in};
+ghost use Rattle.acquire_retire.specs.Calls.{IsOf, IsSameView, Steps, same_view};
+ghost use Rattle.acquire_retire.specs.Scripts.{Fills, HasMade, IsFresh, IsPlayed, MayPlay, Plays, one_seat};
+
+use crate::{Domain, OpenError, Seat, Work, open_domain};
+use core_events::{Act, EventPlace, Kind, Outcome, Quota, Shape, ShapeField, SlotId};
+use plain_protocol::{AnyStep, NoLaw};
+use plain_state::{RecordKind, record_of};
+use std::test::Fail;
+
+type Records = NoLaw<RecordKind>;
+
+const SLOT: SlotId = SlotId(0);
+
+const CELL: EventPlace = EventPlace::Cell(0);
+
+const ONE_SEAT: Shape = Shape {
+    seats: 1,
+    slots: 1,
+    cells: 2,
+    weak_cells: 0,
+    batch: 4,
+};
+
+const WIDE: Quota = Quota {
+    makes: 100,
+    adds: 100,
+};
+
+/// Makes an act by the call of its name.
+fn play(domain: &Domain<Records>, seat: &mut Seat<Records>, act: Act) -> Outcome
+    requires seat { IsOf domain.now seat.old }
+    requires may { May domain.now.shape act seat.old.view.core }
+    requires played { IsPlayed act }
+    ensures { Steps domain.now same_view IsSameView act seat.old seat.new result }
+{
+    match act {
+        Act::Add(slot) => domain.add(seat, slot, AnyStep),
+        Act::Drop(slot) => domain.drop(seat, slot),
+        Act::Pay => domain.pay(seat),
+        Act::Finish => domain.finish(seat),
+        Act::Take => domain.take(seat),
+        Act::Count(slot) => domain.count(seat, slot, AnyStep),
+        Act::Mark => domain.mark(seat, AnyStep),
+        Act::Announce(note, kind, slot) => domain.announce(seat, note, kind, slot),
+        Act::Release(note) => domain.release(seat, note),
+        Act::Look(place) => domain.look(seat, place, AnyStep),
+        Act::Check(note, place) => domain.check(seat, note, place, AnyStep),
+        Act::Scan => domain.scan(seat),
+        Act::Swap(place, new) => domain.swap(seat, place, new, AnyStep),
+        Act::Cas(place, old, new) => domain.cas(seat, place, old, new, AnyStep),
+        Act::Claim(slot) => domain.claim(seat, slot),
+        Act::Fill(index, word) => domain.fill(seat, index, word),
+        Act::See(slot, index) => domain.see(seat, slot, index),
+        Act::Free => domain.free(seat),
+        Act::Wadd(slot) => domain.wadd(seat, slot),
+        Act::Wdrop(slot) => domain.wdrop(seat, slot),
+        Act::Wcount(slot) => domain.wcount(seat, slot),
+        Act::Start | Act::Destroy(_) | Act::Leave(_) => Outcome::Plain,
+    }
+}
+
+/// Whether an act answered as was expected.
+fn agrees(answer: Outcome, expected: Outcome) -> bool
+    ensures { IsTrue result → answer ≡ expected }
+{
+    answer == expected
+}
+
+/// Makes these acts in turn, and tells whether each answers as it is listed. It stops at the first that doesn't.
+fn plays(domain: &Domain<Records>, seat: &mut Seat<Records>, script: &[(Act, Outcome)]) -> bool
+    requires seat { IsOf domain.now seat.old }
+    requires may { MayPlay domain.now.shape script.now seat.old.view.core }
+    ensures seat { IsOf domain.now seat.new }
+    ensures plays { IsTrue result
+        → Plays domain.now.shape script.now seat.old.view.core seat.new.view.core }
+{
+    for turn in 0..script.len() {
+        let (act, expected) = script[turn];
+        let answer = play(domain, seat, act);
+        if !agrees(answer, expected) {
+            return false;
+        }
+    }
+    true
+}
+
+/// Fills the slot that the seat has claimed.
+fn fill_all(
+    domain: &Domain<Records>,
+    seat: &mut Seat<Records>,
+    slot: SlotId,
+    payload: &[u64; 16],
+)
+    requires seat { IsOf domain.now seat.old }
+    requires blank { seat.old.view.core.phase ≡ phase.Blank slot }
+    requires size { length (object_in seat.old.view slot).payload ≡ 16 }
+    ensures seat { IsOf domain.now seat.new }
+    ensures fills { Fills payload.now 16 slot seat.old seat.new }
+{
+    for index in 0..16u32 {
+        domain.fill(seat, index, payload[index as usize]);
+    }
+}
+
+/// Claims the slot, fills it with a record and makes it live. False where it wasn't free.
+fn make(
+    domain: &Domain<Records>,
+    seat: &mut Seat<Records>,
+    slot: SlotId,
+    payload: &[u64; 16],
+) -> bool
+    requires seat { IsOf domain.now seat.old }
+    requires may { May domain.now.shape (act.Claim slot) seat.old.view.core }
+    requires fits { IsRecord payload.now }
+    ensures seat { IsOf domain.now seat.new }
+    ensures made { IsTrue result → HasMade slot seat.old seat.new }
+{
+    if !agrees(domain.claim(seat, slot), Outcome::Claimed) {
+        return false;
+    }
+    fill_all(domain, seat, slot, payload);
+    domain.start(seat, AnyStep);
+    true
+}
+
+/// Two references to one object are retired while one of them is announced: one stays, and one goes.
+const TWO_COPIES: [(Act, Outcome); 12] = [
+    (Act::Add(SLOT), Outcome::Up),
+    (
+        Act::Swap(CELL, Some(SLOT)),
+        Outcome::Found(None),
+    ),
+    (
+        Act::Swap(EventPlace::Cell(1), Some(SLOT)),
+        Outcome::Found(None),
+    ),
+    (Act::Announce(1, Kind::Strong, SLOT), Outcome::Plain),
+    (Act::Check(1, CELL), Outcome::Valid),
+    (
+        Act::Swap(CELL, None),
+        Outcome::Found(Some(SLOT)),
+    ),
+    (
+        Act::Swap(EventPlace::Cell(1), None),
+        Outcome::Found(Some(SLOT)),
+    ),
+    (Act::Scan, Outcome::Word(0)),
+    (Act::Scan, Outcome::Word(4)),
+    (Act::Scan, Outcome::Word(0)),
+    (Act::Scan, Outcome::Split(0, 1, 1)),
+    (Act::Pay, Outcome::Left),
+];
+
+/// The last reference but one is retired, and given up by a collect.
+const EACH_CALL: [(Act, Outcome); 13] = [
+    (Act::Add(SLOT), Outcome::Up),
+    (Act::Wadd(SLOT), Outcome::Plain),
+    (Act::Wcount(SLOT), Outcome::Word(2)),
+    (Act::Wdrop(SLOT), Outcome::Left),
+    (Act::Count(SLOT), Outcome::Number(2)),
+    (Act::See(SLOT, 0), Outcome::Word(6)),
+    (Act::Cas(CELL, None, Some(SLOT)), Outcome::Done),
+    (Act::Cas(CELL, None, None), Outcome::LostTo(Some(SLOT))),
+    (Act::Look(CELL), Outcome::Found(Some(SLOT))),
+    (Act::Announce(0, Kind::Strong, SLOT), Outcome::Plain),
+    (Act::Release(0), Outcome::Plain),
+    (Act::Swap(CELL, None), Outcome::Found(Some(SLOT))),
+    (Act::Drop(SLOT), Outcome::Left),
+];
+
+/// A domain of one seat, and that seat.
+fn open_alone(rt: &HostRuntime) -> Result<(Domain<Records>, Seat<Records>), OpenError>
+    ensures { IfOk result (λ r. IsFresh r.0 0 r.1 × (r.0.shape ≡ one_seat)) }
+{
+    let (domain, mut seats) = open_domain(rt.alloc(), ONE_SEAT, &[WIDE], NoLaw::new())?;
+    Ok((domain, seats.remove(0)))
+}
+
+#[test]
+fn two_copies_under_one_announcement(rt: HostRuntime) -> Result<(), Fail> {
+    let (domain, mut seat) = open_alone(&rt)?;
+    let payload = record_of(b"a text");
+    assert!(rt; make(&domain, &mut seat, SLOT, &payload));
+    assert!(rt; plays(&domain, &mut seat, &TWO_COPIES));
+    Ok(())
+}
+
+#[test]
+fn each_call_and_a_collect(rt: HostRuntime) -> Result<(), Fail> {
+    let (domain, mut seat) = open_alone(&rt)?;
+    let payload = record_of(b"a text");
+    assert!(rt; make(&domain, &mut seat, SLOT, &payload));
+    assert!(rt; plays(&domain, &mut seat, &EACH_CALL));
+    let work = Work {
+        scanned: 4,
+        ejected: 1,
+        ended: 1,
+    };
+    assert_eq!(rt; domain.collect(&mut seat), work);
+    Ok(())
+}
+
+#[test]
+fn shapes_out_of_range_are_refused(rt: HostRuntime) {
+    let many = Shape {
+        seats: 33,
+        ..ONE_SEAT
+    };
+    let none = Shape {
+        slots: 0,
+        ..ONE_SEAT
+    };
+    for (shape, field) in [(many, ShapeField::Seats), (none, ShapeField::Slots)] {
+        let Err(error) = open_domain(rt.alloc(), shape, &[WIDE], Records::new()) else {
+            panic!(rt; "it was opened")
+        };
+        assert_eq!(rt; error, OpenError::BadShape(field));
+    }
+}
