@@ -1,5 +1,5 @@
 -- A seat claims a slot, fills it and makes it live, for the proofs of tests.
-use Rattle.std.proofs.Common.{◌≡◌, ◌≢◌, ⊎_elim, ℕ, ◌+◌, ◌<◌, Bool, true, false, List, length, length-set, get_or, set, refl, ap, sym, ◌∙◌, subst, arith}
+use Rattle.std.proofs.Common.{◌≡◌, ◌≢◌, ⊎_elim, ℕ, ◌+◌, ◌<◌, Bool, true, false, List, length, get_or, set, refl, ap, sym, ◌∙◌, subst, arith}
 use Rattle.std.specs.Prelude.{◌==◌, if◌then◌else◌, slice_index}
 use Rattle.std.proofs.lemmas.List.{get_or-set_other, get_or-set_same}
 use Rattle.std.proofs.lemmas.Bool.{cases_eq}
@@ -14,9 +14,8 @@ use Rattle.core_events.specs.declared.outcome.Outcome.{Outcome}
 use Rattle.core_events.specs.declared.outcome.Outcome.TheVariants as outcome
 use Rattle.core_events.specs.declared.view.CoreView.{CoreView}
 use Rattle.core_events.specs.declared.view.Move.{Move}
-use Rattle.core_events.specs.declared.view.Phase.{Phase}
 use Rattle.core_events.specs.declared.view.Phase.TheVariants as phase
-use Rattle.core_events.specs.Steps.{answer, moved}
+use Rattle.core_events.specs.Steps.{moved}
 use Rattle.core_events.specs.Views.{slot_of}
 use Rattle.core_events.specs.Words.{ZERO}
 use Rattle.domain_rule.specs.Told.{changed_object}
@@ -70,7 +69,8 @@ module _ {P V : Type 0} (d : DomainState P) (s : SlotId) (payload : List ℕ) wh
       let size = had.size in
       record {
         core = but_trail a.view.core c.view.core _
-            (step.told.core ∙ ap (λ (v : CoreView). moved d.shape (act.Fill n x) step.word v) had.core);
+            (step.told.core
+            ∙ ap (λ (v : CoreView). moved d.shape (act.Fill n x) step.word v) had.core);
         size = step.told.payloads s;
         words = λ i lt. ap (λ (p : List ℕ). slice_index p i) is
             ∙ word_more payload (object_in b.view s).payload n (omega arith) had.words i lt;

@@ -1,5 +1,6 @@
--- The acts of worked rows may be made in turn, by one word for each answer, for the proofs of tests.
-use Rattle.std.proofs.Common.{◌≡◌, ℕ, ◌+◌, List, [], ◌∷◌, ◌++◌, inl, inr, refl, ap, sym, ◌∙◌, subst, arith}
+-- The acts of worked rows may be made in turn, by one word for each answer, for the proofs of
+-- tests.
+use Rattle.std.proofs.Common.{◌≡◌, ℕ, List, [], ◌∷◌, inl, inr, refl, ap, sym, ◌∙◌, subst, arith}
 use Rattle.std.specs.Prelude.{Some, None}
 use Rattle.plain_state.specs.declared.act.EventPlace.TheVariants.{Cell}
 use Rattle.plain_state.specs.declared.slot.Kind.TheVariants.{Strong}
@@ -96,20 +97,67 @@ copies_words = 1 ∷ 0 ∷ 0 ∷ 0 ∷ 1 ∷ 1 ∷ 1 ∷ 0 ∷ 4 ∷ 0 ∷ 0 ∷
 
 copies_found : (t : List Move) → MayFinding one_seat two_copies copies_words (made_view one_seat t)
 unfolding times entry_times seen_times
-copies_found t =
-  (tt, ((refl, refl), omega arith, omega arith), refl,
-  (tt, ((refl, refl), omega arith, inl (omega arith, omega arith)), refl,
-  (tt, ((refl, refl), omega arith, inl (omega arith, omega arith)), refl,
-  (tt, ((refl, refl), omega arith, refl, omega arith), refl,
-  (tt, ((refl, refl), omega arith, (slot0, refl), omega arith), refl,
-  (tt, ((refl, refl), omega arith, inl (omega arith, tt)), refl,
-  (tt, ((refl, refl), omega arith, inl (omega arith, tt)), refl,
-  (tt, inl ((refl, refl), refl), refl,
-  (tt, inr refl, refl,
-  (tt, inr refl, refl,
-  (tt, inr refl, refl,
-  (tt, ((refl, refl), λ e. absurd (cc (e))), refl,
-  tt))))))))))))
+copies_found t = (
+  tt,
+  ((refl, refl), omega arith, omega arith),
+  refl,
+  (
+    tt,
+    ((refl, refl), omega arith, inl (omega arith, omega arith)),
+    refl,
+    (
+      tt,
+      ((refl, refl), omega arith, inl (omega arith, omega arith)),
+      refl,
+      (
+        tt,
+        ((refl, refl), omega arith, refl, omega arith),
+        refl,
+        (
+          tt,
+          ((refl, refl), omega arith, (slot0, refl), omega arith),
+          refl,
+          (
+            tt,
+            ((refl, refl), omega arith, inl (omega arith, tt)),
+            refl,
+            (
+              tt,
+              ((refl, refl), omega arith, inl (omega arith, tt)),
+              refl,
+              (
+                tt,
+                inl ((refl, refl), refl),
+                refl,
+                (
+                  tt,
+                  inr refl,
+                  refl,
+                  (
+                    tt,
+                    inr refl,
+                    refl,
+                    (
+                      tt,
+                      inr refl,
+                      refl,
+                      (
+                        tt,
+                        ((refl, refl), λ e. absurd (cc (e))),
+                        refl,
+                        tt,
+                      ),
+                    ),
+                  ),
+                ),
+              ),
+            ),
+          ),
+        ),
+      ),
+    ),
+  ),
+)
 
 pub may_copy : (z : Shape) → z ≡ one_seat → (old new : CoreView) → HasBegun z old new new.trail
     → MayPlay z two_copies new
@@ -133,21 +181,72 @@ call_words = 1 ∷ 1 ∷ 2 ∷ 2 ∷ 2 ∷ 6 ∷ 0 ∷ 1 ∷ 1 ∷ 0 ∷ 4 ∷ 1
 
 calls_found : (t : List Move) → MayFinding one_seat each_call call_words (made_view one_seat t)
 unfolding times entry_times seen_times
-calls_found t =
-  (tt, ((refl, refl), omega arith, omega arith), refl,
-  (tt, ((refl, refl), omega arith, omega arith), refl,
-  (tt, ((refl, refl), omega arith), refl,
-  (tt, ((refl, refl), omega arith), refl,
-  (tt, ((refl, refl), omega arith), refl,
-  (tt, ((refl, refl), inl (omega arith), omega arith), refl,
-  (tt, ((refl, refl), omega arith, omega arith, omega arith, tt), refl,
-  (tt, ((refl, refl), omega arith, omega arith, tt, tt), refl,
-  (tt, ((refl, refl), omega arith), refl,
-  (tt, ((refl, refl), omega arith, refl, omega arith), refl,
-  (tt, ((refl, refl), omega arith, λ e. absurd (cc (e))), refl,
-  (tt, ((refl, refl), omega arith, inl (omega arith, tt)), refl,
-  (tt, ((refl, refl), omega arith), refl,
-  tt)))))))))))))
+calls_found t = (
+  tt,
+  ((refl, refl), omega arith, omega arith),
+  refl,
+  (
+    tt,
+    ((refl, refl), omega arith, omega arith),
+    refl,
+    (
+      tt,
+      ((refl, refl), omega arith),
+      refl,
+      (
+        tt,
+        ((refl, refl), omega arith),
+        refl,
+        (
+          tt,
+          ((refl, refl), omega arith),
+          refl,
+          (
+            tt,
+            ((refl, refl), inl (omega arith), omega arith),
+            refl,
+            (
+              tt,
+              ((refl, refl), omega arith, omega arith, omega arith, tt),
+              refl,
+              (
+                tt,
+                ((refl, refl), omega arith, omega arith, tt, tt),
+                refl,
+                (
+                  tt,
+                  ((refl, refl), omega arith),
+                  refl,
+                  (
+                    tt,
+                    ((refl, refl), omega arith, refl, omega arith),
+                    refl,
+                    (
+                      tt,
+                      ((refl, refl), omega arith, λ e. absurd (cc (e))),
+                      refl,
+                      (
+                        tt,
+                        ((refl, refl), omega arith, inl (omega arith, tt)),
+                        refl,
+                        (
+                          tt,
+                          ((refl, refl), omega arith),
+                          refl,
+                          tt,
+                        ),
+                      ),
+                    ),
+                  ),
+                ),
+              ),
+            ),
+          ),
+        ),
+      ),
+    ),
+  ),
+)
 
 module _ (z : Shape) (same : z ≡ one_seat) (old new : CoreView)
     (begun : HasBegun z old new new.trail) where
@@ -156,8 +255,7 @@ module _ (z : Shape) (same : z ≡ one_seat) (old new : CoreView)
 
   pub has_called : (u : CoreView) → Plays z each_call new u → IsIdle u × (u.owed ≡ [])
   has_called u plays =
-      let is = ends_with one_seat each_call call_words calls_found z same old new begun u plays in
-      (
+      let is = ends_with one_seat each_call call_words calls_found z same old new begun u plays in (
         (ap (λ (v : CoreView). v.phase) is, ap (λ (v : CoreView). v.left) is),
         ap (λ (v : CoreView). v.owed) is,
       )

@@ -1,4 +1,4 @@
-//! The calls of one seat by a table, and threads that share an object.
+//! The calls of one seat by a list of acts, each with the answer that is expected, and shapes that are refused.
 ghost use Rattle.std.specs.Prelude.{◌≡◌, IfOk, IsTrue, length};
 ghost use Rattle.core_events.specs.declared.act.Act.TheVariants as act;
 ghost use Rattle.core_events.specs.declared.view.Phase.TheVariants as phase;
@@ -92,12 +92,7 @@ fn plays(domain: &Domain<Records>, seat: &mut Seat<Records>, script: &[(Act, Out
 }
 
 /// Fills the slot that the seat has claimed.
-fn fill_all(
-    domain: &Domain<Records>,
-    seat: &mut Seat<Records>,
-    slot: SlotId,
-    payload: &[u64; 16],
-)
+fn fill_all(domain: &Domain<Records>, seat: &mut Seat<Records>, slot: SlotId, payload: &[u64; 16])
     requires seat { IsOf domain.now seat.old }
     requires blank { seat.old.view.core.phase ≡ phase.Blank slot }
     requires size { length (object_in seat.old.view slot).payload ≡ 16 }
@@ -109,7 +104,7 @@ fn fill_all(
     }
 }
 
-/// Claims the slot, fills it with a record and makes it live. False where it wasn't free.
+/// Claims the slot, fills it with a record and makes it live, and tells whether each answers as it should.
 fn make(
     domain: &Domain<Records>,
     seat: &mut Seat<Records>,
@@ -126,27 +121,20 @@ fn make(
         return false;
     }
     fill_all(domain, seat, slot, payload);
-    domain.start(seat, AnyStep);
-    true
+    agrees(domain.start(seat, AnyStep), Outcome::Plain)
 }
 
 /// Two references to one object are retired while one of them is announced: one stays, and one goes.
 const TWO_COPIES: [(Act, Outcome); 12] = [
     (Act::Add(SLOT), Outcome::Up),
-    (
-        Act::Swap(CELL, Some(SLOT)),
-        Outcome::Found(None),
-    ),
+    (Act::Swap(CELL, Some(SLOT)), Outcome::Found(None)),
     (
         Act::Swap(EventPlace::Cell(1), Some(SLOT)),
         Outcome::Found(None),
     ),
     (Act::Announce(1, Kind::Strong, SLOT), Outcome::Plain),
     (Act::Check(1, CELL), Outcome::Valid),
-    (
-        Act::Swap(CELL, None),
-        Outcome::Found(Some(SLOT)),
-    ),
+    (Act::Swap(CELL, None), Outcome::Found(Some(SLOT))),
     (
         Act::Swap(EventPlace::Cell(1), None),
         Outcome::Found(Some(SLOT)),

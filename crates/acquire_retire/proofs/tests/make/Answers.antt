@@ -21,11 +21,10 @@ pub start-requires-clause-may : goal.start-requires-clause-may
 start-requires-clause-may c =
     let claimed = claim_holds c.args.domain.now c.args.slot c.args.payload.now
     c.args.seat.now c.claim.new.seat c.claim.result (c.agrees.ensures c.if-not-agrees.false)
-    c.claim.ensures in
-    (
+    c.claim.ensures in (
       c.args.slot,
       ap (λ (v : CoreView). v.phase) (c.fill_all.ensures.fills.core)
-      ∙ ap (λ (v : CoreView). v.phase) claimed,
+          ∙ ap (λ (v : CoreView). v.phase) claimed,
     )
 
 pub start-requires-clause-fits : goal.start-requires-clause-fits
