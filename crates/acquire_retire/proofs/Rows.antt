@@ -164,9 +164,9 @@ pub may_copy : (z : Shape) → z ≡ one_seat → (old new : CoreView) → HasBe
 may_copy z same old new begun =
     may_begin one_seat two_copies copies_words copies_found z same old new begun
 
--- each call that one seat can make while its object lives
-abbrev each_call : List (Act × Outcome)
-each_call =
+-- calls of one seat while its object lives, of which the last but one retires a reference
+abbrev live_calls : List (Act × Outcome)
+live_calls =
     (act.Add slot0, outcome.Up) ∷ (act.Wadd slot0, outcome.Plain)
     ∷ (act.Wcount slot0, outcome.Word 2) ∷ (act.Wdrop slot0, outcome.Left)
     ∷ (act.Count slot0, outcome.Number 2) ∷ (act.See slot0 0, outcome.Word 6)
@@ -179,7 +179,7 @@ each_call =
 abbrev call_words : List ℕ
 call_words = 1 ∷ 1 ∷ 2 ∷ 2 ∷ 2 ∷ 6 ∷ 0 ∷ 1 ∷ 1 ∷ 0 ∷ 4 ∷ 1 ∷ 2 ∷ []
 
-calls_found : (t : List Move) → MayFinding one_seat each_call call_words (made_view one_seat t)
+calls_found : (t : List Move) → MayFinding one_seat live_calls call_words (made_view one_seat t)
 unfolding times entry_times seen_times
 calls_found t = (
   tt,
@@ -250,12 +250,12 @@ calls_found t = (
 
 module _ (z : Shape) (same : z ≡ one_seat) (old new : CoreView)
     (begun : HasBegun z old new new.trail) where
-  pub may_call : MayPlay z each_call new
-  may_call = may_begin one_seat each_call call_words calls_found z same old new begun
+  pub may_call : MayPlay z live_calls new
+  may_call = may_begin one_seat live_calls call_words calls_found z same old new begun
 
-  pub has_called : (u : CoreView) → Plays z each_call new u → IsIdle u × (u.owed ≡ [])
+  pub has_called : (u : CoreView) → Plays z live_calls new u → IsIdle u × (u.owed ≡ [])
   has_called u plays =
-      let is = ends_with one_seat each_call call_words calls_found z same old new begun u plays in (
+      let is = ends_with one_seat live_calls call_words calls_found z same old new begun u plays in (
         (ap (λ (v : CoreView). v.phase) is, ap (λ (v : CoreView). v.left) is),
         ap (λ (v : CoreView). v.owed) is,
       )

@@ -146,8 +146,9 @@ const TWO_COPIES: [(Act, Outcome); 12] = [
     (Act::Pay, Outcome::Left),
 ];
 
-/// The last reference but one is retired, and given up by a collect.
-const EACH_CALL: [(Act, Outcome); 13] = [
+/// Calls while an object lives. The reference that is retired is the last one once the others are given up, and a
+/// collect then ends the object.
+const LIVE_CALLS: [(Act, Outcome); 13] = [
     (Act::Add(SLOT), Outcome::Up),
     (Act::Wadd(SLOT), Outcome::Plain),
     (Act::Wcount(SLOT), Outcome::Word(2)),
@@ -181,11 +182,11 @@ fn two_copies_under_one_announcement(rt: HostRuntime) -> Result<(), Fail> {
 }
 
 #[test]
-fn each_call_and_a_collect(rt: HostRuntime) -> Result<(), Fail> {
+fn calls_while_an_object_lives(rt: HostRuntime) -> Result<(), Fail> {
     let (domain, mut seat) = open_alone(&rt)?;
     let payload = record_of(b"a text");
     assert!(rt; make(&domain, &mut seat, SLOT, &payload));
-    assert!(rt; plays(&domain, &mut seat, &EACH_CALL));
+    assert!(rt; plays(&domain, &mut seat, &LIVE_CALLS));
     let work = Work {
         scanned: 4,
         ejected: 1,

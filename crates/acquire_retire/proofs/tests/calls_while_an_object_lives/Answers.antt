@@ -1,6 +1,6 @@
 use Rattle.std.proofs.Common.{rules}
 use Rattle.acquire_retire.proofs.Rows.{has_called, may_call}
-use Rattle.acquire_retire.proofs.tests.each_call_and_a_collect.Goals as goal
+use Rattle.acquire_retire.proofs.tests.calls_while_an_object_lives.Goals as goal
 
 pub plays-requires-clause-may : goal.plays-requires-clause-may
 plays-requires-clause-may g c =
