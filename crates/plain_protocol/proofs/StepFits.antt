@@ -54,7 +54,7 @@ pub step_fits : (fits : List ℕ → Type 0) (p q : Plain) (n : ℕ) (step : Pla
     → ((s : SlotId) → step ≡ act.Make s → fits (slot_at p s).payload)
     → AllFit fits p → AllFit fits q
 step_fits fits p q n (act.Claim s) found d made all =
-    subst (AllFit fits) (sym d.1.3)
+    subst (AllFit fits) (sym d.1.4)
     (vacant_fits fits p s _ (λ e. cc, λ e. cc) all)
 step_fits fits p q n (act.Fill s i word) found d made all =
     let blank = d.1.0 in
@@ -103,6 +103,7 @@ step_fits fits p q n (act.Destroy s) found d made all =
 step_fits fits p q n (act.Give s) found d made all =
     subst (AllFit fits) (sym d.1.3)
     (vacant_fits fits p s _ (λ e. cc, λ e. cc) all)
-step_fits fits p q n (act.Leave j) found d made all = subst (AllFit fits) (sym d.1.6) all
+step_fits fits p q n (act.Leave j) found d made all = subst (AllFit fits) (sym d.1.8) all
 step_fits fits p q n act.Split found d made all = subst (AllFit fits) (sym d.1.1.2) all
+step_fits fits p q n act.Ticket found d made all = subst (AllFit fits) (sym d.1.1) all
 step_fits fits p q n act.Still found d made all = subst (AllFit fits) (sym d.1.1) all

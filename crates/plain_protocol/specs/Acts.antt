@@ -1,16 +1,13 @@
 -- Which steps leave what a protocol speaks of.
-use Rattle.std.specs.Prelude.{ℕ, ◌≡◌, List}
+use Rattle.std.specs.Prelude.{ℕ, List}
 use Rattle.plain_state.specs.declared.act.EventPlace.{EventPlace}
 use Rattle.plain_state.specs.declared.act.EventPlace.TheVariants.{Cell, Field, WeakCell, WeakField}
 use Rattle.plain_state.specs.declared.act.PlainAct.{PlainAct}
 use Rattle.plain_state.specs.declared.act.PlainAct.TheVariants as act
-use Rattle.plain_state.specs.declared.slot.PlainSlot.{PlainSlot}
-use Rattle.plain_state.specs.declared.slot.SlotId.{SlotId}
-use Rattle.plain_state.specs.declared.slot.Stage.TheVariants.{Live}
 use Rattle.plain_state.specs.State.{Plain, slot_at}
 
--- the step makes no object, changes no cell and no field of a live object, and isn't a leave; a Clear acts
--- in a slot that has ended
+-- the step makes no object, draws no ticket, changes no cell and no field of a live object, and isn't a leave; a Clear
+-- acts in a slot that has ended
 abbrev pub IsCalm : PlainAct → Type 0
 IsCalm (act.Claim s) = Unit {0}
 IsCalm (act.Fill s i word) = Unit {0}
@@ -35,29 +32,15 @@ IsCalm (act.Destroy s) = Unit {0}
 IsCalm (act.Give s) = Unit {0}
 IsCalm (act.Leave j) = ⊥
 IsCalm act.Split = Unit {0}
+IsCalm act.Ticket = ⊥
 IsCalm act.Still = Unit {0}
 
--- what a calm step leaves of a slot: its life, and, where it is live, its payload and its fields; and it makes no
--- slot live
-pub record IsKeptAs (x y : PlainSlot) : Type 0 where
-  pub life : y.life ≡ x.life
-  pub live : y.stage ≡ Live → x.stage ≡ Live
-  pub payload : x.stage ≡ Live → y.payload ≡ x.payload
-  pub fields :
-      x.stage ≡ Live
-      → (y.first ≡ x.first) × (y.second ≡ x.second) × (y.weak_field ≡ x.weak_field)
-
--- what it leaves of a state: every cell, and so much of every slot
-pub record IsCalmed (p q : Plain) : Type 0 where
-  pub cells : q.cells ≡ p.cells
-  pub weak_cells : q.weak_cells ≡ p.weak_cells
-  pub slots : (s : SlotId) → IsKeptAs (slot_at p s) (slot_at q s)
-
--- what a protocol owns: cells, weak cells, and the objects with certain payloads
+-- what a protocol owns: cells, weak cells, the objects with certain payloads, and whether it owns the tickets
 pub record Owned : Type 1 where
   pub cell : ℕ → Type 0
   pub weak_cell : ℕ → Type 0
   pub payload : List ℕ → Type 0
+  pub tickets : Type 0
 
 -- the place is an owned cell, or a field of an owned object
 abbrev pub OwnsPlace : Owned → Plain → EventPlace → Type 0
@@ -66,7 +49,7 @@ OwnsPlace owned p (Field s i) = owned.payload (slot_at p s).payload
 OwnsPlace owned p (WeakCell i) = owned.weak_cell i
 OwnsPlace owned p (WeakField s) = owned.payload (slot_at p s).payload
 
--- the step makes no owned object, changes no owned place, and isn't a leave
+-- the step makes no owned object, draws no owned ticket, changes no owned place, and isn't a leave
 abbrev pub IsForeign : Owned → Plain → PlainAct → Type 0
 IsForeign owned p (act.Claim s) = Unit {0}
 IsForeign owned p (act.Fill s i word) = Unit {0}
@@ -91,4 +74,5 @@ IsForeign owned p (act.Destroy s) = Unit {0}
 IsForeign owned p (act.Give s) = Unit {0}
 IsForeign owned p (act.Leave j) = ⊥
 IsForeign owned p act.Split = Unit {0}
+IsForeign owned p act.Ticket = ¬ owned.tickets
 IsForeign owned p act.Still = Unit {0}

@@ -46,15 +46,16 @@ module _ {V : Type 0} (law : Plain → List V → Type 0) where
       let v = slice_index_or views j gone in
       law q (slice_set (slice_set views 0 (joined root v)) j gone)
 
-  -- a step that a deed is ready for keeps the law with the seat's next view, and the deed allows it
-  abbrev pub Keeps : V → (OwnPart → V → PlainAct → Type 0) → (OwnPart → V → PlainAct → ℕ → V)
+  -- a step that a deed is ready for keeps the law with the seat's next view, and the deed allows it. The next view is
+  -- told what the seat itself has before the step and after it
+  abbrev pub Keeps : V → (OwnPart → V → PlainAct → Type 0) → (OwnPart → OwnPart → V → PlainAct → ℕ → V)
       → (Plain → Plain → ℕ → V → V → Type 0) → Type 0
   Keeps gone ready next allows =
       (p q : Plain) (views : List V) (n : ℕ) (act : PlainAct) (found : ℕ)
       → Meets law p views → n < length views
       → ready (own_part p n) (slice_index_or views n gone) act → Does p n act found q
       → let v = slice_index_or views n gone in
-      let w = next (own_part p n) v act found in
+      let w = next (own_part p n) (own_part q n) v act found in
       law q (slice_set views n w) × allows p q n v w
 
 -- the payloads of all objects fit after a step, where an object that it makes has one that fits

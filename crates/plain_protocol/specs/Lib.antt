@@ -1,4 +1,5 @@
 pub mod Owns
 pub mod Acts
+pub mod Calm
 pub mod Laws
 pub mod Views

@@ -7,7 +7,7 @@ use Rattle.plain_protocol.specs.Laws.{KeptByCalm, Keeps}
 
 -- a deed that is ready where a step is calm, and leaves the view
 pub still_keeps : {V : Type 0} (law : Plain → List V → Type 0) (gone : V) → KeptByCalm law
-    → Keeps law gone (λ own v act. IsCalm act) (λ own v act found. v) (λ p q n v w. w ≡ v)
+    → Keeps law gone (λ own v act. IsCalm act) (λ own after v act found. v) (λ p q n v w. w ≡ v)
 still_keeps law gone calm p q views n act found meets at ready does =
     let same = set-get_or views n gone in
     (subst (law q) (sym same) (calm p q n act found views meets ready does), refl)

@@ -14,8 +14,8 @@ pub trait Deed<P: Protocol>: Copy {
     /// The seat may make the step with this deed, by what it has of the state and by its view.
     ghost ready: { Self → P → OwnPart → P.View → PlainAct → Type 0 };
 
-    /// The view after the step, by the number that the step found.
-    ghost next: { Self → P → OwnPart → P.View → PlainAct → ℕ → P.View };
+    /// The view after the step, by what the seat itself has before it and after it, and by the number that it found.
+    ghost next: { Self → P → OwnPart → OwnPart → P.View → PlainAct → ℕ → P.View };
 
     /// What the deed tells of the step: the states and the views before and after it.
     ghost allows: { Self → P → Plain → Plain → ℕ → P.View → P.View → Type 0 };
@@ -32,7 +32,7 @@ pub struct Still;
 impl<P: Protocol> Deed<P> for Still {
     ghost ready = { λ it of own v act. IsCalm act };
 
-    ghost next = { λ it of own v act found. v };
+    ghost next = { λ it of own after v act found. v };
 
     ghost allows = { λ it of p q n v w. w ≡ v };
 

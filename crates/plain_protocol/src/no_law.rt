@@ -38,6 +38,8 @@ impl<K: PayloadKind> Protocol for NoLaw<K> {
 
     ghost owns_payload = { λ it words. ⊥ };
 
+    ghost owns_tickets = { λ it. ⊥ };
+
     ghost start = { λ it seats slots cells weak_cells. tt };
 
     ghost calm = { λ it p q n act found views meets is_calm does. tt };
@@ -54,7 +56,7 @@ pub struct AnyStep;
 impl<K: PayloadKind> Deed<NoLaw<K>> for AnyStep {
     ghost ready = { λ it of own v act. ⊤ };
 
-    ghost next = { λ it of own v act found. v };
+    ghost next = { λ it of own after v act found. v };
 
     ghost allows = { λ it of p q n v w. w ≡ v };
 

@@ -34,6 +34,9 @@ pub trait Protocol {
     /// The payloads of which no other may make an object, nor change its fields.
     ghost owns_payload: { Self → List ℕ → Type 0 };
 
+    /// Whether no other may draw a ticket.
+    ghost owns_tickets: { Self → Type 0 };
+
     /// The law holds at the start.
     ghost start: { (it : Self) → Starts (law it) (first it) };
 
@@ -49,5 +52,6 @@ pub trait Protocol {
           cell = owns_cell it;
           weak_cell = owns_weak_cell it;
           payload = owns_payload it;
+          tickets = owns_tickets it;
         }) };
 }

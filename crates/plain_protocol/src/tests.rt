@@ -12,6 +12,7 @@ fn cite<P: Protocol, D: Deed<P>>(of: P, it: D) -> (P, D)
       cell = P.owns_cell of;
       weak_cell = P.owns_weak_cell of;
       payload = P.owns_payload of;
+      tickets = P.owns_tickets of;
     }) }
     ensures keeps { Keeps (P.law of) P.gone (D.ready it of) (D.next it of) (D.allows it of) }
 {

@@ -11,7 +11,7 @@ use Rattle.plain_state.specs.Steps.{Replaces, Clears, Does}
 use Rattle.plain_state.specs.Sound.{Sound}
 use Rattle.plain_state.specs.Lawful.{IsCovered}
 use Rattle.plain_state.proofs.Changes.{IsThere}
-use Rattle.plain_state.proofs.SeatRows.{is_there, held_live, open_there, add_sound, add_refused_sound, weak_gain_sound, drop_sound, weak_drop_sound, check_sound, end_snapshot_sound, eject_sound, split_sound}
+use Rattle.plain_state.proofs.SeatRows.{is_there, held_live, open_there, add_sound, add_refused_sound, ticket_sound, weak_gain_sound, drop_sound, weak_drop_sound, check_sound, end_snapshot_sound, eject_sound, split_sound}
 use Rattle.plain_state.proofs.SlotRows.{claim_sound, fill_sound, make_sound, mark_sound, end_sound, dying_ended, destroy_sound, give_sound}
 use Rattle.plain_state.proofs.PlaceRows.{HasObject, replace_sound}
 use Rattle.plain_state.proofs.Leaves.{leave_sound}
@@ -54,7 +54,7 @@ clears_sound p q n place so hn at is =
 pub step_sound : (p q : Plain) (n : ℕ) (a : PlainAct) (found : ℕ) → Sound p → Does p n a found q
     → Sound q
 step_sound p q n (act.Claim s) found so d =
-    subst Sound (sym d.1.3) (claim_sound p n s so d.0.0 d.1.0 d.1.1)
+    subst Sound (sym d.1.4) (claim_sound p n s so d.0.0 d.1.0 d.1.1)
 step_sound p q n (act.Fill s i word) found so d =
     subst Sound (sym d.1.4) (fill_sound p s i word so d.1.0)
 step_sound p q n (act.Make s) found so d = subst Sound (sym d.1.3) (make_sound p n s so d.0.0 d.1.0)
@@ -106,8 +106,9 @@ step_sound p q n (act.Destroy s) found so d =
     let gone = d.1.2 in
     subst Sound (sym gone.2) (destroy_sound p n s gone.0 so d.0.0 gone.1 d.1.0)
 step_sound p q n (act.Give s) found so d = subst Sound (sym d.1.3) (give_sound p s so d.1.0 d.1.1)
-step_sound p q n (act.Leave j) found so d = leave_sound p q j so (omega arith) d.1.2 d.1.1 d.1.6
+step_sound p q n (act.Leave j) found so d = leave_sound p q j so (omega arith) d.1.2 d.1.1 d.1.8
 step_sound p q n act.Split found so d =
     let same = d.1.1 in
     subst Sound (sym same.2) (split_sound p n same.0 so d.0.0 same.1)
+step_sound p q n act.Ticket found so d = subst Sound (sym d.1.1) (ticket_sound p n so d.0.0)
 step_sound p q n act.Still found so d = subst Sound (sym d.1.1) so

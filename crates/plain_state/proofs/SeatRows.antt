@@ -186,6 +186,13 @@ add_refused_sound p n so hn =
       weak_covered = λ k h. omega arith;
     })
 
+-- the number of tickets is of no reference
+pub ticket_sound : (p : Plain) (n : ℕ) → Sound p → n < length p.seats
+    → Sound (record (with_seat p n (record (seat_at p n) { adds = (seat_at p n).adds + 1 })) { tickets = p.tickets + 1 })
+ticket_sound p n so hn =
+    let spent = add_refused_sound p n so hn in
+    sound_by _ (λ s. slot_law _ spent s) spent.payloads
+
 pub drop_sound : (p : Plain) (n : ℕ) (s : SlotId) (xs : List SlotId) → Sound p → n < length p.seats
     → Loses (seat_at p n).owned s xs → Sound (with_seat p n (record (seat_at p n) { owned = xs }))
 drop_sound p n s xs so hn loses =

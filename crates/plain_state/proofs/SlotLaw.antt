@@ -72,7 +72,7 @@ slot_law p so s = record {
   once = so.lawful.once s;
   dying = so.lawful.dying s;
   nulls = so.lawful.nulls s;
-  marks = so.marks s;
+  marks = so.lawful.marks s;
   strong_few = so.strong_few s;
   weak_few = so.weak_few s;
 }
@@ -89,9 +89,9 @@ sound_by p each payloads = record {
     weak = λ s. (each s).weak;
     once = λ s. (each s).once;
     dying = λ s. (each s).dying;
+    marks = λ s. (each s).marks;
     nulls = λ s. (each s).nulls;
   };
-  marks = λ s. (each s).marks;
   strong_few = λ s. (each s).strong_few;
   weak_few = λ s. (each s).weak_few;
   payloads = payloads;

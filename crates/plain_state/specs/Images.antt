@@ -2,8 +2,6 @@
 use Rattle.std.specs.Prelude.{ℕ, ◌≡◌, ◌<◌, ◌^◌, List, [], ◌∷◌, length, map, nat_lt, slice_index_or, if◌then◌else◌}
 use Rattle.plain_state.specs.declared.slot.SlotId.{SlotId}
 use Rattle.plain_state.specs.declared.slot.PlainSlot.{PlainSlot}
-use Rattle.plain_state.specs.declared.slot.Stage.{Stage}
-use Rattle.plain_state.specs.declared.slot.Stage.TheVariants.{Free, Blank, Live, Ended, Husk}
 use Rattle.plain_state.specs.declared.image.SlotImage.{SlotImage}
 use Rattle.plain_state.specs.declared.image.Heap.{Heap}
 use Rattle.plain_state.specs.State.{Plain, seat_at, slot_at, no_payload}
@@ -15,24 +13,16 @@ abbrev pub value : ℕ → ℕ
 value word = if nat_lt word (2 ^ 63) then word else 0
 
 abbrev pub free_image : SlotImage
-free_image = record { strong = 2 ^ 63; weak = 2 ^ 63; fields = 0 ∷ 0 ∷ []; weak_field = 0; payload = no_payload }
+free_image = record { strong = 2 ^ 63; weak = 0; fields = 0 ∷ 0 ∷ []; weak_field = 0; payload = no_payload }
 
 abbrev pub slot_image : List SlotImage → SlotId → SlotImage
 slot_image images s = slice_index_or images s.0 free_image
-
--- a free slot's weak word is the zero flag alone
-abbrev pub weak_by : Stage → ℕ → ℕ
-weak_by Free refs = 2 ^ 63
-weak_by Blank refs = refs
-weak_by Live refs = refs
-weak_by Ended refs = refs
-weak_by Husk refs = refs
 
 -- the words of a slot with so many references: where its zero mark stands, the strong word is the zero flag alone
 abbrev pub image_of : PlainSlot → ℕ → ℕ → SlotImage
 image_of x strongs weaks = record {
   strong = if x.marked then 2 ^ 63 else strongs;
-  weak = weak_by x.stage weaks;
+  weak = weaks;
   fields = word_of x.first ∷ word_of x.second ∷ [];
   weak_field = word_of x.weak_field;
   payload = x.payload;

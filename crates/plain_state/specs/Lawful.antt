@@ -1,5 +1,5 @@
 -- What holds of every plain state that steps reach.
-use Rattle.std.specs.Prelude.{◌≡◌, ◌≢◌, ◌<◌, ◌≤◌, ◌+◌, ◌↔◌, false, None}
+use Rattle.std.specs.Prelude.{◌≡◌, ◌≢◌, ◌<◌, ◌≤◌, ◌+◌, ◌↔◌, true, false, None}
 use Rattle.plain_state.specs.declared.slot.Kind.{Kind}
 use Rattle.plain_state.specs.declared.slot.SlotId.{SlotId}
 use Rattle.plain_state.specs.declared.slot.PlainSlot.{PlainSlot}
@@ -24,4 +24,6 @@ pub record Lawful (p : Plain) : Type 0 where
   pub weak : (s : SlotId) → 0 < weak_refs p s → stage_at p s ≢ Free
   pub once : (s : SlotId) → dying_times p s ≤ 1
   pub dying : (s : SlotId) → (stage_at p s ≡ Ended) ↔ (0 < dying_times p s)
+  -- an object that isn't alive can't be upgraded to
+  pub marks : (s : SlotId) → stage_at p s ≢ Live → (slot_at p s).marked ≡ true
   pub nulls : (s : SlotId) → IsVacant (slot_at p s) → HasNullFields (slot_at p s)

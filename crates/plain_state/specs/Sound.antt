@@ -1,8 +1,7 @@
--- What every step of the plain state keeps: Lawful, and the two facts that make it last.
-use Rattle.std.specs.Prelude.{ℕ, ◌≡◌, ◌≢◌, ◌≤◌, ◌+◌, true, length, All}
+-- What every step of the plain state keeps: Lawful, and how many references there can be.
+use Rattle.std.specs.Prelude.{ℕ, ◌≡◌, ◌≤◌, ◌+◌, length, All}
 use Rattle.plain_state.specs.declared.slot.SlotId.{SlotId}
-use Rattle.plain_state.specs.declared.slot.Stage.TheVariants.{Live}
-use Rattle.plain_state.specs.State.{Plain, slot_at, stage_at}
+use Rattle.plain_state.specs.State.{Plain}
 use Rattle.plain_state.specs.References.{over_seats, strong_refs, weak_refs}
 use Rattle.plain_state.specs.Lawful.{Lawful}
 
@@ -12,8 +11,6 @@ all_adds p = over_seats (λ v. v.adds) p.seats
 
 pub record Sound (p : Plain) : Type 0 where
   pub lawful : Lawful p
-  -- an object that isn't alive can't be upgraded to
-  pub marks : (s : SlotId) → stage_at p s ≢ Live → (slot_at p s).marked ≡ true
   -- each reference came from an add, but for the slot's own
   pub strong_few : (s : SlotId) → strong_refs p s ≤ all_adds p
   pub weak_few : (s : SlotId) → weak_refs p s ≤ all_adds p + 1

@@ -18,11 +18,13 @@ pub record PlainSeat : Type 0 where
   pub adds : ℕ
   pub left : Bool
 
+-- What all seats have, every cell and every slot, and how many tickets were drawn so far.
 pub record Plain : Type 0 where
   pub seats : List PlainSeat
   pub cells : List (Option SlotId)
   pub weak_cells : List (Option SlotId)
   pub slots : List PlainSlot
+  pub tickets : ℕ
 
 abbrev pub new_seat : PlainSeat
 new_seat = record {
@@ -73,4 +75,5 @@ empty seats slots cells weak_cells = record {
   cells = replicate cells None;
   weak_cells = replicate weak_cells None;
   slots = replicate slots new_slot;
+  tickets = 0;
 }

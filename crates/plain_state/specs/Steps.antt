@@ -67,11 +67,12 @@ Leaves p j q =
     }
 
 -- The table of steps: seat n's act, the number that it finds, and the state q that it leads to. The number is the
--- word found in a place, the strong count for Count and Mark, 1 for an Add that found the zero mark, and else 0.
+-- word found in a place, the strong count for Count and Mark, 1 for an Add that found the zero mark, the number of the
+-- ticket for Ticket, and else 0.
 abbrev pub Row : Plain → ℕ → PlainAct → ℕ → Plain → Type 0
 Row p n (act.Claim s) found q =
     let v = seat_at p n in let x = slot_at p s in
-    (s.0 < length p.slots) × (x.stage ≡ Free) × (found ≡ 0)
+    (s.0 < length p.slots) × (x.stage ≡ Free) × (v.filling ≡ None) × (found ≡ 0)
     × (q ≡ with_slot (with_seat p n (record v { filling = Some s })) s (record x { stage = Blank }))
 Row p n (act.Fill s i word) found q =
     let x = slot_at p s in
@@ -145,11 +146,16 @@ Row p n (act.Give s) found q =
     × (q ≡ with_slot p s (record (slot_at p s) { stage = Free }))
 Row p n (act.Leave j) found q =
     (n ≡ 0) × (j ≢ 0) × (j < length p.seats) × ((seat_at p j).left ≡ false)
-    × ((seat_at p j).snapshots ≡ []) × (found ≡ 0) × Leaves p j q
+    × ((seat_at p j).snapshots ≡ []) × ((seat_at p 0).filling ≡ None)
+    × ((seat_at p j).filling ≡ None) × (found ≡ 0) × Leaves p j q
 Row p n act.Split found q =
     let v = seat_at p n in
     (found ≡ 0)
     × ((es : List Entry) × IsReordering v.deferred es × (q ≡ with_seat p n (record v { deferred = es })))
+Row p n act.Ticket found q =
+    let v = seat_at p n in
+    (found ≡ p.tickets)
+    × (q ≡ record (with_seat p n (record v { adds = v.adds + 1 })) { tickets = p.tickets + 1 })
 Row p n act.Still found q = (found ≡ 0) × (q ≡ p)
 
 -- the seat is there, and hasn't left

@@ -43,5 +43,7 @@ pub enum PlainAct {
     Leave(u32),
     /// The order of the seat's deferred entries changes.
     Split,
+    /// The seat draws the next ticket.
+    Ticket,
     Still,
 }

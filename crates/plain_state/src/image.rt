@@ -4,7 +4,7 @@ ghost use Rattle.plain_state.specs.Images.{value, slot_image};
 
 use crate::slot::{Kind, SlotId};
 
-/// The zero flag of a strong word; the weak word of a free slot.
+/// The zero flag of a strong word.
 pub const ZERO: u64 = 1 << 63;
 
 /// The words of one slot. A field is 0 for null, else the slot's number and one.
