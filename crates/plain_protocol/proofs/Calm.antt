@@ -138,7 +138,7 @@ clears : (p q r : Plain) (n : ℕ) (place : EventPlace) → Lawful p → n < len
     → IsDyingField p n place → SameButSeats p r → q ≡ with_content r place None → IsCalmed p q
 clears p q r n (Cell i) lawful there dies same is = absurd dies
 clears p q r n (Field s i) lawful there dies same is =
-    let not = ended_not (slot_at p s) (dying_ended p n s lawful there dies.1) in
+    let not = ended_not (slot_at p s) (dying_ended p n s lawful there dies.1.0) in
     let slot : slot_at r s ≡ slot_at p s = ap (λ l. get_or l s.0 new_slot) same.0 in
     one_slot p q s (with_field i None (slot_at p s)) (field_cleared _ (i == 0) (slot_at p s) not)
     (ap (λ (z : Plain). z.slots) is
@@ -149,7 +149,7 @@ clears p q r n (Field s i) lawful there dies same is =
     (ap (λ (z : Plain). z.tickets) is ∙ same.3)
 clears p q r n (WeakCell i) lawful there dies same is = absurd dies
 clears p q r n (WeakField s) lawful there dies same is =
-    let not = ended_not (slot_at p s) (dying_ended p n s lawful there dies) in
+    let not = ended_not (slot_at p s) (dying_ended p n s lawful there dies.0) in
     let slot : slot_at r s ≡ slot_at p s = ap (λ l. get_or l s.0 new_slot) same.0 in
     one_slot p q s (record (slot_at p s) { weak_field = None })
     (cleared _ (slot_at p s) (record (slot_at p s) { weak_field = None }) not refl refl refl refl
@@ -272,6 +272,10 @@ calm_leaves p q n (act.Check j place) found lawful calm d = ⊎_elim
     (λ same. by_seat p q p (refl, refl, refl, refl) same)
     (λ taken. by_seat p q (with_seat p n _) (refl, refl, refl, refl) taken.2.2)
     d.1.2
+calm_leaves p q n (act.Alive j) found lawful calm d = ⊎_elim
+    (λ zero. by_seat p q p (refl, refl, refl, refl) zero.1)
+    (λ alive. by_seat p q (with_seat p n _) (refl, refl, refl, refl) alive.2.2)
+    d.1.3
 calm_leaves p q n (act.EndSnapshot k s) found lawful calm d =
     by_seat p q (with_seat p n _) (refl, refl, refl, refl) d.1.3
 calm_leaves p q n (act.Replace place new) found lawful calm d = absurd calm
@@ -295,8 +299,8 @@ calm_leaves p q n (act.Clear place) found lawful calm d =
 calm_leaves p q n (act.Destroy s) found lawful calm d =
     by_slot p q (with_seat p n _) s _ (refl, refl, refl, refl)
     (destroyed _ _ (dying_ended p n s lawful d.0.0
-    (times_lost s (seat_at p n).dying d.1.2.0 d.1.2.1)))
-    d.1.2.2
+    (times_lost s (seat_at p n).dying d.1.3.0 d.1.3.1)))
+    d.1.3.2
 calm_leaves p q n (act.Give s) found lawful calm d =
     by_slot p q p s _ (refl, refl, refl, refl)
     (given _ _ d.1.0 (let none : weak_refs p s ≡ 0 = d.1.1 in omega arith))

@@ -76,6 +76,11 @@ step_fits fits p q n (act.Check j place) found d made all =
     (λ same. subst (AllFit fits) (sym same) all)
     (λ taken. subst (AllFit fits) (sym taken.2.2) all)
     d.1.2
+step_fits fits p q n (act.Alive j) found d made all =
+    ⊎_elim
+    (λ zero. subst (AllFit fits) (sym zero.1) all)
+    (λ alive. subst (AllFit fits) (sym alive.2.2) all)
+    d.1.3
 step_fits fits p q n (act.EndSnapshot k s) found d made all = subst (AllFit fits) (sym d.1.3) all
 step_fits fits p q n (act.Replace place new) found d made all =
     replaces_fits fits p q n place new d.1.2 all
@@ -98,7 +103,7 @@ step_fits fits p q n (act.End s) found d made all =
 step_fits fits p q n (act.Clear place) found d made all =
     clears_fits fits p q n place d.1.2 all
 step_fits fits p q n (act.Destroy s) found d made all =
-    subst (AllFit fits) (sym d.1.2.2)
+    subst (AllFit fits) (sym d.1.3.2)
     (vacant_fits fits p s _ (λ e. cc, λ e. cc) all)
 step_fits fits p q n (act.Give s) found d made all =
     subst (AllFit fits) (sym d.1.3)

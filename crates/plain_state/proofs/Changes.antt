@@ -5,7 +5,7 @@ use Rattle.std.proofs.lemmas.List.{length-set, get_or-set_same, get_or-set_other
 use Rattle.plain_state.specs.declared.act.EventPlace.{EventPlace}
 use Rattle.plain_state.specs.declared.act.EventPlace.TheVariants.{Cell, Field, WeakCell, WeakField}
 use Rattle.plain_state.specs.declared.slot.Kind.{Kind}
-use Rattle.plain_state.specs.declared.slot.Kind.TheVariants.{Strong, Weak}
+use Rattle.plain_state.specs.declared.slot.Kind.TheVariants.{Strong, Weak, Disposal}
 use Rattle.plain_state.specs.declared.slot.SlotId.{SlotId}
 use Rattle.plain_state.specs.declared.slot.PlainSlot.{PlainSlot}
 use Rattle.plain_state.specs.Lists.{times, entry_times}
@@ -32,6 +32,9 @@ pub record SeatChange (p q : Plain) (v w : PlainSeat) (s : SlotId) : Type 0 wher
   pub weak_snapshots :
       snapshot_times Weak q s + entry_times Weak s v.snapshots
       ≡ snapshot_times Weak p s + entry_times Weak s w.snapshots
+  pub disposal_snapshots :
+      snapshot_times Disposal q s + entry_times Disposal s v.snapshots
+      ≡ snapshot_times Disposal p s + entry_times Disposal s w.snapshots
   pub strong_deferred :
       deferrals Strong q s + entry_times Strong s v.deferred
       ≡ deferrals Strong p s + entry_times Strong s w.deferred
@@ -60,6 +63,8 @@ seat_change p n w s h =
       strong_snapshots =
           seats_set (λ (v : PlainSeat). entry_times Strong s v.snapshots) p.seats n w h;
       weak_snapshots = seats_set (λ (v : PlainSeat). entry_times Weak s v.snapshots) p.seats n w h;
+      disposal_snapshots =
+          seats_set (λ (v : PlainSeat). entry_times Disposal s v.snapshots) p.seats n w h;
       strong_deferred = d;
       weak_deferred = e;
       dying = seats_set (λ (v : PlainSeat). times s v.dying) p.seats n w h;
@@ -83,6 +88,8 @@ pub record SeatPart (p : Plain) (n : ℕ) (s : SlotId) : Type 0 where
   pub weaks : times s (seat_at p n).weaks ≤ weak_times p s
   pub strong_snapshots : entry_times Strong s (seat_at p n).snapshots ≤ snapshot_times Strong p s
   pub weak_snapshots : entry_times Weak s (seat_at p n).snapshots ≤ snapshot_times Weak p s
+  pub disposal_snapshots :
+      entry_times Disposal s (seat_at p n).snapshots ≤ snapshot_times Disposal p s
   pub strong_deferred : entry_times Strong s (seat_at p n).deferred ≤ deferrals Strong p s
   pub weak_deferred : entry_times Weak s (seat_at p n).deferred ≤ deferrals Weak p s
   pub dying : times s (seat_at p n).dying ≤ dying_times p s
@@ -94,6 +101,7 @@ seat_part p n s h = record {
   weaks = seats_at (λ (v : PlainSeat). times s v.weaks) p.seats n h;
   strong_snapshots = seats_at (λ (v : PlainSeat). entry_times Strong s v.snapshots) p.seats n h;
   weak_snapshots = seats_at (λ (v : PlainSeat). entry_times Weak s v.snapshots) p.seats n h;
+  disposal_snapshots = seats_at (λ (v : PlainSeat). entry_times Disposal s v.snapshots) p.seats n h;
   strong_deferred = seats_at (λ (v : PlainSeat). entry_times Strong s v.deferred) p.seats n h;
   weak_deferred = seats_at (λ (v : PlainSeat). entry_times Weak s v.deferred) p.seats n h;
   dying = seats_at (λ (v : PlainSeat). times s v.dying) p.seats n h;
@@ -106,6 +114,7 @@ pub record SeatsSame (p q : Plain) (s : SlotId) : Type 0 where
   pub weaks : weak_times q s ≡ weak_times p s
   pub strong_snapshots : snapshot_times Strong q s ≡ snapshot_times Strong p s
   pub weak_snapshots : snapshot_times Weak q s ≡ snapshot_times Weak p s
+  pub disposal_snapshots : snapshot_times Disposal q s ≡ snapshot_times Disposal p s
   pub strong_deferred : deferrals Strong q s ≡ deferrals Strong p s
   pub weak_deferred : deferrals Weak q s ≡ deferrals Weak p s
   pub dying : dying_times q s ≡ dying_times p s
@@ -117,6 +126,7 @@ seats_same p q s e = record {
   weaks = ap (over_seats (λ (v : PlainSeat). times s v.weaks)) e;
   strong_snapshots = ap (over_seats (λ (v : PlainSeat). entry_times Strong s v.snapshots)) e;
   weak_snapshots = ap (over_seats (λ (v : PlainSeat). entry_times Weak s v.snapshots)) e;
+  disposal_snapshots = ap (over_seats (λ (v : PlainSeat). entry_times Disposal s v.snapshots)) e;
   strong_deferred = ap (over_seats (λ (v : PlainSeat). entry_times Strong s v.deferred)) e;
   weak_deferred = ap (over_seats (λ (v : PlainSeat). entry_times Weak s v.deferred)) e;
   dying = ap (over_seats (λ (v : PlainSeat). times s v.dying)) e;

@@ -11,7 +11,7 @@ use Rattle.plain_state.specs.Steps.{Replaces, Clears, Does}
 use Rattle.plain_state.specs.Sound.{Sound}
 use Rattle.plain_state.specs.Lawful.{IsCovered}
 use Rattle.plain_state.proofs.Changes.{IsThere}
-use Rattle.plain_state.proofs.SeatRows.{is_there, held_live, open_there, add_sound, add_refused_sound, ticket_sound, weak_gain_sound, drop_sound, weak_drop_sound, check_sound, end_snapshot_sound, eject_sound, split_sound}
+use Rattle.plain_state.proofs.SeatRows.{is_there, held_live, open_there, add_sound, add_refused_sound, ticket_sound, weak_gain_sound, drop_sound, weak_drop_sound, readable_there, check_sound, alive_sound, end_snapshot_sound, eject_sound, split_sound}
 use Rattle.plain_state.proofs.SlotRows.{claim_sound, fill_sound, make_sound, mark_sound, end_sound, dying_ended, destroy_sound, give_sound}
 use Rattle.plain_state.proofs.PlaceRows.{HasObject, replace_sound}
 use Rattle.plain_state.proofs.Leaves.{leave_sound}
@@ -31,10 +31,10 @@ dying_there : (p : Plain) (n : ℕ) (place : EventPlace) → Sound p → n < len
     → IsThere p place × HasObject p place
 dying_there p n (Cell i) so hn at = absurd at
 dying_there p n (Field s i) so hn at =
-    let e = dying_ended p n s so hn at.1 in (is_there p s (λ f. cc), inr e)
+    let e = dying_ended p n s so hn at.1.0 in (is_there p s (λ f. cc), inr e)
 dying_there p n (WeakCell i) so hn at = absurd at
 dying_there p n (WeakField s) so hn at =
-    let e = dying_ended p n s so hn at in (is_there p s (λ f. cc), inr e)
+    let e = dying_ended p n s so hn at.0 in (is_there p s (λ f. cc), inr e)
 
 replaces_sound : (p q : Plain) (n : ℕ) (place : EventPlace) (new : Option SlotId) → Sound p
     → n < length p.seats
@@ -75,10 +75,17 @@ step_sound p q n (act.Check j place) found so d =
     (λ same. subst Sound (sym same) so)
     (λ taken.
     let gain = taken.2 in
-    let there = open_there p n place so d.0.0 d.1.0 in
+    let there = readable_there p n place so d.0.0 d.1.0 in
     subst Sound (sym gain.2)
     (check_sound p n place taken.0 gain.0 so d.0.0 there taken.1 gain.1))
     d.1.2
+step_sound p q n (act.Alive j) found so d =
+    ⊎_elim
+    (λ zero. subst Sound (sym zero.1) so)
+    (λ alive.
+    let gain = alive.2 in
+    subst Sound (sym gain.2) (alive_sound p n d.1.0 gain.0 so d.0.0 alive.1 gain.1))
+    d.1.3
 step_sound p q n (act.EndSnapshot k s) found so d =
     subst Sound (sym d.1.3) (end_snapshot_sound p n k s d.1.0 so d.0.0 d.1.1)
 step_sound p q n (act.Replace place new) found so d =
@@ -103,8 +110,8 @@ step_sound p q n (act.End s) found so d =
     subst Sound (sym d.1.3) (end_sound p n s so d.0.0 d.1.0 d.1.1)
 step_sound p q n (act.Clear place) found so d = clears_sound p q n place so d.0.0 d.1.0 d.1.2
 step_sound p q n (act.Destroy s) found so d =
-    let gone = d.1.2 in
-    subst Sound (sym gone.2) (destroy_sound p n s gone.0 so d.0.0 gone.1 d.1.0)
+    let gone = d.1.3 in
+    subst Sound (sym gone.2) (destroy_sound p n s gone.0 so d.0.0 gone.1 d.1.0 d.1.1)
 step_sound p q n (act.Give s) found so d = subst Sound (sym d.1.3) (give_sound p s so d.1.0 d.1.1)
 step_sound p q n (act.Leave j) found so d = leave_sound p q j so (omega arith) d.1.2 d.1.1 d.1.8
 step_sound p q n act.Split found so d =

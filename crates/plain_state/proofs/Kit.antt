@@ -7,7 +7,7 @@ use Rattle.std.proofs.lemmas.List.Folds.{sum_by-replicate}
 use Rattle.std.proofs.lemmas.Bool.{cases_eq}
 use Rattle.std.proofs.lemmas.Bool.Decides.{nat_tests}
 use Rattle.plain_state.specs.declared.slot.Kind.{Kind}
-use Rattle.plain_state.specs.declared.slot.Kind.TheVariants.{Strong, Weak}
+use Rattle.plain_state.specs.declared.slot.Kind.TheVariants.{Strong, Weak, Disposal}
 use Rattle.plain_state.specs.declared.slot.SlotId.{SlotId}
 use Rattle.plain_state.specs.declared.slot.PlainSlot.{PlainSlot}
 use Rattle.plain_state.specs.Lists.{Entry, is_slot, is_entry, holds, times, entry_times, cell_times, Loses}
@@ -113,9 +113,9 @@ times_in s (x ∷ xs) h =
 -- a list of entries: entry_in k s e is 1 where e is (k, s), and else 0
 abbrev pub of_kind : Kind → Kind → ℕ → ℕ
 of_kind Strong Strong m = m
-of_kind Strong Weak m = 0
-of_kind Weak Strong m = 0
 of_kind Weak Weak m = m
+of_kind Disposal Disposal m = m
+of_kind k j m = 0
 
 abbrev pub entry_in : Kind → SlotId → Entry → ℕ
 entry_in k s e = of_kind k e.0 (held_in s (Some e.1))
@@ -125,25 +125,41 @@ entry_counts : (k : Kind) (s : SlotId) (e : Entry)
 unfolding held_in
 entry_counts Strong s (Strong, x) = refl
 entry_counts Strong s (Weak, x) = refl
+entry_counts Strong s (Disposal, x) = refl
 entry_counts Weak s (Strong, x) = refl
 entry_counts Weak s (Weak, x) = refl
+entry_counts Weak s (Disposal, x) = refl
+entry_counts Disposal s (Strong, x) = refl
+entry_counts Disposal s (Weak, x) = refl
+entry_counts Disposal s (Disposal, x) = refl
 
 pub entry_self : (k : Kind) (s : SlotId) → entry_in k s (k, s) ≡ 1
 entry_self Strong s = held_self s
 entry_self Weak s = held_self s
+entry_self Disposal s = held_self s
 
 pub entry_other : (k : Kind) (s : SlotId) (e : Entry) → e.1.0 ≢ s.0 → entry_in k s e ≡ 0
 entry_other Strong s (Strong, x) ne = held_other s x ne
 entry_other Strong s (Weak, x) ne = refl
+entry_other Strong s (Disposal, x) ne = refl
 entry_other Weak s (Strong, x) ne = refl
 entry_other Weak s (Weak, x) ne = held_other s x ne
+entry_other Weak s (Disposal, x) ne = refl
+entry_other Disposal s (Strong, x) ne = refl
+entry_other Disposal s (Weak, x) ne = refl
+entry_other Disposal s (Disposal, x) ne = held_other s x ne
 
 -- an entry that counts is (k, s)
 pub entry_is : (k : Kind) (s : SlotId) (e : Entry) → 0 < entry_in k s e → e ≡ (k, s)
 entry_is Strong s (Strong, x) h = ap (λ (y : SlotId). (Strong, y)) (held_is s x h)
 entry_is Strong s (Weak, x) h = absurd (omega arith)
+entry_is Strong s (Disposal, x) h = absurd (omega arith)
 entry_is Weak s (Strong, x) h = absurd (omega arith)
 entry_is Weak s (Weak, x) h = ap (λ (y : SlotId). (Weak, y)) (held_is s x h)
+entry_is Weak s (Disposal, x) h = absurd (omega arith)
+entry_is Disposal s (Strong, x) h = absurd (omega arith)
+entry_is Disposal s (Weak, x) h = absurd (omega arith)
+entry_is Disposal s (Disposal, x) h = ap (λ (y : SlotId). (Disposal, y)) (held_is s x h)
 
 pub entry_none : (k : Kind) (s : SlotId) → entry_times k s [] ≡ 0
 unfolding entry_times

@@ -45,6 +45,7 @@ less p j t h0 hj ne =
       weak = omega arith;
       adds = omega arith;
       dying = omega arith;
+      disposal = omega arith;
       strong_covered = λ k h. omega arith;
       weak_covered = λ k h. omega arith;
     }

@@ -7,7 +7,7 @@ use Rattle.std.proofs.lemmas.List.Elements.{All-set}
 use Rattle.plain_state.specs.declared.act.EventPlace.{EventPlace}
 use Rattle.plain_state.specs.declared.act.EventPlace.TheVariants.{Cell, Field, WeakCell, WeakField}
 use Rattle.plain_state.specs.declared.slot.Kind.{Kind}
-use Rattle.plain_state.specs.declared.slot.Kind.TheVariants.{Strong, Weak}
+use Rattle.plain_state.specs.declared.slot.Kind.TheVariants.{Strong, Weak, Disposal}
 use Rattle.plain_state.specs.declared.slot.SlotId.{SlotId}
 use Rattle.plain_state.specs.declared.slot.PlainSlot.{PlainSlot}
 use Rattle.plain_state.specs.declared.slot.Stage.TheVariants.{Live, Ended}
@@ -26,8 +26,13 @@ use Rattle.plain_state.proofs.SlotLaw.{SlotLaw, NoMore, numbers, slot_law, sound
 null_holds : (j k : Kind) (s : SlotId) → of_kind j k (held_in s None) ≡ 0
 null_holds Strong Strong s = held_none s
 null_holds Strong Weak s = refl
+null_holds Strong Disposal s = refl
 null_holds Weak Strong s = refl
 null_holds Weak Weak s = held_none s
+null_holds Weak Disposal s = refl
+null_holds Disposal Strong s = refl
+null_holds Disposal Weak s = refl
+null_holds Disposal Disposal s = held_none s
 
 -- a list that takes what a place held
 pub joined_times : (j k : Kind) (s : SlotId) (old : Option SlotId) (es : List Entry)
@@ -63,6 +68,8 @@ pub gave : (k : Kind) (new : Option SlotId) (v w : PlainSeat) (s : SlotId) → G
     → Gave k new v w s
 gave Strong None v w s g = gave_null Strong v w s g
 gave Weak None v w s g = gave_null Weak v w s g
+gave Disposal None v w s g = gave_null Disposal v w s g
+gave Disposal (Some x) v w s g = absurd g
 gave Strong (Some x) v w s g =
     let l = times_loses s x v.owned g.0 g.1 in
     let o : times s w.owned ≡ times s g.0 = ap (λ (u : PlainSeat). times s u.owned) g.2 in
@@ -198,6 +205,8 @@ replace_sound p n place new w so hn there stands gives =
         ap (entry_times Strong t) g.snapshots in
         let ws : entry_times Weak t w.snapshots ≡ entry_times Weak t (seat_at p n).snapshots =
         ap (entry_times Weak t) g.snapshots in
+        let ds : entry_times Disposal t w.snapshots
+        ≡ entry_times Disposal t (seat_at p n).snapshots = ap (entry_times Disposal t) g.snapshots in
         let y : times t w.dying ≡ times t (seat_at p n).dying = ap (times t) g.dying in
         let sc : place_holds Strong t place (content r place)
         ≡ place_holds Strong t place (content p place) =
@@ -210,6 +219,7 @@ replace_sound p n place new w so hn there stands gives =
           weak = omega arith;
           adds = omega arith;
           dying = omega arith;
+          disposal = omega arith;
           strong_covered = λ q h. omega arith;
           weak_covered = λ q h. omega arith;
         }

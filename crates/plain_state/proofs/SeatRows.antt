@@ -1,24 +1,24 @@
 -- Each step that writes one seat alone keeps Sound.
-use Rattle.std.proofs.Common.{◌≡◌, ◌≢◌, ⊎_elim, ℕ, ◌+◌, ◌<◌, false, List, [], ◌∷◌, ◌++◌, length, ap, sym, ◌∙◌, arith, Some}
+use Rattle.std.proofs.Common.{◌≡◌, ◌≢◌, inl, ⊎_elim, ℕ, ◌+◌, ◌<◌, false, List, [], ◌∷◌, ◌++◌, length, ap, sym, ◌∙◌, arith, Some}
 use Rattle.std.proofs.lemmas.Bool.{cases_lt}
 use Rattle.std.proofs.lemmas.List.{get_or_past}
 use Rattle.plain_state.specs.declared.act.EventPlace.{EventPlace}
 use Rattle.plain_state.specs.declared.act.EventPlace.TheVariants.{Cell, Field, WeakCell, WeakField}
 use Rattle.plain_state.specs.declared.slot.Kind.{Kind}
-use Rattle.plain_state.specs.declared.slot.Kind.TheVariants.{Strong, Weak}
+use Rattle.plain_state.specs.declared.slot.Kind.TheVariants.{Strong, Weak, Disposal}
 use Rattle.plain_state.specs.declared.slot.SlotId.{SlotId}
 use Rattle.plain_state.specs.declared.slot.PlainSlot.{PlainSlot}
-use Rattle.plain_state.specs.declared.slot.Stage.TheVariants.{Free, Live}
+use Rattle.plain_state.specs.declared.slot.Stage.TheVariants.{Free, Live, Ended}
 use Rattle.plain_state.specs.Lists.{Entry, Loses, Gains}
 use Rattle.plain_state.specs.State.{Plain, PlainSeat, new_slot, seat_at, slot_at, stage_at, with_seat}
-use Rattle.plain_state.specs.Places.{Holds, HoldsStrongly, place_kind, content, IsOpen}
+use Rattle.plain_state.specs.Places.{Holds, HoldsStrongly, place_kind, content, IsOpen, IsReadable, CanReadFields}
 use Rattle.plain_state.specs.References.{held_in, places}
 use Rattle.plain_state.specs.Lawful.{IsCovered}
 use Rattle.plain_state.specs.Steps.{IsReordering}
 use Rattle.plain_state.specs.Sound.{Sound}
 use Rattle.plain_state.proofs.Kit.{none_or_some, cases_slot, held_self, held_other, held_once, times_push, times_loses, entry_loses}
 use Rattle.plain_state.proofs.Changes.{IsThere, seat_change, seat_part, place_part}
-use Rattle.plain_state.proofs.SlotLaw.{SlotLaw, NoMore, numbers, slot_law, sound_by, no_more_here, live_unmarked, none_strong, none_weak, none_under, none_under_weak, strong_sum, one_strong, one_weak}
+use Rattle.plain_state.proofs.SlotLaw.{SlotLaw, NoMore, numbers, slot_law, sound_by, no_more_here, live_unmarked, none_strong, none_weak, none_disposal, none_under, none_under_weak, strong_sum, one_strong, one_weak, one_disposal}
 
 -- a slot that isn't free is there
 pub is_there : (p : Plain) (s : SlotId) → stage_at p s ≢ Free → s.0 < length p.slots
@@ -39,6 +39,8 @@ held_there p n s so hn held free =
     let part = seat_part p n s hn in
     let c = none_under (numbers p s) (slot_at p s) law a in
     let d = none_under_weak (numbers p s) (slot_at p s) law b in
+    let e = none_disposal (numbers p s) (slot_at p s) law
+    (λ (e : stage_at p s ≡ Live). cc) (λ (e : stage_at p s ≡ Ended). cc) in
     absurd (omega arith)
 
 -- and what it holds strongly is live
@@ -66,6 +68,18 @@ open_there p n (Field s i) so hn open' =
 open_there p n (WeakCell i) so hn open' = open'
 open_there p n (WeakField s) so hn open' =
     let live = held_live p n s so hn open' in is_there p s (λ e. cc)
+
+-- what a seat may read the fields of isn't free, and so is a place that it may read
+readable_slot : (p : Plain) (n : ℕ) (s : SlotId) → Sound p → n < length p.seats
+    → CanReadFields (seat_at p n) s → s.0 < length p.slots
+readable_slot p n s so hn reads = is_there p s (held_there p n s so hn (omega arith))
+
+pub readable_there : (p : Plain) (n : ℕ) (place : EventPlace) → Sound p → n < length p.seats
+    → IsReadable p n place → IsThere p place
+readable_there p n (Cell i) so hn reads = reads
+readable_there p n (Field s i) so hn reads = readable_slot p n s so hn reads.1
+readable_there p n (WeakCell i) so hn reads = reads
+readable_there p n (WeakField s) so hn reads = readable_slot p n s so hn reads
 
 -- the law of each slot after a write of seat n
 abbrev EachAfter : Plain → ℕ → PlainSeat → Type 0
@@ -106,6 +120,7 @@ add_sound p n s so hn unmarked = seat_sound p n w so each
           weak = omega arith;
           adds = omega arith;
           dying = omega arith;
+          disposal = omega arith;
           strong_covered = λ k h. omega arith;
           weak_covered = λ k h. omega arith;
         }))
@@ -116,6 +131,7 @@ add_sound p n s so hn unmarked = seat_sound p n w so each
           weak = omega arith;
           adds = omega arith;
           dying = omega arith;
+          disposal = omega arith;
           strong_covered = λ k h. omega arith;
           weak_covered = λ k h. omega arith;
         }))
@@ -151,6 +167,7 @@ weak_gain_sound p n s so hn held = seat_sound p n w so each
           weak = omega arith;
           adds = omega arith;
           dying = omega arith;
+          disposal = omega arith;
           strong_covered = λ k h. omega arith;
           weak_covered = λ k h. omega arith;
         }))
@@ -161,6 +178,7 @@ weak_gain_sound p n s so hn held = seat_sound p n w so each
           weak = omega arith;
           adds = omega arith;
           dying = omega arith;
+          disposal = omega arith;
           strong_covered = λ k h. omega arith;
           weak_covered = λ k h. omega arith;
         }))
@@ -182,6 +200,7 @@ add_refused_sound p n so hn =
       weak = omega arith;
       adds = omega arith;
       dying = omega arith;
+      disposal = omega arith;
       strong_covered = λ k h. omega arith;
       weak_covered = λ k h. omega arith;
     })
@@ -203,6 +222,7 @@ drop_sound p n s xs so hn loses =
       weak = omega arith;
       adds = omega arith;
       dying = omega arith;
+      disposal = omega arith;
       strong_covered = λ k h. omega arith;
       weak_covered = λ k h. omega arith;
     })
@@ -218,6 +238,7 @@ weak_drop_sound p n s xs so hn loses =
       weak = omega arith;
       adds = omega arith;
       dying = omega arith;
+      disposal = omega arith;
       strong_covered = λ k h. omega arith;
       weak_covered = λ k h. omega arith;
     })
@@ -231,11 +252,13 @@ snapshot_sound p n Strong s es so hn held gains =
     less_sound p n (record (seat_at p n) { snapshots = es }) so (λ t.
     let c = seat_change p n (record (seat_at p n) { snapshots = es }) t hn in
     let a = entry_loses Strong t (Strong, s) es (seat_at p n).snapshots gains in
-    let b = entry_loses Weak t (Strong, s) es (seat_at p n).snapshots gains in record {
+    let b = entry_loses Weak t (Strong, s) es (seat_at p n).snapshots gains in
+    let d = entry_loses Disposal t (Strong, s) es (seat_at p n).snapshots gains in record {
       strong = omega arith;
       weak = omega arith;
       adds = omega arith;
       dying = omega arith;
+      disposal = omega arith;
       strong_covered = λ q h.
           ⊎_elim
           (λ (e : t ≡ s). let same = ap (places Strong p) e in omega arith)
@@ -247,11 +270,13 @@ snapshot_sound p n Weak s es so hn held gains =
     less_sound p n (record (seat_at p n) { snapshots = es }) so (λ t.
     let c = seat_change p n (record (seat_at p n) { snapshots = es }) t hn in
     let a = entry_loses Strong t (Weak, s) es (seat_at p n).snapshots gains in
-    let b = entry_loses Weak t (Weak, s) es (seat_at p n).snapshots gains in record {
+    let b = entry_loses Weak t (Weak, s) es (seat_at p n).snapshots gains in
+    let d = entry_loses Disposal t (Weak, s) es (seat_at p n).snapshots gains in record {
       strong = omega arith;
       weak = omega arith;
       adds = omega arith;
       dying = omega arith;
+      disposal = omega arith;
       strong_covered = λ q h. omega arith;
       weak_covered = λ q h.
           ⊎_elim
@@ -259,6 +284,46 @@ snapshot_sound p n Weak s es so hn held gains =
           (λ (ne : t.0 ≢ s.0). let o = held_other t s (λ f. ne (sym f)) in omega arith)
           (cases_slot t s);
     })
+snapshot_sound p n Disposal s es so hn held gains = absurd (omega arith)
+
+-- a weak snapshot of an object that is alive
+pub alive_sound : (p : Plain) (n : ℕ) (s : SlotId) (es : List Entry) → Sound p → n < length p.seats
+    → stage_at p s ≡ Live → Gains (seat_at p n).snapshots (Disposal, s) es
+    → Sound (with_seat p n (record (seat_at p n) { snapshots = es }))
+alive_sound p n s es so hn live gains =
+    seat_sound p n w so (λ t.
+    let c = seat_change p n w t hn in
+    let a = entry_loses Strong t (Disposal, s) es (seat_at p n).snapshots gains in
+    let b = entry_loses Weak t (Disposal, s) es (seat_at p n).snapshots gains in
+    let d = entry_loses Disposal t (Disposal, s) es (seat_at p n).snapshots gains in
+    let law = slot_law p so t in
+    ⊎_elim
+    (λ (e : t ≡ s).
+    let at : stage_at p t ≡ Live = ap (λ (z : SlotId). stage_at p z) e ∙ live in
+    one_disposal (numbers p t) (numbers (with_seat p n w) t) (slot_at p t) law (inl at) (record {
+      strong = omega arith;
+      weak = omega arith;
+      adds = omega arith;
+      dying = omega arith;
+      disposal = omega arith;
+      strong_covered = λ k h. omega arith;
+      weak_covered = λ k h. omega arith;
+    }))
+    (λ (ne : t.0 ≢ s.0).
+    let o = held_other t s (λ f. ne (sym f)) in
+    no_more_here (numbers p t) (numbers (with_seat p n w) t) (slot_at p t) law (record {
+      strong = omega arith;
+      weak = omega arith;
+      adds = omega arith;
+      dying = omega arith;
+      disposal = omega arith;
+      strong_covered = λ k h. omega arith;
+      weak_covered = λ k h. omega arith;
+    }))
+    (cases_slot t s))
+  where
+    w : PlainSeat
+    w = record (seat_at p n) { snapshots = es }
 
 pub check_sound : (p : Plain) (n : ℕ) (place : EventPlace) (s : SlotId) (es : List Entry) → Sound p
     → n < length p.seats
@@ -279,11 +344,13 @@ end_snapshot_sound p n k s es so hn loses =
     less_sound p n (record (seat_at p n) { snapshots = es }) so (λ t.
     let c = seat_change p n (record (seat_at p n) { snapshots = es }) t hn in
     let a = entry_loses Strong t (k, s) (seat_at p n).snapshots es loses in
-    let b = entry_loses Weak t (k, s) (seat_at p n).snapshots es loses in record {
+    let b = entry_loses Weak t (k, s) (seat_at p n).snapshots es loses in
+    let d = entry_loses Disposal t (k, s) (seat_at p n).snapshots es loses in record {
       strong = omega arith;
       weak = omega arith;
       adds = omega arith;
       dying = omega arith;
+      disposal = omega arith;
       strong_covered = λ q h. omega arith;
       weak_covered = λ q h. omega arith;
     })
@@ -302,6 +369,7 @@ eject_sound p n k s es so hn loses covered =
       weak = omega arith;
       adds = omega arith;
       dying = omega arith;
+      disposal = omega arith;
       strong_covered = λ q h. covered Strong t h;
       weak_covered = λ q h. covered Weak t h;
     })
@@ -318,6 +386,7 @@ split_sound p n es so hn same =
       weak = omega arith;
       adds = omega arith;
       dying = omega arith;
+      disposal = omega arith;
       strong_covered = λ q h. omega arith;
       weak_covered = λ q h. omega arith;
     })

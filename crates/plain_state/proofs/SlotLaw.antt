@@ -1,8 +1,8 @@
 -- Sound, slot by slot: the law of one slot speaks of ten numbers and of what the slot is.
-use Rattle.std.proofs.Common.{◌≡◌, ◌≢◌, ℕ, ◌+◌, ◌<◌, ◌≤◌, true, false, length, refl, ap, sym, ◌∙◌, arith}
+use Rattle.std.proofs.Common.{◌≡◌, ◌≢◌, ◌⊎◌, inl, inr, ⊎_elim, ℕ, ◌+◌, ◌<◌, ◌≤◌, true, false, length, refl, ap, sym, ◌∙◌, arith}
 use Rattle.std.specs.Prelude.{◌↔◌}
 use Rattle.std.specs.List.{All}
-use Rattle.plain_state.specs.declared.slot.Kind.TheVariants.{Strong, Weak}
+use Rattle.plain_state.specs.declared.slot.Kind.TheVariants.{Strong, Weak, Disposal}
 use Rattle.plain_state.specs.declared.slot.SlotId.{SlotId}
 use Rattle.plain_state.specs.declared.slot.PlainSlot.{PlainSlot}
 use Rattle.plain_state.specs.declared.slot.Stage.{Stage}
@@ -24,6 +24,7 @@ pub record Numbers : Type 0 where
   pub weak_deferred : ℕ
   pub strong_snapshots : ℕ
   pub weak_snapshots : ℕ
+  pub disposal_snapshots : ℕ
   pub dying : ℕ
   pub adds : ℕ
 
@@ -37,6 +38,7 @@ numbers p s = record {
   weak_deferred = deferrals Weak p s;
   strong_snapshots = snapshot_times Strong p s;
   weak_snapshots = snapshot_times Weak p s;
+  disposal_snapshots = snapshot_times Disposal p s;
   dying = dying_times p s;
   adds = all_adds p;
 }
@@ -51,6 +53,7 @@ weak_sum m = m.weaks + m.weak_places + m.weak_deferred
 pub record SlotLaw (m : Numbers) (x : PlainSlot) : Type 0 where
   pub strong_covered : 0 < m.strong_snapshots → 0 < m.strong_places + m.strong_deferred
   pub weak_covered : 0 < m.weak_snapshots → 0 < m.weak_places + m.weak_deferred
+  pub disposal_covered : 0 < m.disposal_snapshots → (x.stage ≡ Live) ⊎ (x.stage ≡ Ended)
   pub strong : 0 < strong_sum m → (x.stage ≡ Live) × (x.marked ≡ false)
   pub weak : 0 < weak_sum m + own_reference x.stage → x.stage ≢ Free
   pub once : m.dying ≤ 1
@@ -67,6 +70,7 @@ pub slot_law : (p : Plain) → Sound p → EachSlot p
 slot_law p so s = record {
   strong_covered = so.lawful.covered Strong s;
   weak_covered = so.lawful.covered Weak s;
+  disposal_covered = so.lawful.covered Disposal s;
   strong = so.lawful.strong s;
   weak = so.lawful.weak s;
   once = so.lawful.once s;
@@ -80,6 +84,7 @@ slot_law p so s = record {
 covered_by : (p : Plain) → EachSlot p → IsCovered p
 covered_by p each Strong s h = (each s).strong_covered h
 covered_by p each Weak s h = (each s).weak_covered h
+covered_by p each Disposal s h = (each s).disposal_covered h
 
 pub sound_by : (p : Plain) → EachSlot p → All (λ x. length x.payload ≡ 16) p.slots → Sound p
 sound_by p each payloads = record {
@@ -103,6 +108,7 @@ pub record NoMore (m n : Numbers) : Type 0 where
   pub weak : weak_sum n ≤ weak_sum m
   pub adds : m.adds ≤ n.adds
   pub dying : n.dying ≡ m.dying
+  pub disposal : n.disposal_snapshots ≤ m.disposal_snapshots
   pub strong_covered :
       (0 < m.strong_snapshots → 0 < m.strong_places + m.strong_deferred)
       → 0 < n.strong_snapshots → 0 < n.strong_places + n.strong_deferred
@@ -119,6 +125,9 @@ no_more m n x y law less stage mark nulls =
     record {
       strong_covered = less.strong_covered law.strong_covered;
       weak_covered = less.weak_covered law.weak_covered;
+      disposal_covered = λ h.
+          let d = less.disposal in
+          ⊎_elim (λ e. inl (stage ∙ e)) (λ e. inr (stage ∙ e)) (law.disposal_covered (omega arith));
       strong = λ h. let l = law.strong (omega arith) in (stage ∙ l.0, mark ∙ l.1);
       weak = λ h e. law.weak (omega arith) (sym stage ∙ e);
       once = omega arith;
@@ -171,6 +180,11 @@ pub none_under_weak : (m : Numbers) (x : PlainSlot) → SlotLaw m x → weak_sum
 none_under_weak m x law none =
     none_by m.weak_snapshots (λ h. let c = law.weak_covered h in omega arith)
 
+pub none_disposal : (m : Numbers) (x : PlainSlot) → SlotLaw m x → x.stage ≢ Live → x.stage ≢ Ended
+    → m.disposal_snapshots ≡ 0
+none_disposal m x law not_live not_ended =
+    none_by m.disposal_snapshots (λ h. ⊎_elim not_live not_ended (law.disposal_covered h))
+
 pub none_dying : (m : Numbers) (x : PlainSlot) → SlotLaw m x → x.stage ≢ Ended → m.dying ≡ 0
 none_dying m x law ne = none_by m.dying (λ h. ne (law.dying.1 h))
 
@@ -183,6 +197,7 @@ one_strong m n x law live mark more adds less =
     record {
       strong_covered = rest.strong_covered;
       weak_covered = rest.weak_covered;
+      disposal_covered = rest.disposal_covered;
       strong = λ h. (live, mark);
       weak = rest.weak;
       once = rest.once;
@@ -202,6 +217,7 @@ one_weak m n x law taken more adds less =
     record {
       strong_covered = rest.strong_covered;
       weak_covered = rest.weak_covered;
+      disposal_covered = rest.disposal_covered;
       strong = rest.strong;
       weak = λ h. taken;
       once = rest.once;
@@ -210,4 +226,24 @@ one_weak m n x law taken more adds less =
       marks = rest.marks;
       strong_few = rest.strong_few;
       weak_few = let few = law.weak_few in let l = less.weak in omega arith;
+    }
+
+-- one more weak snapshot of an object that isn't destroyed
+pub one_disposal : (m n : Numbers) (x : PlainSlot) → SlotLaw m x
+    → (x.stage ≡ Live) ⊎ (x.stage ≡ Ended)
+    → NoMore m (record n { disposal_snapshots = m.disposal_snapshots }) → SlotLaw n x
+one_disposal m n x law stands less =
+    let rest = no_more_here m (record n { disposal_snapshots = m.disposal_snapshots }) x law less in
+    record {
+      strong_covered = rest.strong_covered;
+      weak_covered = rest.weak_covered;
+      disposal_covered = λ h. stands;
+      strong = rest.strong;
+      weak = rest.weak;
+      once = rest.once;
+      dying = rest.dying;
+      nulls = rest.nulls;
+      marks = rest.marks;
+      strong_few = rest.strong_few;
+      weak_few = rest.weak_few;
     }

@@ -3,12 +3,13 @@ use Rattle.std.proofs.Common.{◌≡◌, ◌≢◌, ◌⊎◌, ⊎_elim, ℕ, �
 use Rattle.std.specs.List.{All}
 use Rattle.std.proofs.lemmas.List.{length-set}
 use Rattle.std.proofs.lemmas.List.Elements.{All-set}
+use Rattle.plain_state.specs.declared.slot.Kind.TheVariants.{Disposal}
 use Rattle.plain_state.specs.declared.slot.SlotId.{SlotId}
 use Rattle.plain_state.specs.declared.slot.PlainSlot.{PlainSlot}
 use Rattle.plain_state.specs.declared.slot.Stage.TheVariants.{Free, Blank, Live, Ended, Husk}
 use Rattle.plain_state.specs.Lists.{times, Loses}
 use Rattle.plain_state.specs.State.{Plain, PlainSeat, new_slot, seat_at, slot_at, stage_at, with_seat, with_slot}
-use Rattle.plain_state.specs.References.{strong_fields, weak_fields, strong_refs, weak_refs}
+use Rattle.plain_state.specs.References.{strong_fields, weak_fields, strong_refs, weak_refs, snapshot_times}
 use Rattle.plain_state.specs.Lawful.{HasNullFields}
 use Rattle.plain_state.specs.Sound.{Sound}
 use Rattle.plain_state.proofs.Kit.{cases_slot, held_self, held_other, times_push, times_loses, times_lost}
@@ -64,6 +65,7 @@ claim_sound p n s so hn hs free =
           weak = omega arith;
           adds = omega arith;
           dying = omega arith;
+          disposal = omega arith;
           strong_covered = λ k h. omega arith;
           weak_covered = λ k h. omega arith;
         }
@@ -81,6 +83,7 @@ alone p s y hs strong weak t =
       weak = omega arith;
       adds = omega arith;
       dying = omega arith;
+      disposal = omega arith;
       strong_covered = λ k h. omega arith;
       weak_covered = λ k h. omega arith;
     }
@@ -155,6 +158,7 @@ make_sound p n s so hn blank =
           weak = omega arith;
           adds = omega arith;
           dying = omega arith;
+          disposal = omega arith;
           strong_covered = λ k h. omega arith;
           weak_covered = λ k h. omega arith;
         }) blank
@@ -171,6 +175,7 @@ make_sound p n s so hn blank =
           weak = omega arith;
           adds = omega arith;
           dying = omega arith;
+          disposal = omega arith;
           strong_covered = λ k h. omega arith;
           weak_covered = λ k h. omega arith;
         })
@@ -209,6 +214,7 @@ end_sound p n s so hn live zero =
           weak = omega arith;
           adds = omega arith;
           dying = omega arith;
+          disposal = omega arith;
           strong_covered = λ k h. omega arith;
           weak_covered = λ k h. omega arith;
         }) live none
@@ -225,6 +231,7 @@ end_sound p n s so hn live zero =
           weak = omega arith;
           adds = omega arith;
           dying = omega arith;
+          disposal = omega arith;
           strong_covered = λ k h. omega arith;
           weak_covered = λ k h. omega arith;
         })
@@ -237,9 +244,10 @@ dying_ended p n s so hn h = let part = seat_part p n s hn in (slot_law p so s).d
 pub destroy_sound : (p : Plain) (n : ℕ) (s : SlotId) (xs : List SlotId) → Sound p
     → n < length p.seats
     → Loses (seat_at p n).dying s xs → HasNullFields (slot_at p s)
+    → snapshot_times Disposal p s ≡ 0
     → Sound (with_slot (with_seat p n (record (seat_at p n) { dying = xs })) s
     (record (slot_at p s) { stage = Husk }))
-destroy_sound p n s xs so hn loses null =
+destroy_sound p n s xs so hn loses null unseen =
     slot_sound (with_seat p n w) s y hs so.payloads (so.payloads s.0 new_slot hs) here there
   where
     hs : s.0 < length p.slots
@@ -265,9 +273,10 @@ destroy_sound p n s xs so hn loses null =
           weak = omega arith;
           adds = omega arith;
           dying = omega arith;
+          disposal = omega arith;
           strong_covered = λ k h. omega arith;
           weak_covered = λ k h. omega arith;
-        }) null
+        }) null unseen
 
     there : (t : SlotId) → t.0 ≢ s.0
         → SlotLaw (numbers (with_slot (with_seat p n w) s y) t) (slot_at p t)
@@ -281,6 +290,7 @@ destroy_sound p n s xs so hn loses null =
           weak = omega arith;
           adds = omega arith;
           dying = omega arith;
+          disposal = omega arith;
           strong_covered = λ k h. omega arith;
           weak_covered = λ k h. omega arith;
         })

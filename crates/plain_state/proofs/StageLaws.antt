@@ -1,11 +1,11 @@
 -- The law of a slot whose stage or mark changes, by its numbers before (m) and after (n).
-use Rattle.std.proofs.Common.{◌≡◌, ◌≢◌, ℕ, ◌+◌, ◌≤◌, true, false, refl, ap, sym, ◌∙◌, arith}
+use Rattle.std.proofs.Common.{◌≡◌, ◌≢◌, inl, inr, ℕ, ◌+◌, ◌≤◌, true, false, refl, ap, sym, ◌∙◌, arith}
 use Rattle.plain_state.specs.declared.slot.PlainSlot.{PlainSlot}
 use Rattle.plain_state.specs.declared.slot.Stage.{Stage}
 use Rattle.plain_state.specs.declared.slot.Stage.TheVariants.{Free, Blank, Live, Ended, Husk}
 use Rattle.plain_state.specs.References.{own_reference}
 use Rattle.plain_state.specs.Lawful.{HasNullFields}
-use Rattle.plain_state.proofs.SlotLaw.{Numbers, SlotLaw, NoMore, strong_sum, weak_sum, none_strong, none_weak, none_dying}
+use Rattle.plain_state.proofs.SlotLaw.{Numbers, SlotLaw, NoMore, strong_sum, weak_sum, none_strong, none_weak, none_dying, none_disposal}
 
 apart : (x : PlainSlot) (g h : Stage) → x.stage ≡ g → (g ≡ h → ⊥) → x.stage ≢ h
 apart x g h e ne f = ne (sym e ∙ f)
@@ -22,6 +22,9 @@ claimed m n x law less free =
     record {
       strong_covered = less.strong_covered law.strong_covered;
       weak_covered = less.weak_covered law.weak_covered;
+      disposal_covered = λ h.
+          let none = none_disposal m x law not_live not_ended in
+          let d = less.disposal in absurd (omega arith);
       strong = λ h. absurd (omega arith);
       weak = λ h e. cc;
       once = omega arith;
@@ -44,6 +47,7 @@ made m n x life law more adds less blank =
     record {
       strong_covered = less.strong_covered law.strong_covered;
       weak_covered = less.weak_covered law.weak_covered;
+      disposal_covered = λ h. inl refl;
       strong = λ h. (refl, refl);
       weak = λ h e. cc;
       once = omega arith;
@@ -61,6 +65,7 @@ pub zero_marked : (m n : Numbers) (x : PlainSlot) → SlotLaw m x → NoMore m n
 zero_marked m n x law less live none = record {
   strong_covered = less.strong_covered law.strong_covered;
   weak_covered = less.weak_covered law.weak_covered;
+  disposal_covered = λ h. inl live;
   strong = λ h. absurd (omega arith);
   weak = λ h. law.weak (omega arith);
   once = omega arith;
@@ -82,6 +87,7 @@ ended m n x law more less live none =
     record {
       strong_covered = less.strong_covered law.strong_covered;
       weak_covered = less.weak_covered law.weak_covered;
+      disposal_covered = λ h. inr refl;
       strong = λ h. absurd (omega arith);
       weak = λ h e. cc;
       once = omega arith;
@@ -94,9 +100,9 @@ ended m n x law more less live none =
 
 -- ended, and then a husk, in no dying list
 pub destroyed : (m n : Numbers) (x : PlainSlot) → SlotLaw m x → n.dying + 1 ≡ m.dying
-    → NoMore m (record n { dying = m.dying }) → HasNullFields x
+    → NoMore m (record n { dying = m.dying }) → HasNullFields x → m.disposal_snapshots ≡ 0
     → SlotLaw n (record x { stage = Husk })
-destroyed m n x law one less null =
+destroyed m n x law one less null unseen =
     let is_ended : x.stage ≡ Ended = law.dying.1 (omega arith) in
     let not_live : x.stage ≢ Live = apart x Ended Live is_ended (λ e. cc) in
     let own = ap own_reference is_ended in
@@ -104,6 +110,7 @@ destroyed m n x law one less null =
     record {
       strong_covered = less.strong_covered law.strong_covered;
       weak_covered = less.weak_covered law.weak_covered;
+      disposal_covered = λ h. let d = less.disposal in absurd (omega arith);
       strong = λ h. absurd (omega arith);
       weak = λ h e. cc;
       once = omega arith;
@@ -126,6 +133,9 @@ given m n x law less husk no_weak =
     record {
       strong_covered = less.strong_covered law.strong_covered;
       weak_covered = less.weak_covered law.weak_covered;
+      disposal_covered = λ h.
+          let none = none_disposal m x law not_live not_ended in
+          let d = less.disposal in absurd (omega arith);
       strong = λ h. absurd (omega arith);
       weak = λ h. absurd (omega arith);
       once = omega arith;

@@ -3,7 +3,7 @@ use Rattle.std.proofs.Common.{◌≡◌, ⊎_elim, ℕ, length, replicate, refl,
 use Rattle.std.proofs.lemmas.Bool.{cases_lt}
 use Rattle.std.proofs.lemmas.List.{length-replicate, get_or-replicate, get_or_past}
 use Rattle.std.proofs.lemmas.List.Elements.{All-replicate}
-use Rattle.plain_state.specs.declared.slot.Kind.TheVariants.{Strong, Weak}
+use Rattle.plain_state.specs.declared.slot.Kind.TheVariants.{Strong, Weak, Disposal}
 use Rattle.plain_state.specs.declared.slot.SlotId.{SlotId}
 use Rattle.plain_state.specs.declared.slot.PlainSlot.{PlainSlot}
 use Rattle.plain_state.specs.Lists.{times, entry_times}
@@ -38,6 +38,8 @@ law_of_new seats slots cells weak_cells s =
     (entry_none Strong s) in
     let ws = seats_new (λ (v : PlainSeat). entry_times Weak s v.snapshots) seats
     (entry_none Weak s) in
+    let ds = seats_new (λ (v : PlainSeat). entry_times Disposal s v.snapshots) seats
+    (entry_none Disposal s) in
     let null = held_none s in
     let sf = slots_new (strong_fields s) slots (omega arith) in
     let wf = slots_new (weak_fields s) slots null in
@@ -46,6 +48,7 @@ law_of_new seats slots cells weak_cells s =
     record {
       strong_covered = λ h. absurd (omega arith);
       weak_covered = λ h. absurd (omega arith);
+      disposal_covered = λ h. absurd (omega arith);
       strong = λ h. absurd (omega arith);
       weak = λ h. absurd (omega arith);
       once = omega arith;

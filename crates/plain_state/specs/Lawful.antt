@@ -1,15 +1,22 @@
 -- What holds of every plain state that steps reach.
-use Rattle.std.specs.Prelude.{◌≡◌, ◌≢◌, ◌<◌, ◌≤◌, ◌+◌, ◌↔◌, true, false, None}
+use Rattle.std.specs.Prelude.{◌≡◌, ◌≢◌, ◌⊎◌, ◌<◌, ◌≤◌, ◌+◌, ◌↔◌, true, false, None}
 use Rattle.plain_state.specs.declared.slot.Kind.{Kind}
+use Rattle.plain_state.specs.declared.slot.Kind.TheVariants.{Strong, Weak, Disposal}
 use Rattle.plain_state.specs.declared.slot.SlotId.{SlotId}
 use Rattle.plain_state.specs.declared.slot.PlainSlot.{PlainSlot}
 use Rattle.plain_state.specs.declared.slot.Stage.TheVariants.{Free, Live, Ended}
 use Rattle.plain_state.specs.State.{Plain, slot_at, stage_at}
 use Rattle.plain_state.specs.References.{strong_refs, weak_refs, places, deferrals, snapshot_times, dying_times}
 
--- what is under a snapshot is held by a place of its kind, or waits in a deferred list
+-- what covers a snapshot: a place of its kind, or an entry that waits in a deferred list; a weak snapshot is covered
+-- by an object that isn't destroyed
+abbrev pub Covers : Kind → Plain → SlotId → Type 0
+Covers Strong p s = 0 < places Strong p s + deferrals Strong p s
+Covers Weak p s = 0 < places Weak p s + deferrals Weak p s
+Covers Disposal p s = (stage_at p s ≡ Live) ⊎ (stage_at p s ≡ Ended)
+
 abbrev pub IsCovered : Plain → Type 0
-IsCovered p = (k : Kind) (s : SlotId) → 0 < snapshot_times k p s → 0 < places k p s + deferrals k p s
+IsCovered p = (k : Kind) (s : SlotId) → 0 < snapshot_times k p s → Covers k p s
 
 -- its object is neither alive nor about to be destroyed
 abbrev pub IsVacant : PlainSlot → Type 0

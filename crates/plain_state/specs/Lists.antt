@@ -2,7 +2,7 @@
 -- one.
 use Rattle.std.specs.Prelude.{ℕ, ◌≡◌, ◌==◌, ◌&&◌, Bool, true, false, List, ◌∷◌, ◌++◌, count_by, Option, Some, None}
 use Rattle.plain_state.specs.declared.slot.Kind.{Kind}
-use Rattle.plain_state.specs.declared.slot.Kind.TheVariants.{Strong, Weak}
+use Rattle.plain_state.specs.declared.slot.Kind.TheVariants.{Strong, Weak, Disposal}
 use Rattle.plain_state.specs.declared.slot.SlotId.{SlotId}
 
 -- a reference and its kind, as a snapshot or a deferred decrement has them
@@ -11,9 +11,9 @@ Entry = Kind × SlotId
 
 abbrev pub same_kind : Kind → Kind → Bool
 same_kind Strong Strong = true
-same_kind Strong Weak = false
-same_kind Weak Strong = false
 same_kind Weak Weak = true
+same_kind Disposal Disposal = true
+same_kind k j = false
 
 abbrev pub is_slot : SlotId → SlotId → Bool
 is_slot s x = x.0 == s.0

@@ -1,18 +1,20 @@
 -- The places of a plain state: which are there, who may use them, what they hold.
-use Rattle.std.specs.Prelude.{ℕ, ◌<◌, ◌+◌, ◌==◌, length, slice_index_or, slice_set, Option, None, if◌then◌else◌}
+use Rattle.std.specs.Prelude.{ℕ, ◌≡◌, ◌<◌, ◌+◌, ◌==◌, length, slice_index_or, slice_set, Option, None, if◌then◌else◌}
 use Rattle.plain_state.specs.declared.act.EventPlace.{EventPlace}
 use Rattle.plain_state.specs.declared.act.EventPlace.TheVariants.{Cell, Field, WeakCell, WeakField}
 use Rattle.plain_state.specs.declared.slot.Kind.{Kind}
-use Rattle.plain_state.specs.declared.slot.Kind.TheVariants.{Strong, Weak}
+use Rattle.plain_state.specs.declared.slot.Kind.TheVariants.{Strong, Weak, Disposal}
 use Rattle.plain_state.specs.declared.slot.SlotId.{SlotId}
 use Rattle.plain_state.specs.declared.slot.PlainSlot.{PlainSlot}
 use Rattle.plain_state.specs.Lists.{times, entry_times}
 use Rattle.plain_state.specs.State.{Plain, PlainSeat, seat_at, slot_at, with_slot}
+use Rattle.plain_state.specs.References.{snapshot_times}
 
 -- the seat owns s, strongly or weakly, or is under a snapshot of it
 abbrev pub held_times : SlotId → PlainSeat → ℕ
 held_times s v =
     times s v.owned + times s v.weaks + entry_times Strong s v.snapshots + entry_times Weak s v.snapshots
+    + entry_times Disposal s v.snapshots
 
 abbrev pub Holds : PlainSeat → SlotId → Type 0
 Holds v s = 0 < held_times s v
@@ -55,9 +57,24 @@ IsOpen p n (Field s i) = (i < 2) × HoldsStrongly (seat_at p n) s
 IsOpen p n (WeakCell i) = i < length p.weak_cells
 IsOpen p n (WeakField s) = HoldsStrongly (seat_at p n) s
 
--- the place is a field of a slot in the seat's dying list
+-- to read, a field is open also to a seat under a weak snapshot of its slot
+abbrev pub CanReadFields : PlainSeat → SlotId → Type 0
+CanReadFields v s =
+    0 < times s v.owned + entry_times Strong s v.snapshots + entry_times Disposal s v.snapshots
+
+abbrev pub IsReadable : Plain → ℕ → EventPlace → Type 0
+IsReadable p n (Cell i) = i < length p.cells
+IsReadable p n (Field s i) = (i < 2) × CanReadFields (seat_at p n) s
+IsReadable p n (WeakCell i) = i < length p.weak_cells
+IsReadable p n (WeakField s) = CanReadFields (seat_at p n) s
+
+-- the slot waits in the seat's dying list, and nobody is under a weak snapshot of it
+abbrev pub CanDispose : Plain → ℕ → SlotId → Type 0
+CanDispose p n s = (0 < times s (seat_at p n).dying) × (snapshot_times Disposal p s ≡ 0)
+
+-- the place is a field of such a slot
 abbrev pub IsDyingField : Plain → ℕ → EventPlace → Type 0
 IsDyingField p n (Cell i) = ⊥
-IsDyingField p n (Field s i) = (i < 2) × (0 < times s (seat_at p n).dying)
+IsDyingField p n (Field s i) = (i < 2) × CanDispose p n s
 IsDyingField p n (WeakCell i) = ⊥
-IsDyingField p n (WeakField s) = 0 < times s (seat_at p n).dying
+IsDyingField p n (WeakField s) = CanDispose p n s

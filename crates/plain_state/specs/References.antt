@@ -1,7 +1,7 @@
 -- The references to a slot, counted over the whole state.
 use Rattle.std.specs.Prelude.{ℕ, ◌+◌, List, sum_by, Option, if◌then◌else◌}
 use Rattle.plain_state.specs.declared.slot.Kind.{Kind}
-use Rattle.plain_state.specs.declared.slot.Kind.TheVariants.{Strong, Weak}
+use Rattle.plain_state.specs.declared.slot.Kind.TheVariants.{Strong, Weak, Disposal}
 use Rattle.plain_state.specs.declared.slot.SlotId.{SlotId}
 use Rattle.plain_state.specs.declared.slot.PlainSlot.{PlainSlot}
 use Rattle.plain_state.specs.declared.slot.Stage.{Stage}
@@ -31,6 +31,7 @@ weak_fields s x = held_in s x.weak_field
 abbrev pub places : Kind → Plain → SlotId → ℕ
 places Strong p s = cell_times s p.cells + over_slots (strong_fields s) p.slots
 places Weak p s = cell_times s p.weak_cells + over_slots (weak_fields s) p.slots
+places Disposal p s = 0
 
 -- how often (k, s) stands in deferred lists
 abbrev pub deferrals : Kind → Plain → SlotId → ℕ

@@ -4,13 +4,13 @@ use Rattle.plain_state.specs.declared.act.EventPlace.{EventPlace}
 use Rattle.plain_state.specs.declared.act.PlainAct.{PlainAct}
 use Rattle.plain_state.specs.declared.act.PlainAct.TheVariants as act
 use Rattle.plain_state.specs.declared.slot.Kind.{Kind}
-use Rattle.plain_state.specs.declared.slot.Kind.TheVariants.{Strong, Weak}
+use Rattle.plain_state.specs.declared.slot.Kind.TheVariants.{Strong, Weak, Disposal}
 use Rattle.plain_state.specs.declared.slot.SlotId.{SlotId}
 use Rattle.plain_state.specs.declared.slot.Stage.TheVariants.{Free, Blank, Live, Ended, Husk}
 use Rattle.plain_state.specs.Lists.{Entry, times, entry_times, Loses, Gains}
 use Rattle.plain_state.specs.State.{Plain, PlainSeat, seat_at, slot_at, stage_at, with_seat, with_slot}
-use Rattle.plain_state.specs.Places.{Holds, held_times, IsOpen, IsDyingField, place_kind, content, with_content}
-use Rattle.plain_state.specs.References.{strong_refs, weak_refs}
+use Rattle.plain_state.specs.Places.{Holds, held_times, IsOpen, IsReadable, IsDyingField, place_kind, content, with_content}
+use Rattle.plain_state.specs.References.{strong_refs, weak_refs, snapshot_times}
 use Rattle.plain_state.specs.Lawful.{IsCovered, HasNullFields}
 
 -- the word of a place: 0 for null, else the slot's number and one
@@ -33,6 +33,7 @@ abbrev pub GivesUp : Kind → Option SlotId → PlainSeat → PlainSeat → Type
 GivesUp k None v w = w ≡ v
 GivesUp Strong (Some s) v w = (xs : List SlotId) × Loses v.owned s xs × (w ≡ record v { owned = xs })
 GivesUp Weak (Some s) v w = (xs : List SlotId) × Loses v.weaks s xs × (w ≡ record v { weaks = xs })
+GivesUp Disposal (Some s) v w = ⊥
 
 -- the place holds `new`, and what it held is deferred
 abbrev pub Replaces : Plain → ℕ → EventPlace → Option SlotId → Plain → Type 0
@@ -67,7 +68,7 @@ Leaves p j q =
     }
 
 -- The table of steps: seat n's act, the number that it finds, and the state q that it leads to. The number is the
--- word found in a place, the strong count for Count and Mark, 1 for an Add that found the zero mark, the number of the
+-- word found in a place, the strong count for Count, Mark and Alive, 1 for an Add that found the zero mark, the number of the
 -- ticket for Ticket, and else 0.
 abbrev pub Row : Plain → ℕ → PlainAct → ℕ → Plain → Type 0
 Row p n (act.Claim s) found q =
@@ -101,12 +102,18 @@ Row p n (act.WeakGain s) found q =
 Row p n (act.WeakDrop s) found q =
     let v = seat_at p n in
     (xs : List SlotId) × Loses v.weaks s xs × (found ≡ 0) × (q ≡ with_seat p n (record v { weaks = xs }))
-Row p n (act.Look place) found q = IsOpen p n place × (found ≡ word_of (content p place)) × (q ≡ p)
+Row p n (act.Look place) found q = IsReadable p n place × (found ≡ word_of (content p place)) × (q ≡ p)
 Row p n (act.Check j place) found q =
     let v = seat_at p n in
-    IsOpen p n place × (found ≡ word_of (content p place))
+    IsReadable p n place × (found ≡ word_of (content p place))
     × ((q ≡ p) ⊎ ((s : SlotId) × (content p place ≡ Some s)
     × ((es : List Entry) × Gains v.snapshots (place_kind place, s) es
+    × (q ≡ with_seat p n (record v { snapshots = es })))))
+Row p n (act.Alive j) found q =
+    let v = seat_at p n in
+    (s : SlotId) × Holds v s × (found ≡ strong_refs p s)
+    × (((found ≡ 0) × (q ≡ p)) ⊎ ((0 < found) × (stage_at p s ≡ Live)
+    × ((es : List Entry) × Gains v.snapshots (Disposal, s) es
     × (q ≡ with_seat p n (record v { snapshots = es })))))
 Row p n (act.EndSnapshot k s) found q =
     let v = seat_at p n in
@@ -138,7 +145,7 @@ Row p n (act.Clear place) found q =
     IsDyingField p n place × (found ≡ word_of (content p place)) × Clears p n place q
 Row p n (act.Destroy s) found q =
     let v = seat_at p n in let x = slot_at p s in
-    HasNullFields x × (found ≡ 0)
+    HasNullFields x × (snapshot_times Disposal p s ≡ 0) × (found ≡ 0)
     × ((xs : List SlotId) × Loses v.dying s xs
     × (q ≡ with_slot (with_seat p n (record v { dying = xs })) s (record x { stage = Husk })))
 Row p n (act.Give s) found q =

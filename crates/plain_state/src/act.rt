@@ -45,5 +45,7 @@ pub enum PlainAct {
     Split,
     /// The seat draws the next ticket.
     Ticket,
+    /// A weak snapshot by the announcement word of this number, or nothing where the strong count is 0.
+    Alive(u32),
     Still,
 }

@@ -4,11 +4,16 @@
 #[derive(Clone, Copy, PartialEq, Eq, Debug, Drop)]
 pub struct SlotId(pub u32);
 
-/// Whether a reference keeps its object alive.
+/// What a reference, a snapshot or an announcement keeps from happening.
 #[derive(Clone, Copy, PartialEq, Eq, Debug, Drop)]
 pub enum Kind {
+    /// The end of the object.
     Strong,
+    /// That the slot is given again.
     Weak,
+    /// The destruction of an object that may have ended. Only snapshots are of this kind: no place holds such a
+    /// reference, and no decrement of one is deferred.
+    Disposal,
 }
 
 /// How far a slot is in its life.
