@@ -1,5 +1,5 @@
 -- The state of the core, one event, lists of events, and the history of a state.
-use Rattle.std.specs.Prelude.{ℕ, ◌≡◌, ◌+◌, ◌^◌, ◌<◌, ◌≤◌, true, List, [], ◌∷◌, ◌++◌, length, slice_index, slice_index_or, slice_set, All, ◌==◌, if◌then◌else◌}
+use Rattle.std.specs.Prelude.{ℕ, ◌≡◌, ◌+◌, ◌^◌, ◌<◌, ◌≤◌, true, List, [], ◌∷◌, ◌++◌, length, slice_index, slice_index_or, slice_set, sum, All, ◌==◌, if◌then◌else◌}
 use Rattle.plain_state.specs.declared.slot.SlotId.{SlotId}
 use Rattle.core_events.specs.declared.act.Act.{Act}
 use Rattle.core_events.specs.declared.act.Act.TheVariants as act
@@ -11,7 +11,7 @@ use Rattle.core_events.specs.declared.shape.Quota.{Quota}
 use Rattle.core_events.specs.declared.view.CoreView.{CoreView}
 use Rattle.core_events.specs.declared.view.Move.{Move}
 use Rattle.core_events.specs.Words.{first_words, field_at, weak_field_at}
-use Rattle.core_events.specs.Views.{no_view, first_views, room_of}
+use Rattle.core_events.specs.Views.{Terms, no_view, first_views, room_of}
 use Rattle.core_events.specs.Steps.{place, next, May, answer, moved, noted, CanLeave}
 
 pub record Core : Type 0 where
@@ -45,8 +45,10 @@ taken_over root v =
       weaks = root.weaks ++ v.weaks;
       retired = root.retired ++ v.retired;
       dying = root.dying ++ v.dying;
+      ripe = root.ripe ++ v.ripe;
       made = root.made ++ v.made;
-      left_trails = root.left_trails ++ record { seat = v.seat; trail = v.trail } ∷ [];
+      left_seats =
+          root.left_seats ++ record { seat = v.seat; trail = v.trail; tickets = v.tickets } ∷ [];
     }
 
 -- what the seat has then
@@ -57,8 +59,10 @@ left_behind v =
       weaks = [];
       retired = [];
       dying = [];
+      ripe = [];
       made = [];
       trail = [];
+      tickets = [];
       left = true;
     }
 
@@ -77,7 +81,7 @@ Enabled z c n a = (n < length c.views) × May z a (view_at c n) × RestMay z c a
 
 abbrev pub after : Shape → Core → ℕ → Act → Core
 after z c n a = record {
-  words = slice_set c.words (place z a (view_at c n)) (next a (found z c n a));
+  words = slice_set c.words (place z a (view_at c n)) (next a (view_at c n) (found z c n a));
   views = views_after z c n a;
 }
 
@@ -86,8 +90,8 @@ abbrev pub Step : Shape → Core → ℕ → Act → Core → Type 0
 Step z c n a d = Enabled z c n a × (d ≡ after z c n a)
 
 -- nothing has happened
-abbrev pub start : Shape → List Quota → Core
-start z qs = record { words = first_words z; views = first_views z 0 qs }
+abbrev pub start : Shape → Terms → Core
+start z ts = record { words = first_words z; views = first_views z 0 ts.quotas ts.grants }
 
 -- the state after these events in turn
 abbrev pub run : Shape → Core → List Event → Core
@@ -117,16 +121,16 @@ moves_of z c n (e ∷ es) =
     else moves_of z (after z c e.seat e.act) n es
 
 -- these events lead to the state c, the newest first
-abbrev pub History : Shape → List Quota → List Event → Core → Type 0
-History z qs [] c = c ≡ start z qs
-History z qs (e ∷ es) c = (b : Core) × History z qs es b × Step z b e.seat e.act c
+abbrev pub History : Shape → Terms → List Event → Core → Type 0
+History z ts [] c = c ≡ start z ts
+History z ts (e ∷ es) c = (b : Core) × History z ts es b × Step z b e.seat e.act c
 
 -- the events of es in turn, after those of hs, the newest first
 abbrev pub newest_first : List Event → List Event → List Event
 newest_first [] hs = hs
 newest_first (e ∷ es) hs = newest_first es (e ∷ hs)
 
--- a shape and quotas in their ranges
+-- a shape, and what its seats may use up, in their ranges
 abbrev pub IsShape : Shape → Type 0
 IsShape z =
     (1 ≤ z.seats) × (z.seats ≤ 32) × (1 ≤ z.slots) × (z.slots ≤ 4194304) × (z.cells ≤ 65536)
@@ -135,5 +139,6 @@ IsShape z =
 abbrev pub IsQuota : Quota → Type 0
 IsQuota q = (q.makes ≤ 2 ^ 40) × (q.adds ≤ 2 ^ 40)
 
-abbrev pub AreQuotas : Shape → List Quota → Type 0
-AreQuotas z qs = (length qs ≡ z.seats) × All IsQuota qs
+abbrev pub AreTerms : Shape → Terms → Type 0
+AreTerms z ts =
+    (length ts.quotas ≡ z.seats) × All IsQuota ts.quotas × (sum ts.grants ≤ 2 ^ 40)

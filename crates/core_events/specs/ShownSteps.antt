@@ -11,7 +11,7 @@ use Rattle.core_events.specs.declared.shape.Shape.{Shape}
 use Rattle.core_events.specs.declared.view.CoreView.{CoreView}
 use Rattle.core_events.specs.declared.view.Note.{Note}
 use Rattle.core_events.specs.declared.view.Note.TheVariants as note
-use Rattle.core_events.specs.Words.{ZERO, has_help, value}
+use Rattle.core_events.specs.Words.{ZERO, has_help, value, bit_in}
 use Rattle.core_events.specs.Views.{note_of, slot_of}
 use Rattle.core_events.specs.Steps.{is_last}
 
@@ -26,12 +26,12 @@ releases note.Idle = plain.Still
 releases (note.Announced k s) = plain.Still
 releases (note.Valid k s) = plain.EndSnapshot k s
 
--- the place is a field of a slot in the seat's dying list
-abbrev pub is_dying_field : CoreView → EventPlace → Bool
-is_dying_field v (Cell i) = false
-is_dying_field v (Field s i) = nat_lt 0 (times s v.dying)
-is_dying_field v (WeakCell i) = false
-is_dying_field v (WeakField s) = nat_lt 0 (times s v.dying)
+-- the place is a field of a slot that the seat may destroy
+abbrev pub is_ripe_field : CoreView → EventPlace → Bool
+is_ripe_field v (Cell i) = false
+is_ripe_field v (Field s i) = nat_lt 0 (times s v.ripe)
+is_ripe_field v (WeakCell i) = false
+is_ripe_field v (WeakField s) = nat_lt 0 (times s v.ripe)
 
 -- the plain step that an act shows, where it finds w
 abbrev pub shown_act : Shape → Act → ℕ → CoreView → PlainAct
@@ -46,14 +46,17 @@ shown_act z (act.Announce j k s) w v = plain.Still
 shown_act z (act.Release j) w v = releases (note_of v j)
 shown_act z (act.Look p) w v = plain.Look p
 shown_act z (act.Check j p) w v = plain.Check j p
+shown_act z (act.Alive j) w v = plain.Alive j
 shown_act z act.Scan w v = if is_last z v then plain.Split else plain.Still
-shown_act z (act.Swap p new) w v = if is_dying_field v p then plain.Clear p else plain.Replace p new
+shown_act z (act.Swap p new) w v = if is_ripe_field v p then plain.Clear p else plain.Replace p new
 shown_act z (act.Cas p old new) w v = plain.TryReplace p old new
-shown_act z (act.Claim s) w v = if w == ZERO then plain.Claim s else plain.Still
+shown_act z (act.Claim s) w v = if bit_in s w == 1 then plain.Claim s else plain.Still
+shown_act z act.Arm w v = plain.Still
 shown_act z (act.Fill i x) w v = plain.Fill (slot_of v.phase) i x
 shown_act z act.Start w v = plain.Make (slot_of v.phase)
 shown_act z (act.See s i) w v = plain.See s i
 shown_act z act.Free w v = plain.Give (slot_of v.phase)
+shown_act z act.Ticket w v = plain.Ticket
 shown_act z (act.Wadd s) w v = plain.WeakGain s
 shown_act z (act.Wdrop s) w v = plain.WeakDrop s
 shown_act z (act.Destroy s) w v = plain.Destroy s
@@ -66,6 +69,8 @@ shown_number (act.Add s) w = if nat_lt w ZERO then 0 else 1
 shown_number (act.Count s) w = value w
 shown_number act.Mark w = value w
 shown_number (act.Look p) w = w
+shown_number (act.Alive j) w = value w
+shown_number act.Ticket w = w
 shown_number (act.Check j p) w = w
 shown_number (act.Swap p new) w = w
 shown_number (act.Cas p old new) w = w

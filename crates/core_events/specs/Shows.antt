@@ -1,5 +1,5 @@
 -- The plain state that a core shows.
-use Rattle.std.specs.Prelude.{ℕ, zero, suc, ◌+◌, ◌++◌, List, [], ◌∷◌, map, slice_index, Option, Some, None}
+use Rattle.std.specs.Prelude.{ℕ, ◌++◌, map, slice_index, Option, Some, None}
 use Rattle.plain_state.specs.declared.slot.SlotId.{SlotId}
 use Rattle.plain_state.specs.declared.slot.PlainSlot.{PlainSlot}
 use Rattle.plain_state.specs.Lists.{times}
@@ -8,15 +8,10 @@ use Rattle.core_events.specs.declared.shape.Shape.{Shape}
 use Rattle.core_events.specs.declared.view.CoreView.{CoreView}
 use Rattle.core_events.specs.declared.view.Phase.{Phase}
 use Rattle.core_events.specs.declared.view.Phase.TheVariants as phase
-use Rattle.core_events.specs.Words.{has_zero, slot_in, cell_at, weak_cell_at, field_at, weak_field_at, payload_at}
+use Rattle.core_events.specs.Words.{each_from, has_zero, slot_in, cell_at, weak_cell_at, field_at, weak_field_at, payload_at}
 use Rattle.core_events.specs.Views.{snapshots}
 use Rattle.core_events.specs.Runs.{Core}
-use Rattle.core_events.specs.Counts.{total, strong, stage}
-
--- f of the n numbers from i on
-abbrev pub each_from : {A : Type 0} → ℕ → ℕ → (ℕ → A) → List A
-each_from i zero f = []
-each_from i (suc n) f = f i ∷ each_from (i + 1) n f
+use Rattle.core_events.specs.Counts.{total, strong, stage, tickets_drawn}
 
 -- the slot that a seat is filling
 abbrev pub filled : Phase → Option SlotId
@@ -25,6 +20,7 @@ filled (phase.Finish s) = None
 filled (phase.Help s) = None
 filled (phase.Zero s) = None
 filled phase.Scan = None
+filled (phase.Bare s) = Some s
 filled (phase.Blank s) = Some s
 filled (phase.Give s) = None
 
@@ -62,4 +58,5 @@ shows z c = record {
   cells = each_from 0 z.cells (λ i. slot_in (slice_index c.words (cell_at z i)));
   weak_cells = each_from 0 z.weak_cells (λ i. slot_in (slice_index c.words (weak_cell_at z i)));
   slots = each_from 0 z.slots (λ x. show_slot z c (record { 0 = x }));
+  tickets = tickets_drawn z c;
 }

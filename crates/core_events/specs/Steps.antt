@@ -1,9 +1,10 @@
 -- The table of events: for each act the word that it works on, what becomes of that word, when a
 -- seat may do it, what it answers, and what the seat has afterwards. w is the word found.
-use Rattle.std.specs.Prelude.{ℕ, ◌≡◌, ◌≢◌, ◌⊎◌, ◌+◌, ◌-◌, ◌%◌, ◌^◌, ◌<◌, ◌==◌, nat_lt, bit_and, Bool, false, List, [], ◌∷◌, ◌++◌, length, slice_set, Option, Some, None, if◌then◌else◌}
+use Rattle.std.specs.Prelude.{ℕ, ◌≡◌, ◌≢◌, ◌⊎◌, ◌+◌, ◌-◌, ◌%◌, ◌^◌, ◌<◌, ◌==◌, ◌&&◌, not, nat_lt, bit_and, Bool, false, List, [], ◌∷◌, ◌++◌, length, slice_set, Option, Some, None, if◌then◌else◌}
+use Rattle.std.specs.List.{filter}
 use prog.Atomic.{either}
 use Rattle.plain_state.specs.declared.slot.Kind.{Kind}
-use Rattle.plain_state.specs.declared.slot.Kind.TheVariants.{Strong, Weak}
+use Rattle.plain_state.specs.declared.slot.Kind.TheVariants.{Strong, Weak, Disposal}
 use Rattle.plain_state.specs.declared.slot.SlotId.{SlotId}
 use Rattle.plain_state.specs.Lists.{Entry, times}
 use Rattle.plain_state.specs.Places.{place_kind}
@@ -18,14 +19,15 @@ use Rattle.core_events.specs.declared.view.Note.{Note}
 use Rattle.core_events.specs.declared.view.Note.TheVariants as note
 use Rattle.core_events.specs.declared.view.Phase.{Phase}
 use Rattle.core_events.specs.declared.view.Phase.TheVariants as phase
-use Rattle.core_events.specs.Words.{ZERO, HELP, has_help, value, note_at, strong_at, weak_at, payload_at, place_at, announcements, slot_in, code}
-use Rattle.core_events.specs.Ejection.{kept, ejected}
-use Rattle.core_events.specs.Views.{note_of, slot_of, without, Holds, IsOpen, IsDyingField}
+use Rattle.core_events.specs.Words.{ZERO, HELP, has_help, value, note_at, strong_at, weak_at, payload_at, place_at, bits_at, bit_alone, bit_in, ticket_at, announcements, slot_in, code}
+use Rattle.core_events.specs.Ejection.{kept, ejected, is_seen}
+use Rattle.core_events.specs.Views.{note_of, slot_of, slot_noted, without, Holds, IsOpen, IsReadable, IsRipeField, allowed_makes}
 
--- the counter word of a reference
+-- the counter word of a reference. No reference is of the kind Disposal
 abbrev pub counter_at : Shape → Kind → SlotId → ℕ
 counter_at z Strong s = strong_at z s
 counter_at z Weak s = weak_at z s
+counter_at z Disposal s = 0
 
 -- the counter word of the first entry that is owed
 abbrev pub owed_at : Shape → List Entry → ℕ
@@ -45,14 +47,17 @@ place z (act.Announce j k s) v = note_at v.seat j
 place z (act.Release j) v = note_at v.seat j
 place z (act.Look p) v = place_at z p
 place z (act.Check j p) v = place_at z p
+place z (act.Alive j) v = strong_at z (slot_noted (note_of v j))
 place z act.Scan v = 1 + length v.seen
 place z (act.Swap p new) v = place_at z p
 place z (act.Cas p old new) v = place_at z p
-place z (act.Claim s) v = weak_at z s
+place z (act.Claim s) v = bits_at z s
+place z act.Arm v = weak_at z (slot_of v.phase)
 place z (act.Fill i x) v = payload_at z (slot_of v.phase) i
 place z act.Start v = strong_at z (slot_of v.phase)
 place z (act.See s i) v = payload_at z s i
-place z act.Free v = weak_at z (slot_of v.phase)
+place z act.Free v = bits_at z (slot_of v.phase)
+place z act.Ticket v = ticket_at z
 place z (act.Wadd s) v = weak_at z s
 place z (act.Wdrop s) v = weak_at z s
 place z (act.Destroy s) v = weak_at z s
@@ -67,31 +72,34 @@ abbrev pub minus_one : ℕ → ℕ
 minus_one w = (w + (2 ^ 64 - 1)) % 2 ^ 64
 
 -- what becomes of the word
-abbrev pub next : Act → ℕ → ℕ
-next (act.Add s) w = plus_one w
-next (act.Drop s) w = minus_one w
-next act.Pay w = minus_one w
-next act.Finish w = either (w == 0) ZERO w
-next act.Take w = bit_and w (2 ^ 64 - 1 - HELP)
-next (act.Count s) w = w
-next act.Mark w = either (w == 0) (ZERO + HELP) w
-next (act.Announce j k s) w = code k s
-next (act.Release j) w = 0
-next (act.Look p) w = w
-next (act.Check j p) w = w
-next act.Scan w = w
-next (act.Swap p new) w = word_of new
-next (act.Cas p old new) w = either (w == word_of old) (word_of new) w
-next (act.Claim s) w = either (w == ZERO) 1 w
-next (act.Fill i x) w = x
-next act.Start w = 1
-next (act.See s i) w = w
-next act.Free w = ZERO
-next (act.Wadd s) w = plus_one w
-next (act.Wdrop s) w = minus_one w
-next (act.Destroy s) w = minus_one w
-next (act.Wcount s) w = w
-next (act.Leave j) w = w
+abbrev pub next : Act → CoreView → ℕ → ℕ
+next (act.Add s) v w = plus_one w
+next (act.Drop s) v w = minus_one w
+next act.Pay v w = minus_one w
+next act.Finish v w = either (w == 0) ZERO w
+next act.Take v w = bit_and w (2 ^ 64 - 1 - HELP)
+next (act.Count s) v w = w
+next act.Mark v w = either (w == 0) (ZERO + HELP) w
+next (act.Announce j k s) v w = code k s
+next (act.Release j) v w = 0
+next (act.Look p) v w = w
+next (act.Check j p) v w = w
+next (act.Alive j) v w = w
+next act.Scan v w = w
+next (act.Swap p new) v w = word_of new
+next (act.Cas p old new) v w = either (w == word_of old) (word_of new) w
+next (act.Claim s) v w = bit_and w (2 ^ 64 - 1 - bit_alone s)
+next act.Arm v w = 1
+next (act.Fill i x) v w = x
+next act.Start v w = 1
+next (act.See s i) v w = w
+next act.Free v w = (w + bit_alone (slot_of v.phase)) % 2 ^ 64
+next act.Ticket v w = plus_one w
+next (act.Wadd s) v w = plus_one w
+next (act.Wdrop s) v w = minus_one w
+next (act.Destroy s) v w = minus_one w
+next (act.Wcount s) v w = w
+next (act.Leave j) v w = w
 
 -- the seat is there, and in the middle of nothing
 abbrev pub IsIdle : CoreView → Type 0
@@ -99,6 +107,9 @@ IsIdle v = (v.phase ≡ phase.Idle) × (v.left ≡ false)
 
 abbrev pub HasAdd : CoreView → Type 0
 HasAdd v = v.adds < v.quota.adds
+
+abbrev pub HasMake : CoreView → Type 0
+HasMake v = v.makes < allowed_makes v
 
 abbrev pub HasRoom : CoreView → Type 0
 HasRoom v = length v.retired + length v.owed < v.room
@@ -108,6 +119,7 @@ abbrev pub CanGive : Kind → Option SlotId → CoreView → Type 0
 CanGive k None v = Unit {0}
 CanGive Strong (Some s) v = 0 < times s v.owned
 CanGive Weak (Some s) v = 0 < times s v.weaks
+CanGive Disposal (Some s) v = ⊥
 
 -- null, or a slot of the domain
 abbrev pub IsContent : Shape → Option SlotId → Type 0
@@ -129,24 +141,28 @@ May z (act.Count s) v = IsIdle v × Holds v s
 May z act.Mark v = (s : SlotId) × (v.phase ≡ phase.Zero s)
 May z (act.Announce j k s) v = IsIdle v × (j < 4) × (note_of v j ≡ note.Idle) × (s.0 < z.slots)
 May z (act.Release j) v = IsIdle v × (j < 4) × (note_of v j ≢ note.Idle)
-May z (act.Look p) v = IsIdle v × IsOpen z v p
+May z (act.Look p) v = IsIdle v × IsReadable z v p
 May z (act.Check j p) v =
     IsIdle v × (j < 4) × ((s : SlotId) × (note_of v j ≡ note.Announced (place_kind p) s))
-    × IsOpen z v p
+    × IsReadable z v p
+May z (act.Alive j) v =
+    IsIdle v × (j < 4) × ((s : SlotId) × (note_of v j ≡ note.Announced Disposal s) × Holds v s)
 May z act.Scan v = (IsIdle v × (v.owed ≡ [])) ⊎ (v.phase ≡ phase.Scan)
 May z (act.Swap p new) v =
     IsIdle v × HasRoom v
-    × ((IsOpen z v p × CanGive (place_kind p) new v) ⊎ (IsDyingField v p × (new ≡ None)))
+    × ((IsOpen z v p × CanGive (place_kind p) new v) ⊎ (IsRipeField v p × (new ≡ None)))
 May z (act.Cas p old new) v =
     IsIdle v × HasRoom v × IsOpen z v p × CanGive (place_kind p) new v × IsContent z old
-May z (act.Claim s) v = IsIdle v × (s.0 < z.slots) × (v.makes < v.quota.makes) × HasAdd v
+May z (act.Claim s) v = IsIdle v × (s.0 < z.slots) × HasMake v × HasAdd v
+May z act.Arm v = (s : SlotId) × (v.phase ≡ phase.Bare s)
 May z (act.Fill i x) v = ((s : SlotId) × (v.phase ≡ phase.Blank s)) × (i < 16) × (x < 2 ^ 64)
 May z act.Start v = (s : SlotId) × (v.phase ≡ phase.Blank s)
 May z (act.See s i) v = IsIdle v × (Holds v s ⊎ (0 < times s v.dying)) × (i < 16)
 May z act.Free v = (s : SlotId) × (v.phase ≡ phase.Give s)
+May z act.Ticket v = IsIdle v × HasAdd v
 May z (act.Wadd s) v = IsIdle v × HasAdd v × Holds v s
 May z (act.Wdrop s) v = IsIdle v × (0 < times s v.weaks)
-May z (act.Destroy s) v = IsIdle v × (0 < times s v.dying)
+May z (act.Destroy s) v = IsIdle v × (0 < times s v.ripe)
 May z (act.Wcount s) v = IsIdle v × Holds v s
 May z (act.Leave j) v = (v.seat ≡ 0) × (j ≢ 0) × (j < z.seats) × CanLeave v
 
@@ -154,6 +170,7 @@ May z (act.Leave j) v = (v.seat ≡ 0) × (j ≢ 0) × (j < z.seats) × CanLeave
 abbrev pub decremented : Kind → ℕ → Outcome
 decremented Strong w = if w == 1 then outcome.Zeroed else outcome.Left
 decremented Weak w = if w == 1 then outcome.Last else outcome.Left
+decremented Disposal w = outcome.Left
 
 abbrev pub paid_outcome : ℕ → List Entry → Outcome
 paid_outcome w [] = outcome.Left
@@ -187,6 +204,7 @@ answer z (act.Release j) w v = outcome.Plain
 answer z (act.Look p) w v = outcome.Found (slot_in w)
 answer z (act.Check j p) w v =
     if is_valid w (note_of v j) then outcome.Valid else outcome.Moved (slot_in w)
+answer z (act.Alive j) w v = if nat_lt 0 (value w) then outcome.Alive else outcome.Zeroed
 answer z act.Scan w v =
     if is_last z v
     then outcome.Split w (length (kept v.retired (all_seen w v)))
@@ -195,11 +213,13 @@ answer z act.Scan w v =
 answer z (act.Swap p new) w v = outcome.Found (slot_in w)
 answer z (act.Cas p old new) w v =
     if w == word_of old then outcome.Done else outcome.LostTo (slot_in w)
-answer z (act.Claim s) w v = if w == ZERO then outcome.Claimed else outcome.Taken
+answer z (act.Claim s) w v = if bit_in s w == 1 then outcome.Claimed else outcome.Taken w
+answer z act.Arm w v = outcome.Plain
 answer z (act.Fill i x) w v = outcome.Plain
 answer z act.Start w v = outcome.Plain
 answer z (act.See s i) w v = outcome.Word w
 answer z act.Free w v = outcome.Plain
+answer z act.Ticket w v = outcome.Number w
 answer z (act.Wadd s) w v = outcome.Plain
 answer z (act.Wdrop s) w v = decremented Weak w
 answer z (act.Destroy s) w v = decremented Weak w
@@ -210,6 +230,7 @@ answer z (act.Leave j) w v = outcome.Plain
 abbrev pub given_up : Kind → SlotId → ℕ → CoreView → CoreView
 given_up Strong s w v = record v { phase = if w == 1 then phase.Finish s else phase.Idle }
 given_up Weak s w v = record v { phase = if w == 1 then phase.Give s else phase.Idle }
+given_up Disposal s w v = v
 
 abbrev pub paid : ℕ → List Entry → CoreView → CoreView
 paid w [] v = v
@@ -235,11 +256,19 @@ abbrev pub without_given : Kind → Option SlotId → CoreView → CoreView
 without_given k None v = v
 without_given Strong (Some s) v = record v { owned = without s v.owned }
 without_given Weak (Some s) v = record v { weaks = without s v.weaks }
+without_given Disposal (Some s) v = v
 
 -- the seat put a new content into a place of kind k, which held w
 abbrev pub exchanged : Kind → Option SlotId → ℕ → CoreView → CoreView
 exchanged k new w v =
     record (without_given k new v) { retired = joined k (slot_in w) v.retired }
+
+-- a slot that a whole scan found under no announcement of disposal becomes ripe, if it isn't yet
+abbrev pub ripens : List SlotId → List ℕ → SlotId → Bool
+ripens ripe seen s = not (nat_lt 0 (times s ripe)) && not (is_seen (code Disposal s) seen)
+
+abbrev pub ripened : List SlotId → List SlotId → List ℕ → List SlotId
+ripened ripe dying seen = ripe ++ filter (ripens ripe seen) dying
 
 abbrev pub scanned : Shape → ℕ → CoreView → CoreView
 scanned z w v =
@@ -249,6 +278,7 @@ scanned z w v =
       seen = [];
       retired = kept v.retired (all_seen w v);
       owed = ejected v.retired (all_seen w v);
+      ripe = ripened v.ripe v.dying (all_seen w v);
     }
     else record v { phase = phase.Scan; seen = all_seen w v }
 
@@ -271,11 +301,14 @@ changed z (act.Release j) w v = with_note j note.Idle v
 changed z (act.Look p) w v = v
 changed z (act.Check j p) w v =
     if is_valid w (note_of v j) then with_note j (validated (note_of v j)) v else v
+changed z (act.Alive j) w v =
+    if nat_lt 0 (value w) then with_note j (validated (note_of v j)) v else v
 changed z act.Scan w v = scanned z w v
 changed z (act.Swap p new) w v = exchanged (place_kind p) new w v
 changed z (act.Cas p old new) w v = if w == word_of old then exchanged (place_kind p) new w v else v
 changed z (act.Claim s) w v =
-    if w == ZERO then record v { makes = v.makes + 1; phase = phase.Blank s } else v
+    if bit_in s w == 1 then record v { makes = v.makes + 1; phase = phase.Bare s } else v
+changed z act.Arm w v = record v { phase = phase.Blank (slot_of v.phase) }
 changed z (act.Fill i x) w v = v
 changed z act.Start w v =
     record v {
@@ -286,9 +319,11 @@ changed z act.Start w v =
     }
 changed z (act.See s i) w v = v
 changed z act.Free w v = record v { phase = phase.Idle }
+changed z act.Ticket w v = record v { adds = v.adds + 1; tickets = v.tickets ++ w ∷ [] }
 changed z (act.Wadd s) w v = record v { weaks = v.weaks ++ s ∷ []; adds = v.adds + 1 }
 changed z (act.Wdrop s) w v = given_up Weak s w (record v { weaks = without s v.weaks })
-changed z (act.Destroy s) w v = given_up Weak s w (record v { dying = without s v.dying })
+changed z (act.Destroy s) w v =
+    given_up Weak s w (record v { dying = without s v.dying; ripe = without s v.ripe })
 changed z (act.Wcount s) w v = v
 changed z (act.Leave j) w v = v
 

@@ -1,9 +1,9 @@
 -- What a seat has by its view: what it holds, which places are open to it, what a scan of it still
 -- guards.
-use Rattle.std.specs.Prelude.{ℕ, ◌<◌, ◌+◌, ◌*◌, false, List, [], ◌∷◌, slice_index_or, if◌then◌else◌}
+use Rattle.std.specs.Prelude.{ℕ, ◌<◌, ◌+◌, ◌*◌, false, List, [], ◌∷◌, slice_index_or, sum_by, if◌then◌else◌}
 use Rattle.plain_state.specs.declared.act.EventPlace.{EventPlace}
 use Rattle.plain_state.specs.declared.act.EventPlace.TheVariants.{Cell, Field, WeakCell, WeakField}
-use Rattle.plain_state.specs.declared.slot.Kind.TheVariants.{Strong, Weak}
+use Rattle.plain_state.specs.declared.slot.Kind.TheVariants.{Strong, Weak, Disposal}
 use Rattle.plain_state.specs.declared.slot.SlotId.{SlotId}
 use Rattle.plain_state.specs.Lists.{Entry, times, entry_times, is_slot}
 use Rattle.core_events.specs.declared.shape.Shape.{Shape}
@@ -21,12 +21,18 @@ room_of z = 4 * z.seats + z.batch
 abbrev pub no_notes : List Note
 no_notes = note.Idle ∷ note.Idle ∷ note.Idle ∷ note.Idle ∷ []
 
+-- what the seats of a domain may use up: a quota each, and the makes that each ticket grants
+pub record Terms : Type 0 where
+  pub quotas : List Quota
+  pub grants : List ℕ
+
 -- seat n has done nothing
-abbrev pub first_view : Shape → ℕ → Quota → CoreView
-first_view z n q = record {
+abbrev pub first_view : Shape → ℕ → Quota → List ℕ → CoreView
+first_view z n q grants = record {
   seat = n;
   shape = z;
   quota = q;
+  grants = grants;
   room = room_of z;
   owned = [];
   weaks = [];
@@ -34,25 +40,27 @@ first_view z n q = record {
   retired = [];
   owed = [];
   dying = [];
+  ripe = [];
   phase = phase.Idle;
   seen = [];
   adds = 0;
   makes = 0;
+  tickets = [];
   left = false;
   trail = [];
   made = [];
-  left_trails = [];
+  left_seats = [];
 }
 
-abbrev pub first_views : Shape → ℕ → List Quota → List CoreView
-first_views z n [] = []
-first_views z n (q ∷ qs) = first_view z n q ∷ first_views z (n + 1) qs
+abbrev pub first_views : Shape → ℕ → List Quota → List ℕ → List CoreView
+first_views z n [] grants = []
+first_views z n (q ∷ qs) grants = first_view z n q grants ∷ first_views z (n + 1) qs grants
 
 -- a view where there is no seat
 abbrev pub no_view : CoreView
 no_view =
     first_view (record { seats = 0; slots = 0; cells = 0; weak_cells = 0; batch = 0 }) 0
-    (record { makes = 0; adds = 0 })
+    (record { makes = 0; adds = 0 }) []
 
 abbrev pub note_of : CoreView → ℕ → Note
 note_of v j = slice_index_or v.notes j note.Idle
@@ -71,7 +79,7 @@ snapshots v = valid_of v.notes
 abbrev pub held_times : SlotId → CoreView → ℕ
 held_times s v =
     times s v.owned + times s v.weaks + entry_times Strong s (snapshots v)
-    + entry_times Weak s (snapshots v)
+    + entry_times Weak s (snapshots v) + entry_times Disposal s (snapshots v)
 
 abbrev pub Holds : CoreView → SlotId → Type 0
 Holds v s = 0 < held_times s v
@@ -87,12 +95,30 @@ IsOpen z v (Field s i) = (i < 2) × HoldsStrongly v s
 IsOpen z v (WeakCell i) = i < z.weak_cells
 IsOpen z v (WeakField s) = HoldsStrongly v s
 
--- the place is a field of a slot in the seat's dying list
-abbrev pub IsDyingField : CoreView → EventPlace → Type 0
-IsDyingField v (Cell i) = ⊥
-IsDyingField v (Field s i) = (i < 2) × (0 < times s v.dying)
-IsDyingField v (WeakCell i) = ⊥
-IsDyingField v (WeakField s) = 0 < times s v.dying
+-- to read, a field is open also to a seat under a weak snapshot of its slot
+abbrev pub CanReadFields : CoreView → SlotId → Type 0
+CanReadFields v s =
+    0 < times s v.owned + entry_times Strong s (snapshots v) + entry_times Disposal s (snapshots v)
+
+abbrev pub IsReadable : Shape → CoreView → EventPlace → Type 0
+IsReadable z v (Cell i) = i < z.cells
+IsReadable z v (Field s i) = (i < 2) × CanReadFields v s
+IsReadable z v (WeakCell i) = i < z.weak_cells
+IsReadable z v (WeakField s) = CanReadFields v s
+
+-- the place is a field of a slot that the seat may destroy
+abbrev pub IsRipeField : CoreView → EventPlace → Type 0
+IsRipeField v (Cell i) = ⊥
+IsRipeField v (Field s i) = (i < 2) × (0 < times s v.ripe)
+IsRipeField v (WeakCell i) = ⊥
+IsRipeField v (WeakField s) = 0 < times s v.ripe
+
+-- the makes that the seat may use up: its quota, and what its own tickets grant
+abbrev pub granted : List ℕ → List ℕ → ℕ
+granted grants tickets = sum_by (λ t. slice_index_or grants t 0) tickets
+
+abbrev pub allowed_makes : CoreView → ℕ
+allowed_makes v = v.quota.makes + granted v.grants v.tickets
 
 -- the slot of a phase that has one
 abbrev pub slot_of : Phase → SlotId
@@ -101,8 +127,15 @@ slot_of (phase.Finish s) = s
 slot_of (phase.Help s) = s
 slot_of (phase.Zero s) = s
 slot_of phase.Scan = record { 0 = 0 }
+slot_of (phase.Bare s) = s
 slot_of (phase.Blank s) = s
 slot_of (phase.Give s) = s
+
+-- the slot that a note names, if it names one
+abbrev pub slot_noted : Note → SlotId
+slot_noted note.Idle = record { 0 = 0 }
+slot_noted (note.Announced k s) = s
+slot_noted (note.Valid k s) = s
 
 -- the list without its first s
 abbrev pub without : SlotId → List SlotId → List SlotId

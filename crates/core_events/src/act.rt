@@ -24,20 +24,27 @@ pub enum Act {
     Look(EventPlace),
     /// Whether a place still holds what the announcement word names.
     Check(u32, EventPlace),
+    /// Whether the object that the announcement word keeps from being destroyed has strong references.
+    Alive(u32),
     /// Reads the next announcement word. The last one splits the retired entries.
     Scan,
     Swap(EventPlace, Option<SlotId>),
     /// The place, what it is expected to hold, and what it is to hold.
     Cas(EventPlace, Option<SlotId>, Option<SlotId>),
+    /// Takes the slot's bit of the free ones.
     Claim(SlotId),
+    /// Gives the claimed slot its own weak reference.
+    Arm,
     /// One payload word of the claimed slot.
     Fill(u32, u64),
     /// Makes the claimed slot live, with one strong reference.
     Start,
     /// Reads a payload word.
     See(SlotId, u32),
-    /// Gives a slot back that nothing names.
+    /// Sets the bit of a slot that nothing names any more.
     Free,
+    /// Draws the next ticket.
+    Ticket,
     Wadd(SlotId),
     Wdrop(SlotId),
     /// Gives up an ended slot's own weak reference.

@@ -20,4 +20,4 @@ pub use act::{Act, Event};
 pub use outcome::Outcome;
 pub use plain_state::{EventPlace, Kind, SlotId};
 pub use shape::{Quota, Shape, ShapeField};
-pub use view::{CoreView, LeftTrail, Move, Note, Phase};
+pub use view::{CoreView, LeftSeat, Move, Note, Phase};

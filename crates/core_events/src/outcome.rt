@@ -35,5 +35,8 @@ pub enum Outcome {
     Done,
     LostTo(Option<SlotId>),
     Claimed,
-    Taken,
+    /// The slot's bit was clear in this word.
+    Taken(u64),
+    /// The object that was announced has strong references.
+    Alive,
 }

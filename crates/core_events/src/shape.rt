@@ -18,7 +18,7 @@ pub struct Shape {
 /// What one seat may use up: at most 2^40 of each.
 #[derive(Clone, Copy, PartialEq, Eq, Debug, Drop)]
 pub struct Quota {
-    /// Claims that succeed.
+    /// Claims that succeed, beside those that its tickets grant.
     pub makes: u64,
     /// Adds to a strong or a weak word, and first references.
     pub adds: u64,

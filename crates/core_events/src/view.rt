@@ -10,7 +10,7 @@ use std::collections::LinkedList;
 pub enum Note {
     Idle,
     Announced(Kind, SlotId),
-    /// Announced, and then found in a place: the seat is under a snapshot of it.
+    /// Announced, and then found in a place, or alive: the seat is under a snapshot of it.
     Valid(Kind, SlotId),
 }
 
@@ -27,7 +27,9 @@ pub enum Phase {
     /// It has read the announcement words that its view lists as seen, and reads the one after them
     /// next.
     Scan,
-    /// It has claimed the slot, and fills it.
+    /// It has claimed the slot, which has no weak reference of its own yet.
+    Bare(SlotId),
+    /// It fills the slot that it has claimed.
     Blank(SlotId),
     /// It took the weak word to 0.
     Give(SlotId),
@@ -40,10 +42,11 @@ pub struct Move {
     pub outcome: Outcome,
 }
 
-/// The trail of a seat that has left, by its number.
-pub struct LeftTrail {
+/// What is kept of a seat that has left, by its number.
+pub struct LeftSeat {
     pub seat: u32,
     pub trail: LinkedList<Move>,
+    pub tickets: LinkedList<u64>,
 }
 
 /// What a seat knows. No value of it is made: it stands in contracts alone.
@@ -51,6 +54,8 @@ pub struct CoreView {
     pub seat: u32,
     pub shape: Shape,
     pub quota: Quota,
+    /// How many makes more who draws each ticket has.
+    pub grants: LinkedList<u64>,
     /// How many entries it may have retired and owed together.
     pub room: u32,
     /// Its strong references, an entry for each.
@@ -65,16 +70,20 @@ pub struct CoreView {
     pub owed: LinkedList<(Kind, SlotId)>,
     /// The slots that it has ended and not yet destroyed.
     pub dying: LinkedList<SlotId>,
+    /// Those of them that a whole scan found under no announcement, so that they may be destroyed.
+    pub ripe: LinkedList<SlotId>,
     pub phase: Phase,
     /// The announcement words that its scan has read.
     pub seen: LinkedList<u64>,
     pub adds: u64,
     pub makes: u64,
+    /// The tickets that it drew.
+    pub tickets: LinkedList<u64>,
     /// Whether it has left.
     pub left: bool,
     pub trail: LinkedList<Move>,
     /// The slots that it made live, in order. Seat 0 has also those of the seats that left.
     pub made: LinkedList<SlotId>,
-    /// At seat 0, the trails of the seats that left.
-    pub left_trails: LinkedList<LeftTrail>,
+    /// At seat 0, what is kept of the seats that left.
+    pub left_seats: LinkedList<LeftSeat>,
 }
