@@ -11,14 +11,14 @@ use Rattle.core_events.specs.Views.{without, Holds}
 use Rattle.core_events.specs.Steps.{plus_one, minus_one, IsIdle, HasAdd}
 use Rattle.core_events.specs.Runs.{Core, view_at}
 use Rattle.core_events.specs.Counts.{strong}
-use Rattle.core_law.specs.Slots.{numbers}
-use Rattle.core_law.specs.Sound.{Sound}
-use Rattle.core_law.proofs.Kit.{one_same, one_other, times_push, times_without}
+use Rattle.core_invariant.specs.Slots.{numbers}
+use Rattle.core_invariant.specs.Sound.{Sound}
+use Rattle.core_invariant.proofs.Kit.{one_same, one_other, times_push, times_without}
 use Rattle.core_law.proofs.StrongSteps as slot
 use Rattle.core_law.proofs.StrongSteps.{same_rest, same_strong}
-use Rattle.core_law.proofs.Held.{held_refs, held_named}
-use Rattle.core_law.proofs.Put.{put, alike}
-use Rattle.core_law.proofs.Steady.{named_in_range, steady_seat, in_idle}
+use Rattle.core_invariant.proofs.Held.{held_refs, held_named}
+use Rattle.core_invariant.proofs.Put.{put, alike}
+use Rattle.core_invariant.proofs.Steady.{named_in_range, steady_seat, in_idle}
 use Rattle.core_law.proofs.OneWord.{strong_step}
 
 module _ (z : Shape) (c : Core) (n : ℕ) (so : Sound z c) (hn : n < z.seats) where

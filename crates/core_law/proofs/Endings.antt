@@ -8,13 +8,13 @@ use Rattle.core_events.specs.declared.view.Phase.TheVariants as phase
 use Rattle.core_events.specs.Words.{ZERO, HELP, strong_at}
 use Rattle.core_events.specs.Runs.{Core, view_at}
 use Rattle.core_events.specs.Counts.{strong}
-use Rattle.core_law.specs.Slots.{numbers}
-use Rattle.core_law.specs.Sound.{Sound}
-use Rattle.core_law.proofs.Kit.{one_same, one_other, times_push}
+use Rattle.core_invariant.specs.Slots.{numbers}
+use Rattle.core_invariant.specs.Sound.{Sound}
+use Rattle.core_invariant.proofs.Kit.{one_same, one_other, times_push}
 use Rattle.core_law.proofs.StrongSteps as slot
 use Rattle.core_law.proofs.StrongSteps.{same_rest, same_strong}
-use Rattle.core_law.proofs.Put.{put, alike}
-use Rattle.core_law.proofs.Steady.{not_left, named_in_range, steady_seat, in_finish, in_help, in_zero}
+use Rattle.core_invariant.proofs.Put.{put, alike}
+use Rattle.core_invariant.proofs.Steady.{not_left, named_in_range, steady_seat, in_finish, in_help, in_zero}
 use Rattle.core_law.proofs.OneWord.{strong_step}
 
 module _ (z : Shape) (c : Core) (n : ℕ) (so : Sound z c) (hn : n < z.seats) where

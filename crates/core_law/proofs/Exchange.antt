@@ -20,14 +20,14 @@ use Rattle.core_events.specs.Words.{slot_in, strong_at, weak_at, place_at, note_
 use Rattle.core_events.specs.Steps.{IsIdle, HasRoom, CanGive, without_given, exchanged}
 use Rattle.core_events.specs.Runs.{Core, view_at}
 use Rattle.core_events.specs.Counts.{one, in_word, listed, naming, noting, in_phase, finishing, helping, filling, giving, dying_times, refs, adds_used}
-use Rattle.core_law.specs.Slots.{numbers, SlotLaw}
-use Rattle.core_law.specs.Sound.{Sound}
-use Rattle.core_law.proofs.Kit.{kind_one, times_without, entry_push, in_word_slot, in_word_null, slot_cases}
+use Rattle.core_invariant.specs.Slots.{numbers, SlotLaw}
+use Rattle.core_invariant.specs.Sound.{Sound}
+use Rattle.core_invariant.proofs.Kit.{kind_one, times_without, entry_push, in_word_slot, in_word_null, slot_cases}
 use Rattle.core_law.proofs.StrongSteps as slot
-use Rattle.core_law.proofs.Writes.{IsPlace, place_off_notes, place_off_strong, place_off_weak, places_put, places_at, fields_sum, fields_sum_off}
-use Rattle.core_law.proofs.Put.{put, put_sound, announced_put, protected_put, at_seat, totals}
-use Rattle.core_law.proofs.Steady.{nothing_seen, named_in_range}
-use Rattle.core_law.proofs.Guards.{guards_all}
+use Rattle.core_invariant.proofs.Writes.{IsPlace, place_off_notes, place_off_strong, place_off_weak, places_put, places_at, fields_sum, fields_sum_off}
+use Rattle.core_invariant.proofs.Put.{put, put_sound, announced_put, protected_put, at_seat, totals}
+use Rattle.core_invariant.proofs.Steady.{nothing_seen, named_in_range}
+use Rattle.core_invariant.proofs.Guards.{guards_all}
 
 in_word_other : (s : SlotId) (w : ℕ) → w ≢ s.0 + 1 → in_word s w ≡ 0
 unfolding in_word

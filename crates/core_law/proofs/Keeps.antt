@@ -27,13 +27,13 @@ use Rattle.core_events.specs.Views.{IsOpen, IsDyingField, slot_of, without}
 use Rattle.core_events.specs.Steps.{May, CanGive, noted, minus_one, is_valid, validated, with_note, is_last, exchanged}
 use Rattle.core_events.specs.Runs.{Core, view_at, Enabled, after, HasNullFields}
 use Rattle.core_events.specs.Counts.{weak, dying_times}
-use Rattle.core_law.specs.Sound.{Sound}
-use Rattle.core_law.proofs.Kit.{one_other, total_at}
-use Rattle.core_law.proofs.Held.{strongly_refs}
-use Rattle.core_law.proofs.Writes.{IsPlace, payload_off, places_off, fields_sum_off}
-use Rattle.core_law.proofs.Put.{put, law_alike, at_seat}
-use Rattle.core_law.proofs.Steady.{steady_sound}
-use Rattle.core_law.proofs.InRange.{open_in_range, dying_in_range}
+use Rattle.core_invariant.specs.Sound.{Sound}
+use Rattle.core_invariant.proofs.Kit.{one_other, total_at}
+use Rattle.core_invariant.proofs.Held.{strongly_refs}
+use Rattle.core_invariant.proofs.Writes.{IsPlace, payload_off, places_off, fields_sum_off}
+use Rattle.core_invariant.proofs.Put.{put, law_alike, at_seat}
+use Rattle.core_invariant.proofs.Steady.{steady_sound}
+use Rattle.core_invariant.proofs.InRange.{open_in_range, dying_in_range}
 use Rattle.core_law.proofs.OneWord.{trail_step}
 use Rattle.core_law.proofs.Lives as life
 use Rattle.core_law.proofs.Weaks as weak_word

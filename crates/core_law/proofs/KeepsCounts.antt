@@ -20,12 +20,12 @@ use Rattle.core_events.specs.Views.{slot_of, without}
 use Rattle.core_events.specs.Steps.{May, noted, decremented, given_up, paid, paid_outcome, owed_at, counter_at, plus_one, minus_one, ended}
 use Rattle.core_events.specs.Runs.{Core, view_at, after}
 use Rattle.core_events.specs.Counts.{strong, weak}
-use Rattle.core_law.specs.Slots.{numbers}
-use Rattle.core_law.specs.Sound.{Sound}
-use Rattle.core_law.proofs.Kit.{one_same}
-use Rattle.core_law.proofs.Flags.{flags, cleared}
-use Rattle.core_law.proofs.Put.{put, adds_fit}
-use Rattle.core_law.proofs.Steady.{named_in_range, in_finish, in_help}
+use Rattle.core_invariant.specs.Slots.{numbers}
+use Rattle.core_invariant.specs.Sound.{Sound}
+use Rattle.core_invariant.proofs.Kit.{one_same}
+use Rattle.core_invariant.proofs.Flags.{flags, cleared}
+use Rattle.core_invariant.proofs.Put.{put, adds_fit}
+use Rattle.core_invariant.proofs.Steady.{named_in_range, in_finish, in_help}
 use Rattle.core_law.proofs.OneWord.{trail_step}
 use Rattle.core_law.proofs.Counters as counter
 use Rattle.core_law.proofs.Payments as payment

@@ -18,13 +18,13 @@ use Rattle.core_events.specs.Steps.{CanLeave, noted}
 use Rattle.core_events.specs.Runs.{Core, view_at, taken_over, left_behind}
 use Rattle.core_events.specs.Counts.{total, listed, finishing, helping, filling, giving, guarding}
 use Rattle.core_events.specs.Good.{SeatLaw, staying_room, word_of_note}
-use Rattle.core_law.specs.Slots.{numbers}
-use Rattle.core_law.specs.Sound.{Sound}
-use Rattle.core_law.proofs.Kit.{times_none, times_append, entry_none, entry_append, total_set}
+use Rattle.core_invariant.specs.Slots.{numbers}
+use Rattle.core_invariant.specs.Sound.{Sound}
+use Rattle.core_invariant.proofs.Kit.{times_none, times_append, entry_none, entry_append, total_set}
 use Rattle.core_law.proofs.StrongSteps.{slot_same}
-use Rattle.core_law.proofs.Put.{at_seat}
-use Rattle.core_law.proofs.Steady.{nothing_seen}
-use Rattle.core_law.proofs.Guards.{guards_all}
+use Rattle.core_invariant.proofs.Put.{at_seat}
+use Rattle.core_invariant.proofs.Steady.{nothing_seen}
+use Rattle.core_invariant.proofs.Guards.{guards_all}
 
 -- two seats' views are given anew
 pub total_two : (f : CoreView → ℕ) (vs : List CoreView) (j : ℕ) (v u : CoreView) → 0 < length vs

@@ -11,13 +11,13 @@ use Rattle.core_events.specs.Views.{without}
 use Rattle.core_events.specs.Steps.{minus_one, IsIdle, HasAdd}
 use Rattle.core_events.specs.Runs.{Core, view_at, HasNullFields}
 use Rattle.core_events.specs.Counts.{weak}
-use Rattle.core_law.specs.Slots.{numbers}
-use Rattle.core_law.specs.Sound.{Sound}
-use Rattle.core_law.proofs.Kit.{one_same, one_other, times_push, times_without}
+use Rattle.core_invariant.specs.Slots.{numbers}
+use Rattle.core_invariant.specs.Sound.{Sound}
+use Rattle.core_invariant.proofs.Kit.{one_same, one_other, times_push, times_without}
 use Rattle.core_law.proofs.WeakSteps as slot
 use Rattle.core_law.proofs.StrongSteps.{same_strong}
-use Rattle.core_law.proofs.Put.{put, alike}
-use Rattle.core_law.proofs.Steady.{not_left, named_in_range, steady_seat, in_idle, in_blank, in_give}
+use Rattle.core_invariant.proofs.Put.{put, alike}
+use Rattle.core_invariant.proofs.Steady.{not_left, named_in_range, steady_seat, in_idle, in_blank, in_give}
 use Rattle.core_law.proofs.OneWord.{strong_step, weak_step}
 
 module _ (z : Shape) (c : Core) (n : ℕ) (so : Sound z c) (hn : n < z.seats) where

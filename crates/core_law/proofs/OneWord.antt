@@ -10,11 +10,11 @@ use Rattle.core_events.specs.Words.{strong_at, weak_at}
 use Rattle.core_events.specs.Runs.{Core, view_at}
 use Rattle.core_events.specs.Counts.{adds_used}
 use Rattle.core_events.specs.Good.{SeatLaw}
-use Rattle.core_law.specs.Slots.{numbers, SlotLaw}
-use Rattle.core_law.specs.Sound.{Sound}
-use Rattle.core_law.proofs.Writes.{OffPlaces, OffNotes, strong_off, weak_off}
-use Rattle.core_law.proofs.Put.{put, Totals, totals, Alike, SameWords, laws_but, law_alike}
-use Rattle.core_law.proofs.Steady.{steady_sound, WroteStrong, wrote_strong, strong_other, WroteWeak, wrote_weak, weak_other}
+use Rattle.core_invariant.specs.Slots.{numbers, SlotLaw}
+use Rattle.core_invariant.specs.Sound.{Sound}
+use Rattle.core_invariant.proofs.Writes.{OffPlaces, OffNotes, strong_off, weak_off}
+use Rattle.core_invariant.proofs.Put.{put, Totals, totals, Alike, SameWords, laws_but, law_alike}
+use Rattle.core_invariant.proofs.Steady.{steady_sound, WroteStrong, wrote_strong, strong_other, WroteWeak, wrote_weak, weak_other}
 
 module _ (z : Shape) (c : Core) (n : ℕ) (so : Sound z c) (hn : n < z.seats) where
   -- the strong word of s is written

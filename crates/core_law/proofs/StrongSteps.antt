@@ -3,7 +3,7 @@
 use Rattle.std.proofs.Common.{◌≡◌, ◌≢◌, ℕ, ◌+◌, ◌^◌, ◌<◌, ◌≤◌, arith}
 use Rattle.core_events.specs.Words.{ZERO, HELP}
 use Rattle.core_events.specs.Steps.{plus_one, minus_one}
-use Rattle.core_law.specs.Slots.{Numbers, SlotLaw, free, blank, counted, asked, over, husk}
+use Rattle.core_invariant.specs.Slots.{Numbers, SlotLaw, free, blank, counted, asked, over, husk}
 
 -- what no step on a strong word changes
 pub record SameRest (m n : Numbers) : Type 0 where

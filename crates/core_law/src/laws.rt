@@ -7,7 +7,7 @@ ghost use Rattle.core_events.specs.declared.shape.Shape.{Shape};
 ghost use Rattle.core_events.specs.declared.shape.Quota.{Quota};
 ghost use Rattle.core_events.specs.Good.{Good};
 ghost use Rattle.core_events.specs.Runs.{AreEnabled, AreQuotas, Core, Enabled, History, IsShape, after, moves_of, newest_first, run, start, view_at};
-ghost use Rattle.core_law.specs.Sound.{Sound};
+ghost use Rattle.core_invariant.specs.Sound.{Sound};
 
 /// For every shape and quotas in their ranges and every list of events that are enabled in turn,
 /// the invariant holds of the state after them.

@@ -1,4 +1,4 @@
-use Rattle.core_law.proofs.Starts as lemma
+use Rattle.core_invariant.proofs.Starts as lemma
 use Rattle.core_law.proofs.laws.start_is_sound.Goals as goal
 
 pub returns : goal.returns

@@ -6,10 +6,9 @@ use Rattle.std.proofs.lemmas.Bool.{cases_eq, cases_lt}
 use Rattle.std.proofs.lemmas.Bool.Decides.{nat_tests}
 use Rattle.plain_state.specs.declared.slot.Kind.{Kind}
 use Rattle.plain_state.specs.declared.slot.SlotId.{SlotId}
-use Rattle.plain_state.specs.Lists.{entry_times}
 use Rattle.core_events.specs.declared.view.CoreView.{CoreView}
 use Rattle.core_events.specs.Words.{code}
-use Rattle.core_events.specs.Counts.{guarding, has_passed}
+use Rattle.core_events.specs.Counts.{guarding, has_passed, waiting}
 
 -- what is read past a is not passed
 pub not_passed : (a w : ℕ) (seen : List ℕ) → length seen ≤ a → has_passed a w seen ≡ false
@@ -53,10 +52,10 @@ guards_passed a k s v e = rw e refl
 
 pub guards_open : (a : ℕ) (k : Kind) (s : SlotId) (v : CoreView) → has_passed a (code k s) v.seen
     ≡ false
-    → guarding a k s v ≡ entry_times k s v.retired
+    → guarding a k s v ≡ waiting k s v
 guards_open a k s v e = rw e refl
 
 -- a seat that has seen nothing guards all that it has retired
 pub guards_all : (a : ℕ) (k : Kind) (s : SlotId) (v : CoreView) → v.seen ≡ []
-    → guarding a k s v ≡ entry_times k s v.retired
+    → guarding a k s v ≡ waiting k s v
 guards_all a k s v e = guards_open a k s v (rw e (not_passed a (code k s) [] (omega arith)))

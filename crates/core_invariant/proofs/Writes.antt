@@ -5,13 +5,13 @@ use Rattle.std.proofs.lemmas.List.{get_or-set_same, get_or-set_other}
 use Rattle.plain_state.specs.declared.act.EventPlace.{EventPlace}
 use Rattle.plain_state.specs.declared.act.EventPlace.TheVariants.{Cell, Field, WeakCell, WeakField}
 use Rattle.plain_state.specs.declared.slot.Kind.{Kind}
-use Rattle.plain_state.specs.declared.slot.Kind.TheVariants.{Strong, Weak}
+use Rattle.plain_state.specs.declared.slot.Kind.TheVariants.{Strong, Weak, Disposal}
 use Rattle.plain_state.specs.declared.slot.SlotId.{SlotId}
 use Rattle.plain_state.specs.Places.{place_kind}
 use Rattle.core_events.specs.declared.shape.Shape.{Shape}
-use Rattle.core_events.specs.Words.{note_at, cell_at, weak_cell_at, strong_at, weak_at, field_at, weak_field_at, payload_at, place_at, word_count}
+use Rattle.core_events.specs.Words.{note_at, cell_at, weak_cell_at, strong_at, weak_at, field_at, weak_field_at, payload_at, place_at, slot_at, word_count}
 use Rattle.core_events.specs.Counts.{in_word, sum_below, fields_holding, places}
-use Rattle.core_law.proofs.Kit.{kind_one, below_same, below_but, below_at}
+use Rattle.core_invariant.proofs.Kit.{kind_one, below_same, below_but, below_at}
 
 -- the three field words of a slot, added up
 abbrev pub fields_sum : Shape → List ℕ → SlotId → ℕ
@@ -23,20 +23,24 @@ fields_sum z ws s =
 pub record OffPlaces (z : Shape) (p : ℕ) : Type 0 where
   pub cells : (i : ℕ) → i < z.cells → cell_at z i ≢ p
   pub weak_cells : (i : ℕ) → i < z.weak_cells → weak_cell_at z i ≢ p
-  pub fields : (x : SlotId) (i : ℕ) → i < 2 → field_at z x i ≢ p
-  pub weak_fields : (x : SlotId) → weak_field_at z x ≢ p
+  pub fields : (x : SlotId) (i : ℕ) → x.0 < z.slots → i < 2 → field_at z x i ≢ p
+  pub weak_fields : (x : SlotId) → x.0 < z.slots → weak_field_at z x ≢ p
 
 -- nor of an announcement
 abbrev pub OffNotes : Shape → ℕ → Type 0
 OffNotes z p = (n j : ℕ) → n < z.seats → j < 4 → note_at n j ≢ p
+
+-- it stands before the bits and the tickets
+abbrev pub OffBits : Shape → ℕ → Type 0
+OffBits z p = p < slot_at z z.slots
 
 pub strong_off : (z : Shape) (s : SlotId) → OffPlaces z (strong_at z s) × OffNotes z (strong_at z s)
 strong_off z s = (
   record {
     cells = λ i h. omega arith;
     weak_cells = λ i h. omega arith;
-    fields = λ x i h. omega arith;
-    weak_fields = λ x. omega arith;
+    fields = λ x i l h. omega arith;
+    weak_fields = λ x l. omega arith;
   },
   λ n j hn hj. omega arith,
 )
@@ -46,8 +50,8 @@ weak_off z s = (
   record {
     cells = λ i h. omega arith;
     weak_cells = λ i h. omega arith;
-    fields = λ x i h. omega arith;
-    weak_fields = λ x. omega arith;
+    fields = λ x i l h. omega arith;
+    weak_fields = λ x l. omega arith;
   },
   λ n j hn hj. omega arith,
 )
@@ -58,8 +62,20 @@ payload_off z s k hk = (
   record {
     cells = λ i h. omega arith;
     weak_cells = λ i h. omega arith;
-    fields = λ x i h. omega arith;
-    weak_fields = λ x. omega arith;
+    fields = λ x i l h. omega arith;
+    weak_fields = λ x l. omega arith;
+  },
+  λ n j hn hj. omega arith,
+)
+
+-- a word behind those of the slots
+pub past_off : (z : Shape) (p : ℕ) → slot_at z z.slots ≤ p → OffPlaces z p × OffNotes z p
+past_off z p le = (
+  record {
+    cells = λ i h. omega arith;
+    weak_cells = λ i h. omega arith;
+    fields = λ x i l h. omega arith;
+    weak_fields = λ x l. omega arith;
   },
   λ n j hn hj. omega arith,
 )
@@ -68,8 +84,8 @@ pub note_off : (z : Shape) (n j : ℕ) → n < z.seats → j < 4 → OffPlaces z
 note_off z n j hn hj = record {
   cells = λ i h. omega arith;
   weak_cells = λ i h. omega arith;
-  fields = λ x i h. omega arith;
-  weak_fields = λ x. omega arith;
+  fields = λ x i l h. omega arith;
+  weak_fields = λ x l. omega arith;
 }
 
 -- the four kinds of place, each added up
@@ -119,15 +135,15 @@ module _ (z : Shape) (ws : List ℕ) (p w : ℕ) where
       let f = ap (in_word s) (field_off x 0 (off 0 (omega arith))) in
       let g = ap (in_word s) (field_off x 1 (off 1 (omega arith))) in omega arith
 
-  fields_off : (s : SlotId) → ((x : SlotId) (i : ℕ) → i < 2 → field_at z x i ≢ p)
+  fields_off : (s : SlotId) → ((x : SlotId) (i : ℕ) → x.0 < z.slots → i < 2 → field_at z x i ≢ p)
       → in_fields z (set ws p w) s ≡ in_fields z ws s
   fields_off s off = below_same z.slots (fields_holding z ws s) (fields_holding z (set ws p w) s)
-      (λ x h. holding_off s (record { 0 = x }) (off (record { 0 = x })))
+      (λ x h. holding_off s (record { 0 = x }) (λ i l. off (record { 0 = x }) i h l))
 
-  weak_fields_off : (s : SlotId) → ((x : SlotId) → weak_field_at z x ≢ p)
+  weak_fields_off : (s : SlotId) → ((x : SlotId) → x.0 < z.slots → weak_field_at z x ≢ p)
       → in_weak_fields z (set ws p w) s ≡ in_weak_fields z ws s
   weak_fields_off s off = below_same z.slots (weak_holding z ws s) (weak_holding z (set ws p w) s)
-      (λ x h. ap (in_word s) (weak_field_off (record { 0 = x }) (off (record { 0 = x }))))
+      (λ x h. ap (in_word s) (weak_field_off (record { 0 = x }) (off (record { 0 = x }) h)))
 
   -- a write off the places leaves them
   pub places_off : OffPlaces z p → (k : Kind) (s : SlotId) → places k z (set ws p w) s
@@ -137,6 +153,7 @@ module _ (z : Shape) (ws : List ℕ) (p w : ℕ) where
   places_off off Weak s =
       let a = weak_cells_off s off.weak_cells in
       let b = weak_fields_off s off.weak_fields in omega arith
+  places_off off Disposal s = omega arith
 
   pub fields_sum_off : (s : SlotId) → ((i : ℕ) → i < 2 → field_at z s i ≢ p) → weak_field_at z s ≢ p
       → fields_sum z (set ws p w) s ≡ fields_sum z ws s
@@ -157,6 +174,12 @@ place_bound z (Cell i) h = omega arith
 place_bound z (Field s i) h = omega arith
 place_bound z (WeakCell i) h = omega arith
 place_bound z (WeakField s) h = omega arith
+
+pub place_off_bits : (z : Shape) (q : EventPlace) → IsPlace z q → OffBits z (place_at z q)
+place_off_bits z (Cell i) h = omega arith
+place_off_bits z (Field s i) h = omega arith
+place_off_bits z (WeakCell i) h = omega arith
+place_off_bits z (WeakField s) h = omega arith
 
 pub place_off_notes : (z : Shape) (q : EventPlace) → IsPlace z q → OffNotes z (place_at z q)
 place_off_notes z (Cell i) h = λ n j hn hj. omega arith
@@ -206,7 +229,7 @@ places_put z ws (Cell i) w Strong s h len =
     (λ j l ne. ap (in_word s) (get_or-set_other ws (cell_at z i) (cell_at z j) w 0
     (omega arith))) in
     let e = ap (in_word s) (get_or-set_same ws (cell_at z i) w 0 (omega arith)) in
-    let a = fields_off z ws (cell_at z i) w s (λ x j l. omega arith) in omega arith
+    let a = fields_off z ws (cell_at z i) w s (λ x j b l. omega arith) in omega arith
 places_put z ws (Field x i) w Strong s h len =
     let f = fields_holding z ws s in
     let g = fields_holding z (set ws (field_at z x i) w) s in
@@ -217,16 +240,16 @@ places_put z ws (Field x i) w Strong s h len =
     let a = cells_off z ws (field_at z x i) w s (λ j l. omega arith) in omega arith
 places_put z ws (WeakCell i) w Strong s h len =
     let a = cells_off z ws (weak_cell_at z i) w s (λ j l. omega arith) in
-    let b = fields_off z ws (weak_cell_at z i) w s (λ x j l. omega arith) in omega arith
+    let b = fields_off z ws (weak_cell_at z i) w s (λ x j b l. omega arith) in omega arith
 places_put z ws (WeakField x) w Strong s h len =
     let a = cells_off z ws (weak_field_at z x) w s (λ j l. omega arith) in
-    let b = fields_off z ws (weak_field_at z x) w s (λ y j l. omega arith) in omega arith
+    let b = fields_off z ws (weak_field_at z x) w s (λ y j b l. omega arith) in omega arith
 places_put z ws (Cell i) w Weak s h len =
     let a = weak_cells_off z ws (cell_at z i) w s (λ j l. omega arith) in
-    let b = weak_fields_off z ws (cell_at z i) w s (λ x. omega arith) in omega arith
+    let b = weak_fields_off z ws (cell_at z i) w s (λ x b. omega arith) in omega arith
 places_put z ws (Field x i) w Weak s h len =
     let a = weak_cells_off z ws (field_at z x i) w s (λ j l. omega arith) in
-    let b = weak_fields_off z ws (field_at z x i) w s (λ y. omega arith) in omega arith
+    let b = weak_fields_off z ws (field_at z x i) w s (λ y b. omega arith) in omega arith
 places_put z ws (WeakCell i) w Weak s h len =
     let f = λ (j : ℕ). in_word s (slice_index ws (weak_cell_at z j)) in
     let g = λ (j : ℕ). in_word s (slice_index (set ws (weak_cell_at z i) w) (weak_cell_at z j)) in
@@ -234,7 +257,7 @@ places_put z ws (WeakCell i) w Weak s h len =
     (λ j l ne. ap (in_word s)
     (get_or-set_other ws (weak_cell_at z i) (weak_cell_at z j) w 0 (omega arith))) in
     let e = ap (in_word s) (get_or-set_same ws (weak_cell_at z i) w 0 (omega arith)) in
-    let a = weak_fields_off z ws (weak_cell_at z i) w s (λ x. omega arith) in omega arith
+    let a = weak_fields_off z ws (weak_cell_at z i) w s (λ x b. omega arith) in omega arith
 places_put z ws (WeakField x) w Weak s h len =
     let f = weak_holding z ws s in
     let g = weak_holding z (set ws (weak_field_at z x) w) s in
@@ -243,6 +266,10 @@ places_put z ws (WeakField x) w Weak s h len =
     (weak_field_off z ws (weak_field_at z x) w (record { 0 = y }) (omega arith))) in
     let e = ap (in_word s) (get_or-set_same ws (weak_field_at z x) w 0 (omega arith)) in
     let a = weak_cells_off z ws (weak_field_at z x) w s (λ j l. omega arith) in omega arith
+places_put z ws (Cell i) w Disposal s h len = omega arith
+places_put z ws (Field x i) w Disposal s h len = omega arith
+places_put z ws (WeakCell i) w Disposal s h len = omega arith
+places_put z ws (WeakField x) w Disposal s h len = omega arith
 
 -- a place that is there holds what places hold
 pub places_at : (z : Shape) (ws : List ℕ) (q : EventPlace) (s : SlotId) → IsPlace z q

@@ -6,7 +6,7 @@ use Rattle.std.proofs.lemmas.List.Sums.{sum_by-set, sum_by-cons, sum_by_push, su
 use Rattle.std.proofs.lemmas.Bool.{cases_eq, cases_lt}
 use Rattle.std.proofs.lemmas.Bool.Decides.{nat_tests}
 use Rattle.plain_state.specs.declared.slot.Kind.{Kind}
-use Rattle.plain_state.specs.declared.slot.Kind.TheVariants.{Strong, Weak}
+use Rattle.plain_state.specs.declared.slot.Kind.TheVariants.{Strong, Weak, Disposal}
 use Rattle.plain_state.specs.declared.slot.SlotId.{SlotId}
 use Rattle.plain_state.specs.Lists.{Entry, times, entry_times, is_slot, is_entry}
 use Rattle.core_events.specs.declared.view.CoreView.{CoreView}
@@ -68,9 +68,9 @@ times_without s y (x ∷ xs) h = go (is_slot y x) refl (times_without s y xs)
 -- n where the kinds are the same
 abbrev pub kind_one : Kind → Kind → ℕ → ℕ
 kind_one Strong Strong n = n
-kind_one Strong Weak n = 0
-kind_one Weak Strong n = 0
 kind_one Weak Weak n = n
+kind_one Disposal Disposal n = n
+kind_one k j n = 0
 
 -- 1 where the entry is (k, s)
 abbrev pub entry_one : Kind → SlotId → Entry → ℕ
@@ -81,8 +81,13 @@ entry_is : (k : Kind) (s : SlotId) (k' : Kind) (x : SlotId)
 unfolding one
 entry_is Strong s Strong x = refl
 entry_is Strong s Weak x = refl
+entry_is Strong s Disposal x = refl
 entry_is Weak s Strong x = refl
 entry_is Weak s Weak x = refl
+entry_is Weak s Disposal x = refl
+entry_is Disposal s Strong x = refl
+entry_is Disposal s Weak x = refl
+entry_is Disposal s Disposal x = refl
 
 pub entry_none : (k : Kind) (s : SlotId) → entry_times k s [] ≡ 0
 unfolding entry_times
@@ -200,17 +205,27 @@ noting_cons s n ns = sum_by-cons (in_note s) n ns
 kind_one_le : (k k' : Kind) (n : ℕ) → kind_one k k' n ≤ n
 kind_one_le Strong Strong n = omega arith
 kind_one_le Strong Weak n = omega arith
+kind_one_le Strong Disposal n = omega arith
 kind_one_le Weak Strong n = omega arith
 kind_one_le Weak Weak n = omega arith
+kind_one_le Weak Disposal n = omega arith
+kind_one_le Disposal Strong n = omega arith
+kind_one_le Disposal Weak n = omega arith
+kind_one_le Disposal Disposal n = omega arith
 
-both_kinds : (k : Kind) (n : ℕ) → kind_one Strong k n + kind_one Weak k n ≡ n
-both_kinds Strong n = omega arith
-both_kinds Weak n = omega arith
+all_kinds : (k : Kind) (n : ℕ) → kind_one Strong k n + kind_one Weak k n + kind_one Disposal k n ≡ n
+all_kinds Strong n = omega arith
+all_kinds Weak n = omega arith
+all_kinds Disposal n = omega arith
 
 -- what is under a snapshot is named by a note
 pub valid_noted : (s : SlotId) (ns : List Note)
-    → entry_times Strong s (valid_of ns) + entry_times Weak s (valid_of ns) ≤ noting s ns
-valid_noted s [] = let a = entry_none Strong s in let b = entry_none Weak s in omega arith
+    → entry_times Strong s (valid_of ns) + entry_times Weak s (valid_of ns)
+    + entry_times Disposal s (valid_of ns) ≤ noting s ns
+valid_noted s [] =
+    let a = entry_none Strong s in
+    let b = entry_none Weak s in
+    let c = entry_none Disposal s in omega arith
 valid_noted s (note.Idle ∷ ns) =
     let r = valid_noted s ns in let c = noting_cons s note.Idle ns in omega arith
 valid_noted s (note.Announced k x ∷ ns) =
@@ -220,4 +235,5 @@ valid_noted s (note.Valid k x ∷ ns) =
     let c = noting_cons s (note.Valid k x) ns in
     let a = entry_cons Strong s (k, x) (valid_of ns) in
     let b = entry_cons Weak s (k, x) (valid_of ns) in
-    let t = both_kinds k (one s x) in omega arith
+    let d = entry_cons Disposal s (k, x) (valid_of ns) in
+    let t = all_kinds k (one s x) in omega arith

@@ -1,16 +1,19 @@
 -- What a split keeps and ejects, by numbers.
 use Rattle.std.proofs.Common.{◌≡◌, ◌≢◌, ◌⊎◌, inl, inr, ⊎_elim, ℕ, ◌+◌, ◌<◌, min, Bool, true, false, List, [], ◌∷◌, length, get_or, refl, ap, sym, ◌∙◌, arith}
 use Rattle.std.specs.Prelude.{if◌then◌else◌, ◌==◌, cond}
+use Rattle.std.specs.List.{filter}
 use Rattle.std.proofs.lemmas.List.Sums.{sum_by-cons, get_or-le-sum_by}
 use Rattle.std.proofs.lemmas.Bool.{cases_eq}
 use Rattle.std.proofs.lemmas.Bool.Decides.{nat_tests}
 use Rattle.plain_state.specs.declared.slot.Kind.{Kind}
-use Rattle.plain_state.specs.declared.slot.Kind.TheVariants.{Strong, Weak}
+use Rattle.plain_state.specs.declared.slot.Kind.TheVariants.{Strong, Weak, Disposal}
 use Rattle.plain_state.specs.declared.slot.SlotId.{SlotId}
-use Rattle.plain_state.specs.Lists.{Entry, entry_times}
+use Rattle.plain_state.specs.Lists.{Entry, times, entry_times}
 use Rattle.core_events.specs.Words.{code}
 use Rattle.core_events.specs.Ejection.{code_of, seen_times, without_word, is_seen, kept, ejected}
-use Rattle.core_law.proofs.Kit.{one_same, one_other, entry_one, entry_none, entry_cons}
+use Rattle.core_events.specs.Steps.{ripens, ripened}
+use Rattle.core_events.specs.Counts.{one}
+use Rattle.core_invariant.proofs.Kit.{slot_cases, one_same, one_other, times_none, times_cons, times_append, entry_one, entry_none, entry_cons}
 
 -- 1 where the words are equal
 unfoldable word_one : ℕ → ℕ → ℕ
@@ -69,8 +72,16 @@ code_cases Strong Strong s x = ⊎_elim
     (λ (ne : x.0 ≢ s.0). inr (omega arith, one_other s x ne))
     (cases_eq x.0 s.0)
 code_cases Strong Weak s x = inr (omega arith, refl)
+code_cases Strong Disposal s x = inr (omega arith, refl)
 code_cases Weak Strong s x = inr (omega arith, refl)
 code_cases Weak Weak s x = ⊎_elim
+    (λ (e : x.0 ≡ s.0). inl (omega arith, one_same s x e))
+    (λ (ne : x.0 ≢ s.0). inr (omega arith, one_other s x ne))
+    (cases_eq x.0 s.0)
+code_cases Weak Disposal s x = inr (omega arith, refl)
+code_cases Disposal Strong s x = inr (omega arith, refl)
+code_cases Disposal Weak s x = inr (omega arith, refl)
+code_cases Disposal Disposal s x = ⊎_elim
     (λ (e : x.0 ≡ s.0). inl (omega arith, one_same s x e))
     (λ (ne : x.0 ≢ s.0). inr (omega arith, one_other s x ne))
     (cases_eq x.0 s.0)
@@ -145,3 +156,50 @@ split_length (e ∷ es) seen = go (is_seen (code_of e) seen) (split_length es)
         ≡ length (e ∷ es)
     go true ih = let i = ih (without_word (code_of e) seen) in omega arith
     go false ih = let i = ih seen in omega arith
+
+-- a test of slots leaves all of a slot, or none
+times_filter : (f : SlotId → Bool) (s : SlotId) (xs : List SlotId)
+    → times s (filter f xs) ≡ (if f s then times s xs else 0)
+times_filter f s [] = let z = times_none s in let n = nothing (f s) in z ∙ sym n
+  where
+    nothing : (b : Bool) → (if b then times s [] else 0) ≡ 0
+    nothing true = times_none s
+    nothing false = refl
+times_filter f s (x ∷ xs) = ⊎_elim
+    (λ (e : x ≡ s). here (f s) (f x) (ap f e) (ap (one s) e) (times_filter f s xs))
+    (λ (ne : x.0 ≢ s.0). there (f s) (f x) (one_other s x ne) (times_filter f s xs))
+    (slot_cases x s)
+  where
+    here : (b d : Bool) → d ≡ b → one s x ≡ one s s
+        → times s (filter f xs) ≡ (if b then times s xs else 0)
+        → times s (if d then x ∷ filter f xs else filter f xs)
+        ≡ (if b then times s (x ∷ xs) else 0)
+    here true true e o ih =
+        let a = times_cons s x (filter f xs) in let c = times_cons s x xs in omega arith
+    here true false e o ih = cc (e)
+    here false true e o ih = cc (e)
+    here false false e o ih = ih
+
+    there : (b d : Bool) → one s x ≡ 0
+        → times s (filter f xs) ≡ (if b then times s xs else 0)
+        → times s (if d then x ∷ filter f xs else filter f xs)
+        ≡ (if b then times s (x ∷ xs) else 0)
+    there true true o ih =
+        let a = times_cons s x (filter f xs) in let c = times_cons s x xs in omega arith
+    there true false o ih = let c = times_cons s x xs in omega arith
+    there false true o ih = let a = times_cons s x (filter f xs) in omega arith
+    there false false o ih = ih
+
+-- what becomes ripe
+pub ripened_times : (s : SlotId) (ripe dying : List SlotId) (seen : List ℕ)
+    → times s (ripened ripe dying seen)
+    ≡ times s ripe + (if ripens ripe seen s then times s dying else 0)
+ripened_times s ripe dying seen =
+    let a = times_append s ripe (filter (ripens ripe seen) dying) in
+    let f = times_filter (ripens ripe seen) s dying in omega arith
+
+-- a slot that is ripe, or was read with the kind Disposal, doesn't become ripe
+pub ripens_not : (s : SlotId) (ripe : List SlotId) (seen : List ℕ)
+    → (0 < times s ripe) ⊎ (0 < seen_times (code Disposal s) seen) → ripens ripe seen s ≡ false
+ripens_not s ripe seen (inl h) = grind (arith, nat_tests)
+ripens_not s ripe seen (inr h) = grind (arith, nat_tests)
