@@ -10,6 +10,7 @@ pub mod Put
 pub mod Steady
 pub mod Splits
 pub mod Parts
+pub mod Joined
 pub mod Each
 pub mod FirstWords
 pub mod Starts
