@@ -62,16 +62,17 @@ flags a m (asked h) fit = flags_asked m.strong (omega arith) (omega arith)
 flags a m (over h) fit = flags_dead m.strong (omega arith) (omega arith)
 flags a m (husk h) fit = flags_dead m.strong (omega arith) (omega arith)
 
--- a slot that something refers to, or whose object waits to be destroyed, or lives, is claimed and started
+-- a slot that something refers to, or whose object waits to be destroyed, or lives, is claimed and started, and
+-- nobody is to give it back
 pub refs_taken : (a : ℕ) (m : Numbers) → SlotLaw a m → 0 < m.strong_refs + m.weak_refs + m.dying
-    → m.bit + m.baring + m.filling ≡ 0
+    → m.bit + m.baring + m.filling + m.giving ≡ 0
 refs_taken a m (free h) some' = absurd (omega arith)
 refs_taken a m (bare h) some' = absurd (omega arith)
 refs_taken a m (blank h) some' = absurd (omega arith)
 refs_taken a m (counted h) some' = omega arith
 refs_taken a m (asked h) some' = omega arith
 refs_taken a m (over h) some' = omega arith
-refs_taken a m (husk h) some' = omega arith
+refs_taken a m (husk h) some' = grind arith
 
 -- whether the word is that of an object that lives
 pub live_low : (w : ℕ) → w < ZERO → is_live_word w ≡ true
@@ -88,7 +89,7 @@ dead_absurd : (w : ℕ) → ZERO ≤ w → w < ZERO + 2 ^ 60 → is_live_word w 
 dead_absurd w a b live = let d = dead_word w a b in absurd (cc (live, d))
 
 pub live_taken : (a : ℕ) (m : Numbers) → SlotLaw a m → a < 2 ^ 60 → is_live_word m.strong ≡ true
-    → (m.bit + m.baring + m.filling ≡ 0) × (m.dying ≡ 0)
+    → (m.bit + m.baring + m.filling + m.giving ≡ 0) × (m.dying ≡ 0)
 live_taken a m (free h) fit live = absurd (dead_absurd m.strong (omega arith) (omega arith) live)
 live_taken a m (bare h) fit live = absurd (dead_absurd m.strong (omega arith) (omega arith) live)
 live_taken a m (blank h) fit live = absurd (dead_absurd m.strong (omega arith) (omega arith) live)

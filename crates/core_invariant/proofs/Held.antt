@@ -15,7 +15,7 @@ use Rattle.core_events.specs.declared.view.Note.TheVariants as note
 use Rattle.core_events.specs.Words.{code}
 use Rattle.core_events.specs.Views.{valid_of, snapshots, Holds, HoldsStrongly}
 use Rattle.core_events.specs.Runs.{Core, view_at}
-use Rattle.core_events.specs.Counts.{one, total, listed, naming, refs, guarding, waiting, has_passed, is_live_word, strong, free_bit, barers, fillers, dying_times, adds_used}
+use Rattle.core_events.specs.Counts.{one, total, listed, naming, refs, guarding, waiting, has_passed, is_live_word, strong, free_bit, barers, fillers, givers, dying_times, adds_used}
 use Rattle.core_invariant.specs.Sound.{Sound, covering}
 use Rattle.core_invariant.specs.Slots.{numbers}
 use Rattle.core_invariant.proofs.Kit.{slot_cases, one_other, kind_one, valid_one, valid_cons, entry_none, valid_noted, total_at}
@@ -113,13 +113,13 @@ disposal_stands z c n s so hn h = go (is_live_word (strong z c s)) refl
         let g = snapshot_guard z c n Disposal s so hn h in
         let none : covering Disposal z c.words s ≡ 0 = rw is refl in inr (omega arith)
 
--- what a seat holds is claimed and started
+-- what a seat holds is claimed and started, and nobody is to give it back
 pub held_taken : (z : Shape) (c : Core) (n : ℕ) (s : SlotId) → Sound z c → n < z.seats
-    → s.0 < z.slots → Holds (view_at c n) s → free_bit z c s + barers c s + fillers c s ≡ 0
+    → s.0 < z.slots → Holds (view_at c n) s → free_bit z c s + barers c s + fillers c s + givers c s ≡ 0
 held_taken z c n s so hn hs h =
     let law = so.slots s hs in
     let referred : 0 < refs Strong z c s + refs Weak z c s + dying_times c s
-    → free_bit z c s + barers c s + fillers c s ≡ 0 =
+    → free_bit z c s + barers c s + fillers c s + givers c s ≡ 0 =
     refs_taken (adds_used c) (numbers z c s) law in
     let a = total_at (listed Strong s) c.views n (at_seat z c n so hn) in
     let b = total_at (listed Weak s) c.views n (at_seat z c n so hn) in
