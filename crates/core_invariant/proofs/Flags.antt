@@ -78,7 +78,7 @@ refs_taken a m (husk h) some' = grind arith
 pub live_low : (w : ℕ) → w < ZERO → is_live_word w ≡ true
 live_low w h = grind (arith, nat_tests)
 
-pub live_asked : (w : ℕ) → ZERO + HELP ≤ w → w < ZERO + HELP + 2 ^ 60 → is_live_word w ≡ true
+pub live_asked : (w : ℕ) → ZERO + HELP ≤ w → w < ZERO + HELP + 2 ^ 61 → is_live_word w ≡ true
 live_asked w a b = let h : has_help w ≡ true = grind (arith, nat_tests) in grind (arith, nat_tests)
 
 pub dead_word : (w : ℕ) → ZERO ≤ w → w < ZERO + 2 ^ 60 → is_live_word w ≡ false

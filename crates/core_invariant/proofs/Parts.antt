@@ -13,14 +13,13 @@ use Rattle.core_events.specs.declared.view.Note.TheVariants as note
 use Rattle.core_events.specs.Words.{ZERO, HELP, value}
 use Rattle.core_events.specs.Views.{note_of}
 use Rattle.core_events.specs.Runs.{Core, view_at}
-use Rattle.core_events.specs.Counts.{Signs, stage, stage_of, adds_used, is_live_word, strong, total, guarding, in_note, places}
+use Rattle.core_events.specs.Counts.{Signs, stage, stage_of, adds_used, is_live_word, strong, total, guarding, places}
 use Rattle.core_events.specs.Good.{CountLaw, PendingEnd, OneEnder, CountBounds, AreUndisposed, Good, IsOver}
 use Rattle.core_invariant.specs.Slots.{Numbers, numbers, SlotLaw, free, bare, blank, counted, asked, over, husk}
 use Rattle.core_invariant.specs.Sound.{Sound, covering}
 use Rattle.core_invariant.proofs.Flags.{Flags, flags, live_low, live_asked, dead_word}
-use Rattle.core_invariant.proofs.Kit.{noting_at, one_same}
 use Rattle.core_invariant.proofs.Put.{adds_fit}
-use Rattle.core_invariant.proofs.Steady.{named_in_range}
+use Rattle.core_invariant.proofs.Steady.{noted_in_range}
 
 -- the stage that a law by stage tells
 abbrev pub stage_in : {a : ℕ} {m : Numbers} → SlotLaw a m → Stage
@@ -300,21 +299,11 @@ module _ (z : Shape) (c : Core) (so : Sound z c) where
     lives : is_live_word (strong z c s) ≡ true → stage z c s ≡ Live
     lives live = stage_here ∙ live_stage (adds_used c) (numbers z c s) law fit live
 
-  -- a slot under a note is there
-  noted_there : (n j : ℕ) (k : Kind) (s : SlotId) → n < z.seats → j < 4
-      → note_of (view_at c n) j ≡ note.Valid k s → s.0 < z.slots
-  noted_there n j k s hn hj valid =
-      let four = (so.seats n hn).four in
-      let at = noting_at s (view_at c n).notes j (omega arith) in
-      let is : in_note s (note_of (view_at c n) j) ≡ in_note s (note.Valid k s) = ap (in_note s) valid in
-      let o = one_same s s refl in
-      named_in_range z n (view_at c n) s (so.seats n hn) (omega arith)
-
   undisposed : AreUndisposed z c
   undisposed = record {
     stands = λ n j s hn hj valid.
         let views = so.views in
-        stands n j s hn (noted_there n j Disposal s (omega arith) hj valid) hj valid
+        stands n j s hn (noted_in_range z n (view_at c n) j Disposal s (so.seats n (omega arith)) hj valid) hj valid
         (is_live_word (strong z c s)) refl;
     unripe = so.unripe;
   }

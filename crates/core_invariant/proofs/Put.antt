@@ -189,7 +189,8 @@ law_alike z c n v ws x so hn more alike words hx =
 pub laws_but : (z : Shape) (c : Core) (n : ℕ) (v : CoreView) (ws : List ℕ) (s : SlotId) → Sound z c
     → n < z.seats
     → (view_at c n).adds ≤ v.adds
-    → ((x : SlotId) → x.0 ≢ s.0 → Alike x (view_at c n) v × SameWords z c.words ws x)
+    → ((x : SlotId) → x.0 < z.slots → x.0 ≢ s.0
+    → Alike x (view_at c n) v × SameWords z c.words ws x)
     → SlotLaw (adds_used (record { words = ws; views = set c.views n v }))
     (numbers z (record { words = ws; views = set c.views n v }) s)
     → (x : SlotId) → x.0 < z.slots
@@ -201,7 +202,7 @@ laws_but z c n v ws s so hn more others here x hx = ⊎_elim
       views = set c.views n
           v;
     })) (numbers z (record { words = ws; views = set c.views n v }) y)) (sym e) here)
-    (λ ne. let o = others x ne in law_alike z c n v ws x so hn more o.0 o.1 hx)
+    (λ ne. let o = others x hx ne in law_alike z c n v ws x so hn more o.0 o.1 hx)
     (slot_cases x s)
 
 -- what holds of each seat by itself

@@ -14,15 +14,15 @@ use Rattle.core_events.specs.declared.view.Note.TheVariants as note
 use Rattle.core_events.specs.declared.view.Phase.{Phase}
 use Rattle.core_events.specs.declared.view.Phase.TheVariants as phase
 use Rattle.plain_state.specs.Lists.{times}
-use Rattle.core_events.specs.Words.{strong_at, weak_at, note_at, bits_at, bit_in}
+use Rattle.core_events.specs.Words.{strong_at, weak_at, note_at, bits_at, bit_in, bitmaps, ticket_at}
 use Rattle.core_events.specs.Views.{no_view, note_of, allowed_makes}
 use Rattle.core_events.specs.Runs.{Core, view_at}
-use Rattle.core_events.specs.Counts.{naming, listed, places, adds_used, guarding, one, finishing, helping, baring, filling, giving, in_phase}
-use Rattle.core_events.specs.Good.{SeatLaw, word_of_note}
+use Rattle.core_events.specs.Counts.{naming, listed, places, adds_used, guarding, one, finishing, helping, baring, filling, giving, in_phase, in_note}
+use Rattle.core_events.specs.Good.{SeatLaw, TicketLaw, word_of_note}
 use Rattle.core_invariant.specs.Slots.{numbers, SlotLaw}
 use Rattle.core_invariant.specs.Sound.{Sound, covering}
 use Rattle.core_invariant.proofs.Writes.{OffPlaces, OffNotes, OffBits, strong_off, weak_off, past_off, places_off, fields_sum_off, fields_sum}
-use Rattle.core_invariant.proofs.Kit.{one_other}
+use Rattle.core_invariant.proofs.Kit.{one_same, one_other, noting_at}
 use Rattle.core_invariant.proofs.Bits.{bits_off, bits_other, ticket_off}
 use Rattle.core_invariant.proofs.Guards.{guards_all}
 use Rattle.core_invariant.proofs.Put.{put, put_sound, announced_put, guarded_put, unripe_put, tickets_put, fit_put, ripe_times, at_seat, SameWords, SamePhase}
@@ -34,6 +34,16 @@ named_in_range z n v s law h = ⊎_elim
     (λ lt. lt)
     (λ le. let e = law.range s le in absurd (omega arith))
     (cases_lt s.0 z.slots)
+
+-- and so is one that is under a valid note
+pub noted_in_range : (z : Shape) (n : ℕ) (v : CoreView) (j : ℕ) (k : Kind) (s : SlotId) → SeatLaw z n v
+    → j < 4 → note_of v j ≡ note.Valid k s → s.0 < z.slots
+noted_in_range z n v j k s law hj valid =
+    let four = law.four in
+    let at = noting_at s v.notes j (omega arith) in
+    let is : in_note s (note_of v j) ≡ in_note s (note.Valid k s) = ap (in_note s) valid in
+    let o = one_same s s refl in
+    named_in_range z n v s law (omega arith)
 
 -- a seat that isn't scanning has seen nothing
 pub nothing_seen : (z : Shape) (n : ℕ) (v : CoreView) → SeatLaw z n v → (v.phase ≡ phase.Scan → ⊥)
@@ -88,27 +98,47 @@ steady_seat z n v u law same ne ne' stays adds' makes' starts ripe' kinds' range
 -- together go on to guard it
 abbrev pub KeepsLive : Shape → Core → List ℕ → CoreView → CoreView → Type 0
 KeepsLive z c ws v u =
-    (a : ℕ) (x : SlotId) → ripe_times c x ≡ 0
+    (a : ℕ) (x : SlotId) → x.0 < z.slots → ripe_times c x ≡ 0
     → (0 < guarding a Disposal x v → 0 < covering Disposal z ws x + guarding a Disposal x u)
     × (0 < covering Disposal z c.words x → 0 < covering Disposal z ws x + guarding a Disposal x u)
 
--- a word of no place, no announcement, no bit and no ticket, that fits
-pub record OffRest (z : Shape) (p w : ℕ) : Type 0 where
+-- a word of no place and no announcement, with which the bits past the last slot stay
+pub record OffRest (z : Shape) (ws : List ℕ) (p w : ℕ) : Type 0 where
   pub places : OffPlaces z p
   pub notes : OffNotes z p
-  pub bits : OffBits z p
   pub fits : w < 2 ^ 64
+  pub spare :
+      (x : SlotId) → z.slots ≤ x.0 → x.0 < 64 * bitmaps z
+      → bit_in x (slice_index (set ws p w) (bits_at z x)) ≡ bit_in x (slice_index ws (bits_at z x))
 
--- it is enough to show the laws of all slots and of the seat, and that what lives is guarded
-pub steady_sound : (z : Shape) (c : Core) (n : ℕ) (u : CoreView) (p w : ℕ) → Sound z c → n < z.seats
-    → OffRest z p w → SeatLaw z n u
+-- a word before the bits
+pub off_rest : (z : Shape) (ws : List ℕ) (p w : ℕ) → OffPlaces z p × OffNotes z p → OffBits z p
+    → w < 2 ^ 64 → OffRest z ws p w
+off_rest z ws p w off before fits = record {
+  places = off.0;
+  notes = off.1;
+  fits = fits;
+  spare = λ x a b. bits_off z ws p w x before;
+}
+
+-- what a step leaves of a view's notes, retired entries and scan
+pub record SameNotes (v u : CoreView) : Type 0 where
+  pub notes : u.notes ≡ v.notes
+  pub retired : u.retired ≡ v.retired
+  pub seen : u.seen ≡ v.seen
+  pub room : u.room ≡ v.room
+  pub left : u.left ≡ v.left
+
+-- it is enough to show the laws of all slots, of the seat and of the tickets, and that what lives is guarded
+pub steady_put : (z : Shape) (c : Core) (n : ℕ) (u : CoreView) (p w : ℕ) → Sound z c → n < z.seats
+    → OffRest z c.words p w → SeatLaw z n u
     → ((x : SlotId) → x.0 < z.slots → SlotLaw (adds_used (put c n u p w))
     (numbers z (put c n u p w) x))
-    → SameRest (view_at c n) u → (view_at c n).adds ≤ u.adds
+    → SameNotes (view_at c n) u → TicketLaw z (put c n u p w)
     → ((x : SlotId) → times x u.ripe ≤ times x (view_at c n).ripe)
     → KeepsLive z c (set c.words p w) (view_at c n) u
     → length u.owed ≤ length (view_at c n).owed → Sound z (put c n u p w)
-steady_sound z c n u p w so hn off law slots same more ripe' live owed' =
+steady_put z c n u p w so hn off law slots same tickets ripe' live owed' =
     let h = at_seat z c n so hn in
     put_sound z c n u p w so hn
     (record {
@@ -126,9 +156,8 @@ steady_sound z c n u p w so hn off law slots same more ripe' live owed' =
           (λ j s hj valid. inl (same_note j Disposal s valid))
           (λ m j s hm hj valid. ripe' s);
       range = λ k s le. places_off z c.words p w off.places k s ∙ so.range k s le;
-      tickets = tickets_put z c n u (set c.words p w) so hn same.tickets same.left_seats more
-          (ticket_off z c.words p w (let b = off.bits in omega arith));
-      fit = fit_put z c n u p w so off.fits (λ x a b. bits_off z c.words p w x off.bits);
+      tickets = tickets;
+      fit = fit_put z c n u p w so off.fits off.spare;
     })
     same.room same.left
     (fits (ap length same.retired))
@@ -154,13 +183,35 @@ steady_sound z c n u p w so hn off law slots same more ripe' live owed' =
         rw (same.retired, same.seen) refl in
         ((λ pos. omega arith), (λ pos. omega arith))
     stays m j Disposal s hm hj valid =
-        live (4 * m + j) s (so.unripe m j s (at_seat z c m so hm) hj valid)
+        live (4 * m + j) s (noted_in_range z m (view_at c m) j Disposal s (so.seats m hm) hj valid)
+        (so.unripe m j s (at_seat z c m so hm) hj valid)
 
     fits : length u.retired ≡ length (view_at c n).retired → length u.retired
         + length u.owed ≤ u.room
     fits l =
         let f = so.room.each n no_view (at_seat z c n so hn) in
         let r = same.room in omega arith
+
+-- and the tickets stay where their word isn't written
+pub steady_sound : (z : Shape) (c : Core) (n : ℕ) (u : CoreView) (p w : ℕ) → Sound z c → n < z.seats
+    → OffRest z c.words p w → p < ticket_at z → SeatLaw z n u
+    → ((x : SlotId) → x.0 < z.slots → SlotLaw (adds_used (put c n u p w))
+    (numbers z (put c n u p w) x))
+    → SameRest (view_at c n) u → (view_at c n).adds ≤ u.adds
+    → ((x : SlotId) → times x u.ripe ≤ times x (view_at c n).ripe)
+    → KeepsLive z c (set c.words p w) (view_at c n) u
+    → length u.owed ≤ length (view_at c n).owed → Sound z (put c n u p w)
+steady_sound z c n u p w so hn off before law slots same more =
+    steady_put z c n u p w so hn off law slots
+    (record {
+      notes = same.notes;
+      retired = same.retired;
+      seen = same.seen;
+      room = same.room;
+      left = same.left;
+    })
+    (tickets_put z c n u (set c.words p w) so hn same.tickets same.left_seats more
+    (ticket_off z c.words p w before))
 
 -- a seat that isn't scanning guards every slot in its dying list
 pub guards_dying : (z : Shape) (n : ℕ) (v : CoreView) → SeatLaw z n v → (v.phase ≡ phase.Scan → ⊥)
@@ -171,13 +222,14 @@ guards_dying z n v law ne a x = guards_all a Disposal x v (nothing_seen z n v la
 pub keeps_live : (z : Shape) (c : Core) (n : ℕ) (ws : List ℕ) (u : CoreView) → SeatLaw z n (view_at c n)
     → SameRest (view_at c n) u → ((view_at c n).phase ≡ phase.Scan → ⊥)
     → ((x : SlotId) → ripe_times c x ≡ 0 → times x (view_at c n).dying ≤ times x u.dying)
-    → ((x : SlotId) → covering Disposal z c.words x ≤ covering Disposal z ws x + times x u.dying)
+    → ((x : SlotId) → x.0 < z.slots
+    → covering Disposal z c.words x ≤ covering Disposal z ws x + times x u.dying)
     → KeepsLive z c ws (view_at c n) u
-keeps_live z c n ws u law same ne dies lives a x unripe =
+keeps_live z c n ws u law same ne dies lives a x hx unripe =
     let g = guards_dying z n (view_at c n) law ne a x in
     let g' = guards_all a Disposal x u (same.seen ∙ nothing_seen z n (view_at c n) law ne) in
     let d = dies x unripe in
-    let l = lives x in ((λ pos. omega arith), (λ pos. omega arith))
+    let l = lives x hx in ((λ pos. omega arith), (λ pos. omega arith))
 
 -- the words of a slot after a write of its strong word
 pub record WroteStrong (z : Shape) (ws : List ℕ) (s : SlotId) (w : ℕ) : Type 0 where

@@ -15,6 +15,19 @@ pub record SameWeak (m n : Numbers) : Type 0 where
   pub giving : n.giving ≡ m.giving
   pub fields : n.fields ≡ m.fields
 
+pub same_weak : {m n : Numbers} → n.weak ≡ m.weak → n.bit ≡ m.bit → n.weak_refs ≡ m.weak_refs
+    → n.baring ≡ m.baring → n.filling ≡ m.filling → n.giving ≡ m.giving → n.fields ≡ m.fields
+    → SameWeak m n
+same_weak a b d e f g h = record {
+  weak = a;
+  bit = b;
+  weak_refs = d;
+  baring = e;
+  filling = f;
+  giving = g;
+  fields = h;
+}
+
 -- what no step on a weak word or a bit changes
 pub record SameStrong (m n : Numbers) : Type 0 where
   pub strong : n.strong ≡ m.strong
@@ -22,6 +35,11 @@ pub record SameStrong (m n : Numbers) : Type 0 where
   pub finishing : n.finishing ≡ m.finishing
   pub helping : n.helping ≡ m.helping
   pub fields : n.fields ≡ m.fields
+
+pub same_strong : {m n : Numbers} → n.strong ≡ m.strong → n.strong_refs ≡ m.strong_refs
+    → n.finishing ≡ m.finishing → n.helping ≡ m.helping → n.fields ≡ m.fields → SameStrong m n
+same_strong a b d e f =
+    record { strong = a; strong_refs = b; finishing = d; helping = e; fields = f }
 
 -- an add finds no zero flag
 pub add_up : (a b : ℕ) (m n : Numbers) → SlotLaw a m
