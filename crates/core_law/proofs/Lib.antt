@@ -6,3 +6,5 @@ pub mod Counters
 pub mod Endings
 pub mod Weaks
 pub mod Lives
+pub mod Notes
+pub mod Scans
