@@ -8,3 +8,10 @@ pub mod Weaks
 pub mod Lives
 pub mod Notes
 pub mod Scans
+pub mod Exchange
+pub mod Leaves
+pub mod Tickets
+pub mod KeepsCounts
+pub mod Keeps
+pub mod Always
+pub mod Trails
