@@ -7,6 +7,7 @@ use Rattle.std.proofs.lemmas.Bool.{cases_lt}
 use Rattle.plain_state.specs.declared.slot.Kind.{Kind}
 use Rattle.plain_state.specs.declared.slot.Kind.TheVariants.{Strong, Weak, Disposal}
 use Rattle.plain_state.specs.declared.slot.SlotId.{SlotId}
+use Rattle.plain_state.specs.declared.slot.PlainSlot.{PlainSlot}
 use Rattle.plain_state.specs.Lists.{times, entry_times}
 use Rattle.plain_state.specs.References.{strong_refs, weak_refs, places as plain_places, deferrals, snapshot_times, dying_times as plain_dying, own_reference, strong_fields, weak_fields}
 use Rattle.plain_state.specs.State.{PlainSeat, seat_at, slot_at, stage_at, new_seat, new_slot}
@@ -15,7 +16,7 @@ use Rattle.core_events.specs.declared.view.CoreView.{CoreView}
 use Rattle.core_events.specs.Words.{cell_at, weak_cell_at, field_at, weak_field_at}
 use Rattle.core_events.specs.Views.{no_view, snapshots}
 use Rattle.core_events.specs.Runs.{Core, view_at}
-use Rattle.core_events.specs.Counts.{total, listed, refs, places, fields_holding, dying_times}
+use Rattle.core_events.specs.Counts.{stage, total, listed, refs, places, fields_holding, dying_times}
 use Rattle.core_events.specs.Shows.{shows, show_seat, show_slot}
 use Rattle.core_invariant.specs.Sound.{Sound}
 use Rattle.core_invariant.proofs.Kit.{entry_append}
@@ -32,6 +33,9 @@ module _ (z : Shape) (c : Core) where
       let e : 0 + s.0 ≡ s.0 = omega arith in
       get_each 0 z.slots s.0 (λ x. show_slot z c (record { 0 = x })) new_slot h
       ∙ ap (λ (x : ℕ). show_slot z c (record { 0 = x })) e
+
+  pub shown_stage : (s : SlotId) → s.0 < z.slots → stage_at (shows z c) s ≡ stage z c s
+  shown_stage s hs = ap (λ (x : PlainSlot). x.stage) (shown_slot s hs)
 
   pub shown_past : (s : SlotId) → z.slots ≤ s.0 → slot_at (shows z c) s ≡ new_slot
   shown_past s le =

@@ -8,6 +8,7 @@ use Rattle.core_invariant.specs.Sound.{Sound}
 use Rattle.core_shows.specs.Shown.{ShowsStep}
 use Rattle.core_shows.proofs.Does.{ShowsRow}
 use Rattle.core_shows.proofs.Seats.{enabled_seat}
+use Rattle.core_shows.proofs.ShownClaims as claiming
 use Rattle.core_shows.proofs.ShownCounters as counter
 use Rattle.core_shows.proofs.ShownEnds as ending
 use Rattle.core_shows.proofs.ShownLeaves.{leave_shows}
@@ -32,8 +33,8 @@ by_act z c n so hn (act.Alive j) on = reading.alive_shows z c n so hn j on
 by_act z c n so hn act.Scan on = reading.scan_shows z c n so hn on
 by_act z c n so hn (act.Swap p new) on = place.swap_shows z c n so hn p new on
 by_act z c n so hn (act.Cas p old new) on = place.cas_shows z c n so hn p old new on
-by_act z c n so hn (act.Claim s) on = life.claim_shows z c n so hn s on
-by_act z c n so hn act.Arm on = life.arm_shows z c n so hn on
+by_act z c n so hn (act.Claim s) on = claiming.claim_shows z c n so hn s on
+by_act z c n so hn act.Arm on = claiming.arm_shows z c n so hn on
 by_act z c n so hn (act.Fill i x) on = life.fill_shows z c n so hn i x on
 by_act z c n so hn act.Start on = life.start_shows z c n so hn on
 by_act z c n so hn (act.See s i) on = reading.see_shows z c n so hn s i on

@@ -6,12 +6,14 @@ pub mod Ranges
 pub mod Losing
 pub mod Quiet
 pub mod Changes
+pub mod Covered
 pub mod Lawful
 pub mod Told
 pub mod Does
 pub mod Seats
 pub mod ShownCounters
 pub mod ShownEnds
+pub mod ShownClaims
 pub mod ShownLives
 pub mod ShownPlaces
 pub mod ShownNotes

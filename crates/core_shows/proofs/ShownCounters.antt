@@ -36,7 +36,7 @@ use Rattle.core_invariant.proofs.Steady.{named_in_range}
 use Rattle.core_shows.proofs.Bridge.{shown_seat, shown_slot, shown_strong}
 use Rattle.core_shows.proofs.Does as does
 use Rattle.core_shows.proofs.Does.{ShowsRow}
-use Rattle.core_shows.proofs.Lawful.{covered_after}
+use Rattle.core_shows.proofs.Covered.{covered_after}
 use Rattle.core_shows.proofs.Losing.{loses_without}
 use Rattle.core_shows.proofs.Quiet.{same_plain, unfilled_if, calm, fills_nothing, strong_quiet, weak_quiet, still_quiet}
 use Rattle.core_shows.proofs.Ranges.{SameFlags, plus_flags, low_flags, counts_low}

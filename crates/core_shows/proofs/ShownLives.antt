@@ -1,8 +1,7 @@
--- A claim, an arming, a fill, a start, a destruction and a return of a slot show a plain step each.
-use Rattle.std.proofs.Common.{◌≡◌, ◌≢◌, ⊎_elim, ℕ, ◌+◌, ◌-◌, ◌%◌, ◌^◌, ◌<◌, Bool, true, false, List, [], ◌∷◌, ◌++◌, length, set, bit_and, refl, ap, sym, ◌∙◌, subst, arith}
-use Rattle.std.specs.Prelude.{slice_index, slice_set, ◌==◌, if◌then◌else◌, Option, None}
+-- A fill, a start, a destruction and a return of a slot show a plain step each.
+use Rattle.std.proofs.Common.{◌≡◌, ℕ, ◌+◌, ◌%◌, ◌^◌, ◌<◌, false, List, [], ◌∷◌, ◌++◌, length, set, refl, ap, sym, ◌∙◌, arith}
+use Rattle.std.specs.Prelude.{slice_index, slice_set, ◌==◌, Option, None}
 use Rattle.std.proofs.lemmas.List.{get_or-set_same, get_or-set_other}
-use Rattle.std.proofs.lemmas.Bool.Decides.{nat_tests}
 use Rattle.plain_state.specs.declared.act.PlainAct.TheVariants as plain
 use Rattle.plain_state.specs.declared.slot.SlotId.{SlotId}
 use Rattle.plain_state.specs.declared.slot.PlainSlot.{PlainSlot}
@@ -15,31 +14,30 @@ use Rattle.core_events.specs.declared.act.Act.TheVariants as act
 use Rattle.core_events.specs.declared.outcome.Outcome.TheVariants as outcome
 use Rattle.core_events.specs.declared.shape.Shape.{Shape}
 use Rattle.core_events.specs.declared.view.CoreView.{CoreView}
-use Rattle.core_events.specs.declared.view.Phase.{Phase}
 use Rattle.core_events.specs.declared.view.Phase.TheVariants as phase
 use Rattle.core_events.specs.Words.{has_zero, slot_in, field_at, weak_field_at, strong_at, weak_at, bits_at, bit_in, bit_alone, payload_at}
 use Rattle.core_events.specs.Views.{slot_of, without}
 use Rattle.core_events.specs.Steps.{noted, minus_one, moved}
 use Rattle.core_events.specs.Runs.{Core, Enabled, view_at}
-use Rattle.core_events.specs.Counts.{weak, stage, signs, naming, filling, baring, giving, is_live_word}
+use Rattle.core_events.specs.Counts.{weak, stage, signs, filling, giving, is_live_word}
 use Rattle.core_events.specs.Shows.{shows, show_seat, show_slot, lives, filled}
 use Rattle.core_invariant.specs.Sound.{Sound}
-use Rattle.core_invariant.proofs.Bits.{bit_most, bits_bound, bits_other, taken_bit, taken_other, given_bit, given_other}
+use Rattle.core_invariant.proofs.Bits.{given_bit, given_other}
 use Rattle.core_invariant.proofs.Flags.{live_low}
-use Rattle.core_invariant.proofs.Kit.{slot_cases, one_same, one_other, times_push, times_without, total_at}
+use Rattle.core_invariant.proofs.Kit.{one_same, one_other, times_push, times_without, total_at}
 use Rattle.core_invariant.proofs.Put.{put, at_seat}
-use Rattle.core_invariant.proofs.Steady.{named_in_range, in_idle, in_bare, in_blank, in_give}
+use Rattle.core_invariant.proofs.Steady.{named_in_range, in_blank, in_give}
 use Rattle.core_shows.proofs.Bridge.{shown_seat, shown_slot, shown_weak}
-use Rattle.core_shows.proofs.Changes.{strong_changes, weak_changes, bit_changes, bit_written, bits_there}
+use Rattle.core_shows.proofs.Changes.{strong_changes, weak_changes, bit_changes, bits_there}
 use Rattle.core_shows.proofs.Does as does
 use Rattle.core_shows.proofs.Does.{ShowsRow}
 use Rattle.core_shows.proofs.Frames.{shows_slot, slot_eq, payload_of}
-use Rattle.core_invariant.proofs.Each.{length_each}
 use Rattle.core_shows.proofs.Lists.{each_set}
-use Rattle.core_shows.proofs.Lawful.{undisposed}
+use Rattle.core_shows.proofs.Covered.{undisposed}
 use Rattle.core_shows.proofs.Losing.{loses_without}
-use Rattle.core_shows.proofs.Quiet.{calm, fills_nothing, unfilled, unfilled_if, same_plain, quiet_step, weak_quiet, same_frame, inner, slot_beside, slot_quiet, claimers_move, dying_move, lives_move}
-use Rattle.core_shows.proofs.Stages.{blank_stage, alive_stage, husk_stage, free_stage, stage_same, claimed_is, is_claimed, given_is, dying_is}
+use Rattle.core_shows.proofs.ShownClaims.{there}
+use Rattle.core_shows.proofs.Quiet.{calm, fills_nothing, unfilled, unfilled_if, same_plain, same_frame, inner, slot_beside, slot_quiet, claimers_move, dying_move, lives_move}
+use Rattle.core_shows.proofs.Stages.{alive_stage, husk_stage, free_stage, stage_same, claimed_is, is_claimed, given_is, dying_is}
 
 module _ (z : Shape) (c : Core) (n : ℕ) (so : Sound z c) (hn : n < z.seats) where
   abbrev v : CoreView
@@ -55,131 +53,13 @@ module _ (z : Shape) (c : Core) (n : ℕ) (so : Sound z c) (hn : n < z.seats) wh
   abbrev mine : SlotId
   mine = slot_of (view_at c n).phase
 
-  -- after a claim of s: its bit is taken, and no other
-  module _ (s : SlotId) (hs : s.0 < z.slots) (idle : v.phase ≡ phase.Idle) where
-    abbrev bits : ℕ
-    bits = slice_index c.words (bits_at z s)
-
-    abbrev claimed : CoreView
-    claimed = noted (act.Claim s) outcome.Claimed
-        (record (view_at c n) { makes = (view_at c n).makes + 1; phase = phase.Bare s })
-
-    claims : bit_in s bits ≡ 1
-        → Row (shows z c) n (plain.Claim s) 0
-        (shows z (put c n claimed (bits_at z s) (bit_and bits (2 ^ 64 - 1 - bit_alone s))))
-    claims set' =
-        let w : ℕ = bit_and bits (2 ^ 64 - 1 - bit_alone s) in
-        let ws : List ℕ = set c.words (bits_at z s) w in
-        let l = length_each 0 z.slots (λ x. show_slot z c (record { 0 = x })) in
-        let m = claimers_move z c n claimed so hn ws s in
-        let o = one_same s s refl in
-        let p = in_idle v.phase s idle in
-        let a = p.bares in
-        let b = p.fills in
-        let k = lives_move z c n claimed so hn ws s in
-        does.does_claim (shows z c) _ n (show_seat v) is s (show_slot z c s) (shown_slot z c s hs)
-        (omega arith) (free_stage (signs z c s) set') (ap filled idle)
-        (bit_changes z c n claimed s so hn hs
-        (λ x ne.
-        let q = in_idle v.phase x idle in
-        let e = q.bares in
-        let f = q.fills in
-        let r = one_other x s (λ g. ne (sym g)) in
-        record { claims = omega arith; dying = refl; made = refl })
-        w Blank (λ x ne. taken_other s x bits ne)
-        (blank_stage (signs z (put c n claimed (bits_at z s) w) s)
-        (ap (bit_in s) (get_or-set_same c.words (bits_at z s) w 0 (bits_there z c s so hs))
-        ∙ taken_bit s bits)
-        (omega arith))
-        (omega arith))
-
-    -- where it was taken already, nothing changes
-    missed : (u : CoreView) → u.phase ≡ v.phase → u.dying ≡ v.dying → u.made ≡ v.made
-        → bit_in s bits ≢ 1
-        → shows z (put c n u (bits_at z s) (bit_and bits (2 ^ 64 - 1 - bit_alone s)))
-        ≡ with_seat (shows z c) n (show_seat u)
-    missed u ph dy md clear =
-        let w : ℕ = bit_and bits (2 ^ 64 - 1 - bit_alone s) in
-        let ws : List ℕ = set c.words (bits_at z s) w in
-        let b = bits_bound z s hs in
-        quiet_step z c n u so hn ws
-        (same_frame z c.words (bits_at z s) w (inner z (bits_at z s) (omega arith) (omega arith)))
-        (λ x hx. bit_written z c s x w hs hx (⊎_elim
-        (λ (e : x ≡ s).
-        subst (λ (y : SlotId). bit_in y (slice_index ws (bits_at z y))
-        ≡ bit_in y (slice_index c.words (bits_at z y))) (sym e) here)
-        (λ (ne : x.0 ≢ s.0).
-        bits_other z c.words s x w (bits_there z c s so hs) ne (λ d. taken_other s x bits d))
-        (slot_cases x s)))
-        (calm v u ph dy md)
-      where
-        here : bit_in s (slice_index (set c.words (bits_at z s)
-            (bit_and bits (2 ^ 64 - 1 - bit_alone s))) (bits_at z s)) ≡ bit_in s bits
-        here =
-            let most = bit_most s bits in
-            let e = ap (bit_in s) (get_or-set_same c.words (bits_at z s)
-            (bit_and bits (2 ^ 64 - 1 - bit_alone s)) 0 (bits_there z c s so hs))
-            ∙ taken_bit s bits in
-            omega arith
-
-  pub claim_shows : (s : SlotId) → Enabled z c n (act.Claim s) → ShowsRow z c n (act.Claim s)
-  claim_shows s on = go (bit_in s (slice_index c.words (bits_at z s)) == 1) refl
-    where
-      go : (b : Bool) → (bit_in s (slice_index c.words (bits_at z s)) == 1) ≡ b
-          → Row (shows z c) n (if b then plain.Claim s else plain.Still) 0
-          (shows z (put c n (noted (act.Claim s)
-          (if b then outcome.Claimed else outcome.Taken (slice_index c.words (bits_at z s)))
-          (if b then record v { makes = v.makes + 1; phase = phase.Bare s } else v)) (bits_at z s)
-          (bit_and (slice_index c.words (bits_at z s)) (2 ^ 64 - 1 - bit_alone s))))
-      go true test = claims s on.1.1 on.1.0.0 (grind (arith, nat_tests))
-      go false test = (
-        refl,
-        same_plain (shows z c) _ n _
-            (missed s on.1.1 on.1.0.0 _ refl refl refl (grind (arith, nat_tests))) (sym is),
-      )
-
-  -- the slot of a phase is there
-  there : (s : SlotId) → 0 < baring s v.phase + filling s v.phase + giving s v.phase → s.0 < z.slots
-  there s pos = named_in_range z n v s (so.seats n hn) (in_range v.phase pos)
-    where
-      in_range : (p : Phase) → 0 < baring s p + filling s p + giving s p
-          → 0 < naming s (record v { phase = p })
-      in_range phase.Idle q = absurd (omega arith)
-      in_range (phase.Finish x) q = absurd (omega arith)
-      in_range (phase.Help x) q = absurd (omega arith)
-      in_range (phase.Zero x) q = absurd (omega arith)
-      in_range phase.Scan q = absurd (omega arith)
-      in_range (phase.Bare x) q = omega arith
-      in_range (phase.Blank x) q = omega arith
-      in_range (phase.Give x) q = omega arith
-
-  pub arm_shows : Enabled z c n act.Arm → ShowsRow z c n act.Arm
-  arm_shows on =
-      let at : v.phase ≡ phase.Bare mine =
-      on.1.1 ∙ sym (ap (λ (x : SlotId). phase.Bare x) (ap slot_of on.1.1)) in
-      let p = in_bare v.phase mine mine at in
-      let a = p.bares in
-      let o = one_same mine mine refl in
-      let hs = there mine (omega arith) in (
-        refl,
-        same_plain (shows z c) _ n _
-            (weak_quiet z c n _ so hn mine 1 hs
-            (λ x.
-            let q = in_bare v.phase x mine at in
-            let e = q.bares in
-            let f = q.fills in
-            record { claims = omega arith; dying = refl; made = refl }))
-            (ap (λ (f : Option SlotId). record (show_seat v) { filling = f }) (sym (ap filled at))
-            ∙ sym is),
-      )
-
   blank_at : (s : SlotId) → v.phase ≡ phase.Blank s → (s.0 < z.slots) × (stage z c s ≡ Blank)
   blank_at s at =
       let p = in_blank v.phase s s at in
       let a = p.fills in
       let o = one_same s s refl in
       let r = total_at (λ (u : CoreView). filling s u.phase) c.views n h in
-      let hs = there s (omega arith) in (hs, is_claimed z c so s hs (omega arith))
+      let hs = there z c n so hn s (omega arith) in (hs, is_claimed z c so s hs (omega arith))
 
   pub fill_shows : (i x : ℕ) → Enabled z c n (act.Fill i x) → ShowsRow z c n (act.Fill i x)
   fill_shows i x on =
@@ -309,7 +189,7 @@ module _ (z : Shape) (c : Core) (n : ℕ) (so : Sound z c) (hn : n < z.seats) wh
           let a = p.gives in
           let o = one_same s s refl in
           let r = total_at (λ (x : CoreView). giving s x.phase) c.views n h in
-          let hs = there s (omega arith) in
+          let hs = there z c n so hn s (omega arith) in
           let g = given_is z c so s hs (omega arith) in
           let l = lives_move z c n u so hn (set c.words (bits_at z s) w') s in
           let st : stage z c s ≡ Husk = husk_stage (signs z c s) g.bit g.claimers g.dying g.dead in

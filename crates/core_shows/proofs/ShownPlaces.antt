@@ -20,7 +20,7 @@ use Rattle.core_invariant.proofs.Put.{at_seat}
 use Rattle.core_invariant.proofs.Writes.{IsPlace}
 use Rattle.core_shows.proofs.Bridge.{shown_seat, shown_slot}
 use Rattle.core_invariant.proofs.Each.{length_each, get_each}
-use Rattle.core_shows.proofs.Lawful.{undisposed}
+use Rattle.core_shows.proofs.Covered.{undisposed}
 
 pub word_slot : (w : ℕ) → word_of (slot_in w) ≡ w
 word_slot w = go (w == 0) refl

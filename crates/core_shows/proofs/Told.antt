@@ -2,7 +2,6 @@
 use Rattle.std.proofs.Common.{◌≡◌, ◌≢◌, inl, inr, ⊎_elim, ℕ, ◌+◌, ◌<◌, ap, sym, ◌∙◌, arith}
 use Rattle.plain_state.specs.declared.slot.Kind.TheVariants.{Weak}
 use Rattle.plain_state.specs.declared.slot.SlotId.{SlotId}
-use Rattle.plain_state.specs.declared.slot.PlainSlot.{PlainSlot}
 use Rattle.plain_state.specs.declared.slot.Stage.{Stage}
 use Rattle.plain_state.specs.declared.slot.Stage.TheVariants.{Free, Blank}
 use Rattle.plain_state.specs.References.{weak_refs, own_reference}
@@ -20,12 +19,9 @@ use Rattle.core_invariant.proofs.Parts.{sound_good, stage_in, stage_is}
 use Rattle.core_invariant.proofs.Put.{adds_fit}
 use Rattle.core_invariant.proofs.Steady.{named_in_range}
 use Rattle.core_shows.specs.Shown.{CountsShown, HeldStays}
-use Rattle.core_shows.proofs.Bridge.{shown_slot, shown_strong, shown_weak}
-use Rattle.core_shows.proofs.Lawful.{shows_lawful, stands}
-
-shown_stage : (z : Shape) (c : Core) (s : SlotId) → s.0 < z.slots
-    → stage_at (shows z c) s ≡ stage z c s
-shown_stage z c s hs = ap (λ (x : PlainSlot). x.stage) (shown_slot z c s hs)
+use Rattle.core_shows.proofs.Bridge.{shown_stage, shown_strong, shown_weak}
+use Rattle.core_shows.proofs.Covered.{stands}
+use Rattle.core_shows.proofs.Lawful.{shows_lawful}
 
 pub counts_shown : (z : Shape) (c : Core) (s : SlotId) → Sound z c → s.0 < z.slots
     → CountsShown z c s
