@@ -5,8 +5,9 @@ use Rattle.std.proofs.lemmas.List.{get_or_past, get_or-map}
 use Rattle.std.proofs.lemmas.List.Sums.{sum_by-cons}
 use Rattle.std.proofs.lemmas.Bool.{cases_lt}
 use Rattle.plain_state.specs.declared.slot.Kind.{Kind}
-use Rattle.plain_state.specs.declared.slot.Kind.TheVariants.{Strong, Weak}
+use Rattle.plain_state.specs.declared.slot.Kind.TheVariants.{Strong, Weak, Disposal}
 use Rattle.plain_state.specs.declared.slot.SlotId.{SlotId}
+use Rattle.plain_state.specs.declared.slot.PlainSlot.{PlainSlot}
 use Rattle.plain_state.specs.Lists.{times, entry_times}
 use Rattle.plain_state.specs.References.{strong_refs, weak_refs, places as plain_places, deferrals, snapshot_times, dying_times as plain_dying, own_reference, strong_fields, weak_fields}
 use Rattle.plain_state.specs.State.{PlainSeat, seat_at, slot_at, stage_at, new_seat, new_slot}
@@ -15,12 +16,13 @@ use Rattle.core_events.specs.declared.view.CoreView.{CoreView}
 use Rattle.core_events.specs.Words.{cell_at, weak_cell_at, field_at, weak_field_at}
 use Rattle.core_events.specs.Views.{no_view, snapshots}
 use Rattle.core_events.specs.Runs.{Core, view_at}
-use Rattle.core_events.specs.Counts.{total, listed, refs, places, fields_holding, dying_times}
+use Rattle.core_events.specs.Counts.{stage, total, listed, refs, places, fields_holding, dying_times}
 use Rattle.core_events.specs.Shows.{shows, show_seat, show_slot}
 use Rattle.core_invariant.specs.Sound.{Sound}
 use Rattle.core_invariant.proofs.Kit.{entry_append}
 use Rattle.core_invariant.proofs.Writes.{weak_holding}
-use Rattle.core_shows.proofs.Lists.{length_each, get_each, cells_sum, slots_sum, seats_sum, held_word, total_plus, total_same}
+use Rattle.core_invariant.proofs.Each.{length_each, get_each}
+use Rattle.core_shows.proofs.Lists.{cells_sum, slots_sum, seats_sum, held_word, total_plus, total_same}
 
 module _ (z : Shape) (c : Core) where
   pub shown_seat : (n : ℕ) → n < length c.views → seat_at (shows z c) n ≡ show_seat (view_at c n)
@@ -31,6 +33,9 @@ module _ (z : Shape) (c : Core) where
       let e : 0 + s.0 ≡ s.0 = omega arith in
       get_each 0 z.slots s.0 (λ x. show_slot z c (record { 0 = x })) new_slot h
       ∙ ap (λ (x : ℕ). show_slot z c (record { 0 = x })) e
+
+  pub shown_stage : (s : SlotId) → s.0 < z.slots → stage_at (shows z c) s ≡ stage z c s
+  shown_stage s hs = ap (λ (x : PlainSlot). x.stage) (shown_slot s hs)
 
   pub shown_past : (s : SlotId) → z.slots ≤ s.0 → slot_at (shows z c) s ≡ new_slot
   shown_past s le =
@@ -53,6 +58,7 @@ module _ (z : Shape) (c : Core) where
       (weak_holding z c.words s)
       (λ x h. held_word s (slice_index c.words (weak_field_at z (record { 0 = x })))) in
       omega arith
+  shown_places Disposal s = refl
 
   pub shown_deferrals : (k : Kind) (s : SlotId)
       → deferrals k (shows z c) s ≡ total (λ v. entry_times k s v.owed + entry_times k s v.retired)
@@ -126,6 +132,10 @@ refs_past z c Strong s so le =
 refs_past z c Weak s so le =
     let p = so.range Weak s le in
     let t = total_zero (listed Weak s) c.views (λ n h. let sv = so.views in let r =
+    (so.seats n (omega arith)).range s le in omega arith) in omega arith
+refs_past z c Disposal s so le =
+    let p = so.range Disposal s le in
+    let t = total_zero (listed Disposal s) c.views (λ n h. let sv = so.views in let r =
     (so.seats n (omega arith)).range s le in omega arith) in omega arith
 
 pub dying_past : (z : Shape) (c : Core) (s : SlotId) → Sound z c → z.slots ≤ s.0 → dying_times c s

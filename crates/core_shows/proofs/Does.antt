@@ -4,13 +4,14 @@ use Rattle.std.specs.Prelude.{slice_set, Some, None}
 use Rattle.plain_state.specs.declared.act.EventPlace.{EventPlace}
 use Rattle.plain_state.specs.declared.act.PlainAct.TheVariants as plain
 use Rattle.plain_state.specs.declared.slot.Kind.{Kind}
+use Rattle.plain_state.specs.declared.slot.Kind.TheVariants.{Disposal}
 use Rattle.plain_state.specs.declared.slot.SlotId.{SlotId}
 use Rattle.plain_state.specs.declared.slot.PlainSlot.{PlainSlot}
 use Rattle.plain_state.specs.declared.slot.Stage.TheVariants.{Free, Blank, Live, Ended, Husk}
 use Rattle.plain_state.specs.Lists.{Entry, times, Loses, Gains}
-use Rattle.plain_state.specs.State.{Plain, PlainSeat, seat_at, slot_at, with_seat, with_slot}
-use Rattle.plain_state.specs.Places.{Holds, held_times, IsOpen, place_kind, content}
-use Rattle.plain_state.specs.References.{strong_refs, weak_refs}
+use Rattle.plain_state.specs.State.{Plain, PlainSeat, seat_at, slot_at, stage_at, with_seat, with_slot}
+use Rattle.plain_state.specs.Places.{Holds, held_times, IsReadable, place_kind, content}
+use Rattle.plain_state.specs.References.{strong_refs, weak_refs, snapshot_times}
 use Rattle.plain_state.specs.Lawful.{IsCovered, HasNullFields}
 use Rattle.plain_state.specs.Steps.{Row, word_of, IsReordering}
 use Rattle.core_events.specs.declared.act.Act.{Act}
@@ -52,11 +53,27 @@ module _ (p q : Plain) (n : ℕ) (y : PlainSeat) (is : seat_at p n ≡ y) where
 
   -- a check that finds what is announced
   pub does_check : (j m : ℕ) (place : EventPlace) (s : SlotId) (es : List Entry)
-      → IsOpen p n place → m ≡ word_of (content p place) → content p place ≡ Some s
+      → IsReadable p n place → m ≡ word_of (content p place) → content p place ≡ Some s
       → Gains y.snapshots (place_kind place, s) es
       → q ≡ with_seat p n (record y { snapshots = es }) → Row p n (plain.Check j place) m q
   does_check j m place s es open' found' holds gains e =
       (open', found', inr (s, holds, (es, rw is gains, rw is e)))
+
+  -- what is announced has no strong references, or has some and lives
+  pub does_alive_none : (j : ℕ) (s : SlotId) (m : ℕ) → Holds y s → m ≡ strong_refs p s → m ≡ 0 → q ≡ p
+      → Row p n (plain.Alive j) m q
+  does_alive_none j s m held e none same = (s, rw is held, e, inl (none, same))
+
+  pub does_alive : (j : ℕ) (s : SlotId) (m : ℕ) (es : List Entry) → Holds y s → m ≡ strong_refs p s
+      → 0 < m → stage_at p s ≡ Live → Gains y.snapshots (Disposal, s) es
+      → q ≡ with_seat p n (record y { snapshots = es }) → Row p n (plain.Alive j) m q
+  does_alive j s m es held e pos live gains f =
+      (s, rw is held, e, inr (pos, live, (es, rw is gains, rw is f)))
+
+  pub does_ticket : (m : ℕ) → m ≡ p.tickets
+      → q ≡ record (with_seat p n (record y { adds = y.adds + 1 })) { tickets = p.tickets + 1 }
+      → Row p n plain.Ticket m q
+  does_ticket m e f = (e, rw is f)
 
   pub does_end_snapshot : (k : Kind) (s : SlotId) (es : List Entry) → Loses y.snapshots (k, s) es
       → q ≡ with_seat p n (record y { snapshots = es }) → Row p n (plain.EndSnapshot k s) 0 q
@@ -84,11 +101,11 @@ module _ (p q : Plain) (n : ℕ) (y : PlainSeat) (is : seat_at p n ≡ y) where
 
   -- slot s is x
   module _ (s : SlotId) (x : PlainSlot) (there : slot_at p s ≡ x) where
-    pub does_claim : s.0 < length p.slots → x.stage ≡ Free
+    pub does_claim : s.0 < length p.slots → x.stage ≡ Free → y.filling ≡ None
         → q ≡ with_slot (with_seat p n (record y { filling = Some s })) s
         (record x { stage = Blank })
         → Row p n (plain.Claim s) 0 q
-    does_claim hs st e = (hs, rw there st, refl, rw (is, there) e)
+    does_claim hs st none e = (hs, rw there st, rw is none, refl, rw (is, there) e)
 
     pub does_fill : (i w : ℕ) → x.stage ≡ Blank → y.filling ≡ Some s → i < 16
         → q ≡ with_slot p s (record x { payload = slice_set x.payload i w })
@@ -124,10 +141,12 @@ module _ (p q : Plain) (n : ℕ) (y : PlainSeat) (is : seat_at p n ≡ y) where
       ),
     )
 
-    pub does_destroy : (xs : List SlotId) → HasNullFields x → Loses y.dying s xs
+    pub does_destroy : (xs : List SlotId) → HasNullFields x → snapshot_times Disposal p s ≡ 0
+        → Loses y.dying s xs
         → q ≡ with_slot (with_seat p n (record y { dying = xs })) s (record x { stage = Husk })
         → Row p n (plain.Destroy s) 0 q
-    does_destroy xs nulls loses e = (rw there nulls, refl, (xs, rw is loses, rw (is, there) e))
+    does_destroy xs nulls none loses e =
+        (rw there nulls, none, refl, (xs, rw is loses, rw (is, there) e))
 
     pub does_give : x.stage ≡ Husk → weak_refs p s ≡ 0 → q
         ≡ with_slot p s (record x { stage = Free })

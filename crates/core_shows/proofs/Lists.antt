@@ -1,5 +1,5 @@
 -- Lists that are read off numbers, and sums over them.
-use Rattle.std.proofs.Common.{◌≡◌, ◌≢◌, ⊎_elim, ℕ, zero, suc, ◌+◌, ◌-◌, ◌<◌, Bool, true, false, List, [], ◌∷◌, ◌++◌, length, get_or, set, map, refl, ap, sym, ◌∙◌, subst, arith}
+use Rattle.std.proofs.Common.{◌≡◌, ◌≢◌, ⊎_elim, ℕ, zero, suc, ◌+◌, ◌-◌, ◌<◌, Bool, true, false, List, [], ◌∷◌, ◌++◌, get_or, set, map, refl, ap, sym, ◌∙◌, subst, arith}
 use Rattle.std.specs.Prelude.{◌==◌, sum_by, count_by, cond, if◌then◌else◌, Option, Some, None}
 use Rattle.std.proofs.lemmas.List.{length-set, get_or-set_same, get_or-set_other, same_lists}
 use Rattle.std.proofs.lemmas.List.Sums.{sum_by-cons, sum_by_push}
@@ -11,21 +11,12 @@ use Rattle.plain_state.specs.Lists.{holds, cell_times}
 use Rattle.plain_state.specs.References.{held_in, over_seats, over_slots}
 use Rattle.plain_state.specs.State.{PlainSeat}
 use Rattle.core_events.specs.declared.view.CoreView.{CoreView}
-use Rattle.core_events.specs.Words.{slot_in}
+use Rattle.core_events.specs.Words.{each_from, slot_in}
 use Rattle.core_events.specs.Counts.{in_word, total, sum_below}
-use Rattle.core_events.specs.Shows.{each_from, show_seat}
+use Rattle.core_events.specs.Shows.{show_seat}
+use Rattle.core_invariant.proofs.Each.{length_each, get_each}
 
 module _ {A : Type 0} where
-  pub length_each : (i n : ℕ) (f : ℕ → A) → length (each_from i n f) ≡ n
-  length_each i zero f = refl
-  length_each i (suc n) f = ap suc (length_each (i + 1) n f)
-
-  pub get_each : (i n k : ℕ) (f : ℕ → A) (d : A) → k < n → get_or (each_from i n f) k d ≡ f (i + k)
-  get_each i zero k f d h = absurd (omega arith)
-  get_each i (suc n) zero f d h = let e : i ≡ i + 0 = omega arith in ap f e
-  get_each i (suc n) (suc k) f d h =
-      let e : i + 1 + k ≡ i + suc k = omega arith in get_each (i + 1) n k f d (omega arith) ∙ ap f e
-
   pub each_push : (i n : ℕ) (f : ℕ → A) → each_from i (suc n) f ≡ each_from i n f ++ f (i + n) ∷ []
   each_push i zero f = let e : i ≡ i + 0 = omega arith in ap (λ (k : ℕ). f k ∷ []) e
   each_push i (suc n) f =

@@ -1,204 +1,269 @@
 -- Steps after which no slot shows anything else.
-use Rattle.std.proofs.Common.{◌≡◌, ◌≢◌, ⊎_elim, ℕ, ◌<◌, List, set, refl, ap, sym, ◌∙◌, subst, arith}
-use Rattle.std.specs.Prelude.{slice_index}
+use Rattle.std.proofs.Common.{◌≡◌, ◌≢◌, ⊎_elim, ℕ, ◌+◌, ◌<◌, ◌≤◌, Bool, true, false, List, length, set, refl, ap, sym, ◌∙◌, subst, arith}
+use Rattle.std.specs.Prelude.{slice_index, if◌then◌else◌, None}
 use Rattle.std.proofs.lemmas.List.{get_or-set_same, get_or-set_other, set-get_or}
 use Rattle.plain_state.specs.declared.slot.SlotId.{SlotId}
 use Rattle.plain_state.specs.Lists.{times}
-use Rattle.plain_state.specs.State.{with_seat}
+use Rattle.plain_state.specs.State.{Plain, PlainSeat, seat_at, with_seat, new_seat}
 use Rattle.core_events.specs.declared.shape.Shape.{Shape}
 use Rattle.core_events.specs.declared.view.CoreView.{CoreView}
-use Rattle.core_events.specs.Words.{has_zero, cell_at, weak_cell_at, field_at, weak_field_at, payload_at, strong_at, weak_at}
+use Rattle.core_events.specs.declared.view.Phase.{Phase}
+use Rattle.core_events.specs.declared.view.Phase.TheVariants as phase
+use Rattle.core_events.specs.Words.{has_zero, slot_at, note_at, cell_at, weak_cell_at, field_at, weak_field_at, payload_at, strong_at, weak_at, bits_at, bit_in, ticket_at}
 use Rattle.core_events.specs.Runs.{Core, view_at}
-use Rattle.core_events.specs.Counts.{strong, weak, stage_of, fillers, dying_times, filling, adds_used}
-use Rattle.core_events.specs.Shows.{shows, show_seat, show_slot, lives}
-use Rattle.core_invariant.specs.Slots.{numbers}
+use Rattle.core_events.specs.Counts.{strong, signs, barers, fillers, dying_times, baring, filling, is_live_word}
+use Rattle.core_events.specs.Shows.{shows, show_seat, show_slot, lives, filled}
 use Rattle.core_invariant.specs.Sound.{Sound}
 use Rattle.core_invariant.proofs.Kit.{total_set, slot_cases}
-use Rattle.core_invariant.proofs.Put.{put, at_seat, adds_fit}
-use Rattle.core_invariant.proofs.Parts.{stage_is}
-use Rattle.core_shows.proofs.Lists.{each_same}
-use Rattle.core_shows.proofs.Frames.{SameRest, slot_kept, shows_seat}
-use Rattle.core_shows.proofs.Stages.{SameFlags, SameFree, mark_keeps, stage_keeps}
+use Rattle.core_invariant.proofs.Put.{put, at_seat}
+use Rattle.core_shows.proofs.Frames.{SameFields, SameFrame, slot_made, shows_seat}
+use Rattle.core_shows.proofs.Ranges.{SameFlags}
+use Rattle.core_shows.proofs.Stages.{stage_same}
 
--- word p is neither of a cell nor of a payload nor of a field
-pub record OffShown (z : Shape) (p : ℕ) : Type 0 where
-  pub cells : (i : ℕ) → i < z.cells → cell_at z i ≢ p
-  pub weak_cells : (i : ℕ) → i < z.weak_cells → weak_cell_at z i ≢ p
-  pub fields : (x : SlotId) (i : ℕ) → i < 2 → field_at z x i ≢ p
-  pub weak_fields : (x : SlotId) → weak_field_at z x ≢ p
-  pub payloads : (x : SlotId) (i : ℕ) → i < 16 → payload_at z x i ≢ p
+-- a seat that shows what it showed
+pub same_plain : (p q : Plain) (n : ℕ) (y : PlainSeat) → q ≡ with_seat p n y → y ≡ seat_at p n → q
+    ≡ p
+same_plain p q n y e is = e ∙ (ap (with_seat p n) is ∙ back)
+  where
+    back : with_seat p n (seat_at p n) ≡ p
+    back = ap (λ (vs : List PlainSeat). record p { seats = vs }) (set-get_or p.seats n new_seat)
 
-pub strong_off : (z : Shape) (s : SlotId) → OffShown z (strong_at z s)
-strong_off z s = record {
-  cells = λ i h. omega arith;
-  weak_cells = λ i h. omega arith;
-  fields = λ x i h. omega arith;
-  weak_fields = λ x. omega arith;
-  payloads = λ x i h. omega arith;
-}
+-- a phase that fills nothing
+pub unfilled : (p : Phase) (x : SlotId) → filled p ≡ None → baring x p + filling x p ≡ 0
+unfilled phase.Idle x e = refl
+unfilled (phase.Finish s) x e = refl
+unfilled (phase.Help s) x e = refl
+unfilled (phase.Zero s) x e = refl
+unfilled phase.Scan x e = refl
+unfilled (phase.Bare s) x e = absurd (cc (e))
+unfilled (phase.Blank s) x e = absurd (cc (e))
+unfilled (phase.Give s) x e = refl
 
-pub weak_off : (z : Shape) (s : SlotId) → OffShown z (weak_at z s)
-weak_off z s = record {
-  cells = λ i h. omega arith;
-  weak_cells = λ i h. omega arith;
-  fields = λ x i h. omega arith;
-  weak_fields = λ x. omega arith;
-  payloads = λ x i h. omega arith;
-}
+pub unfilled_if : (b : Bool) (p q : Phase) → filled p ≡ None → filled q ≡ None
+    → filled (if b then p else q) ≡ None
+unfilled_if true p q e f = e
+unfilled_if false p q e f = f
 
--- seat n's view before and after stand alike to slot x, as far as the plain state shows it
+-- a seat's view before and after stand alike to slot x, as far as the plain state shows it
 pub record Quiet (x : SlotId) (v u : CoreView) : Type 0 where
-  pub fill : filling x u.phase ≡ filling x v.phase
-  pub dyi : times x u.dying ≡ times x v.dying
+  pub claims : baring x u.phase + filling x u.phase ≡ baring x v.phase + filling x v.phase
+  pub dying : times x u.dying ≡ times x v.dying
   pub made : times x u.made ≡ times x v.made
 
-module _ (z : Shape) (c : Core) (n : ℕ) (u : CoreView) (ws : List ℕ) (so : Sound z c)
-    (hn : n < z.seats) where
-  abbrev d : Core
-  d = record { words = ws; views = set c.views n u }
+pub calm : (v u : CoreView) → u.phase ≡ v.phase → u.dying ≡ v.dying → u.made ≡ v.made
+    → (x : SlotId) → Quiet x v u
+calm v u p d m x = record {
+  claims = ap (λ (q : Phase). baring x q + filling x q) p;
+  dying = ap (times x) d;
+  made = ap (times x) m;
+}
 
-  pub fillers_same : (x : SlotId) → filling x u.phase ≡ filling x (view_at c n).phase
-      → fillers (record { words = ws; views = set c.views n u }) x ≡ fillers c x
-  fillers_same x e =
-      let t = total_set (λ (v : CoreView). filling x v.phase) c.views n u
-      (at_seat z c n so hn) in omega arith
+pub fills_nothing : (v u : CoreView) → filled v.phase ≡ None → filled u.phase ≡ None
+    → u.dying ≡ v.dying → u.made ≡ v.made → (x : SlotId) → Quiet x v u
+fills_nothing v u p q d m x = record {
+  claims = unfilled u.phase x q ∙ sym (unfilled v.phase x p);
+  dying = ap (times x) d;
+  made = ap (times x) m;
+}
 
-  pub dying_same : (x : SlotId) → times x u.dying ≡ times x (view_at c n).dying
-      → dying_times (record { words = ws; views = set c.views n u }) x ≡ dying_times c x
-  dying_same x e =
-      let t = total_set (λ (v : CoreView). times x v.dying) c.views n u
-      (at_seat z c n so hn) in omega arith
+-- what the plain state shows of slot x by words is the same
+pub record SlotSame (z : Shape) (ws ws' : List ℕ) (x : SlotId) : Type 0 where
+  pub fields : SameFields z ws ws' x
+  pub bit : bit_in x (slice_index ws' (bits_at z x)) ≡ bit_in x (slice_index ws (bits_at z x))
+  pub zero : has_zero (slice_index ws' (strong_at z x)) ≡ has_zero (slice_index ws (strong_at z x))
+  pub live : is_live_word (slice_index ws' (strong_at z x))
+      ≡ is_live_word (slice_index ws (strong_at z x))
 
-  pub lives_same : (x : SlotId) → times x u.made ≡ times x (view_at c n).made
-      → lives (record { words = ws; views = set c.views n u }) x ≡ lives c x
-  lives_same x e =
-      let t = total_set (λ (v : CoreView). times x v.made) c.views n u
-      (at_seat z c n so hn) in omega arith
+-- word p is neither of a cell nor the number of tickets
+pub record Outside (z : Shape) (p : ℕ) : Type 0 where
+  pub cells : (i : ℕ) → i < z.cells → cell_at z i ≢ p
+  pub weak_cells : (i : ℕ) → i < z.weak_cells → weak_cell_at z i ≢ p
+  pub tickets : ticket_at z ≢ p
 
-  -- the words that the plain state shows of a slot, but for its two counters
-  pub rest_same : (x : SlotId) → times x u.made ≡ times x (view_at c n).made
-      → ((i : ℕ) → i < 2 → slice_index ws (field_at z x i) ≡ slice_index c.words (field_at z x i))
-      → slice_index ws (weak_field_at z x) ≡ slice_index c.words (weak_field_at z x)
-      → ((i : ℕ) → i < 16 → slice_index ws (payload_at z x i)
-      ≡ slice_index c.words (payload_at z x i))
-      → SameRest z c (record { words = ws; views = set c.views n u }) x
-  rest_same x e fields weak_field payload = record {
-    life = lives_same x e;
-    payload = each_same 16 _ _ payload;
-    first = fields 0 (omega arith);
-    second = fields 1 (omega arith);
-    weak_field = weak_field;
-  }
+-- it is neither of a field nor of the payload of x
+pub record Beside (z : Shape) (p : ℕ) (x : SlotId) : Type 0 where
+  pub fields : (i : ℕ) → i < 2 → field_at z x i ≢ p
+  pub weak_field : weak_field_at z x ≢ p
+  pub payload : (i : ℕ) → i < 16 → payload_at z x i ≢ p
 
--- where the two counters of x stay, x shows the same
-pub slot_quiet : (z : Shape) (c : Core) (n : ℕ) (u : CoreView) (ws : List ℕ) → Sound z c
-    → n < z.seats → (x : SlotId)
-    → Quiet x (view_at c n) u → SameRest z c (record { words = ws; views = set c.views n u }) x
-    → slice_index ws (strong_at z x) ≡ slice_index c.words (strong_at z x)
-    → slice_index ws (weak_at z x) ≡ slice_index c.words (weak_at z x)
-    → show_slot z (record { words = ws; views = set c.views n u }) x ≡ show_slot z c x
-slot_quiet z c n u ws so hn x q same st wk =
-    slot_kept z c (record { words = ws; views = set c.views n u }) x same
-    (let f = fillers_same z c n u ws so hn x q.fill in
-    let y = dying_same z c n u ws so hn x q.dyi in
-    stages st wk f y)
-    (ap has_zero st)
-  where
-    stages : {a a' b b' e e' g g' : ℕ} → a' ≡ a → b' ≡ b → e' ≡ e → g' ≡ g → stage_of a' b' e' g'
-        ≡ stage_of a b e g
-    stages p q r s = cc
+pub same_frame : (z : Shape) (ws : List ℕ) (p w : ℕ) → Outside z p → SameFrame z ws (set ws p w)
+same_frame z ws p w off = record {
+  cells = λ i h. get_or-set_other ws p (cell_at z i) w 0 (off.cells i h);
+  weak_cells = λ i h. get_or-set_other ws p (weak_cell_at z i) w 0 (off.weak_cells i h);
+  tickets = get_or-set_other ws p (ticket_at z) w 0 off.tickets;
+}
 
--- where the flags and the meaning of the weak word stay at s, no slot shows anything else
-pub quiet_step : (z : Shape) (c : Core) (n : ℕ) (u : CoreView) (p w : ℕ) (s : SlotId) → Sound z c
-    → n < z.seats
-    → Sound z (put c n u p w) → OffShown z p → ((x : SlotId) → x.0 ≢ s.0 → (strong_at z x ≢ p)
-    × (weak_at z x ≢ p))
-    → ((x : SlotId) → Quiet x (view_at c n) u)
-    → SameFlags (strong z c s) (strong z (put c n u p w) s)
-    → SameFree (weak z c s) (weak z (put c n u p w) s)
-    → shows z (put c n u p w) ≡ with_seat (shows z c) n (show_seat u)
-quiet_step z c n u p w s so hn so' off apart quiet flags frees =
-    shows_seat z c (put c n u p w) n u refl
-    (record {
-      cells = λ i h. get_or-set_other c.words p (cell_at z i) w 0 (off.cells i h);
-      weak_cells = λ i h. get_or-set_other c.words p (weak_cell_at z i) w 0 (off.weak_cells i h);
-    })
-    (λ x hx. ⊎_elim
-    (λ (e : x ≡ s). subst (λ (y : SlotId). show_slot z (put c n u p w) y ≡ show_slot z c y) (sym e)
-    (here (subst (λ (y : SlotId). y.0 < z.slots) e hx)))
-    (λ (ne : x.0 ≢ s.0).
-    let a = apart x ne in
-    slot_quiet z c n u (set c.words p w) so hn x (quiet x) (rest x)
-    (get_or-set_other c.words p (strong_at z x) w 0 a.0)
-    (get_or-set_other c.words p (weak_at z x) w 0 a.1))
-    (slot_cases x s))
-  where
-    rest : (x : SlotId) → SameRest z c (put c n u p w) x
-    rest x = rest_same z c n u (set c.words p w) so hn x (quiet x).made
-        (λ i h. get_or-set_other c.words p (field_at z x i) w 0 (off.fields x i h))
-        (get_or-set_other c.words p (weak_field_at z x) w 0 (off.weak_fields x))
-        (λ i h. get_or-set_other c.words p (payload_at z x i) w 0 (off.payloads x i h))
+pub same_fields : (z : Shape) (ws : List ℕ) (p w : ℕ) (x : SlotId) → Beside z p x
+    → SameFields z ws (set ws p w) x
+same_fields z ws p w x off = record {
+  fields = λ i h. get_or-set_other ws p (field_at z x i) w 0 (off.fields i h);
+  weak_field = get_or-set_other ws p (weak_field_at z x) w 0 off.weak_field;
+  payload = λ i h. get_or-set_other ws p (payload_at z x i) w 0 (off.payload i h);
+}
 
-    here : s.0 < z.slots → show_slot z (put c n u p w) s ≡ show_slot z c s
-    here hs =
-        let f = fillers_same z c n u (set c.words p w) so hn s (quiet s).fill in
-        let y = dying_same z c n u (set c.words p w) so hn s (quiet s).dyi in
-        slot_kept z c (put c n u p w) s (rest s)
-        (stage_is (adds_used (put c n u p w)) (numbers z (put c n u p w) s) (so'.slots s hs)
-        (adds_fit z (put c n u p w) so')
-        ∙ (stage_keeps _ _ (numbers z c s) (numbers z (put c n u p w) s) (so.slots s hs)
-        (so'.slots s hs)
-        (adds_fit z c so) (adds_fit z (put c n u p w) so') flags frees f y
-        ∙ sym (stage_is (adds_used c) (numbers z c s) (so.slots s hs) (adds_fit z c so))))
-        (mark_keeps (strong z c s) (strong z (put c n u p w) s) flags)
+pub slot_beside : (z : Shape) (ws : List ℕ) (p w : ℕ) (x : SlotId) → Beside z p x
+    → strong_at z x ≢ p → bits_at z x ≢ p → SlotSame z ws (set ws p w) x
+slot_beside z ws p w x off a b =
+    let e = get_or-set_other ws p (strong_at z x) w 0 a in
+    record {
+      fields = same_fields z ws p w x off;
+      bit = ap (bit_in x) (get_or-set_other ws p (bits_at z x) w 0 b);
+      zero = ap has_zero e;
+      live = ap is_live_word e;
+    }
 
--- the strong word of s is written, and keeps its flags
-pub strong_quiet : (z : Shape) (c : Core) (n : ℕ) (u : CoreView) (w : ℕ) (s : SlotId) → Sound z c
-    → n < z.seats → s.0 < z.slots
-    → Sound z (put c n u (strong_at z s) w) → ((x : SlotId) → Quiet x (view_at c n) u)
-    → SameFlags (strong z c s) w
-    → shows z (put c n u (strong_at z s) w) ≡ with_seat (shows z c) n (show_seat u)
-strong_quiet z c n u w s so hn hs so' quiet flags =
-    let len = so.words in
-    let here : slice_index (set c.words (strong_at z s) w) (strong_at z s)
-    ≡ w = get_or-set_same c.words (strong_at z s) w 0 (omega arith) in
-    let other = get_or-set_other c.words (strong_at z s) (weak_at z s) w 0 (omega arith) in
-    quiet_step z c n u (strong_at z s) w s so hn so' (strong_off z s)
-    (λ x ne. (omega arith, omega arith)) quiet
-    (subst (SameFlags (strong z c s)) (sym here) flags)
-    (record { to = λ e. other ∙ e; from = λ e. sym other ∙ e })
+-- the words of the slots and their bits lie between the cells and the tickets
+pub inner : (z : Shape) (p : ℕ) → slot_at z 0 ≤ p → p < ticket_at z → Outside z p
+inner z p a b = record {
+  cells = λ i h. omega arith;
+  weak_cells = λ i h. omega arith;
+  tickets = omega arith;
+}
 
--- the weak word of s is written
-pub weak_quiet : (z : Shape) (c : Core) (n : ℕ) (u : CoreView) (w : ℕ) (s : SlotId) → Sound z c
-    → n < z.seats → s.0 < z.slots
-    → Sound z (put c n u (weak_at z s) w) → ((x : SlotId) → Quiet x (view_at c n) u)
-    → SameFree (weak z c s) w
-    → shows z (put c n u (weak_at z s) w) ≡ with_seat (shows z c) n (show_seat u)
-weak_quiet z c n u w s so hn hs so' quiet frees =
-    let len = so.words in
-    let here : slice_index (set c.words (weak_at z s) w) (weak_at z s)
-    ≡ w = get_or-set_same c.words (weak_at z s) w 0 (omega arith) in
-    let other = get_or-set_other c.words (weak_at z s) (strong_at z s) w 0 (omega arith) in
-    quiet_step z c n u (weak_at z s) w s so hn so' (weak_off z s)
-    (λ x ne. (omega arith, omega arith)) quiet
-    (record {
-      up = λ e. omega arith;
-      down = λ e. omega arith;
-      more = λ e. omega arith;
-      less = λ e.
-          omega arith;
-    })
-    (subst (SameFree (weak z c s)) (sym here) frees)
+pub strong_beside : (z : Shape) (s x : SlotId) → Beside z (strong_at z s) x
+strong_beside z s x = record {
+  fields = λ i h. omega arith;
+  weak_field = omega arith;
+  payload = λ i h. omega arith;
+}
 
--- no word changes
-pub still_quiet : (z : Shape) (c : Core) (n : ℕ) (u : CoreView) (p : ℕ) → Sound z c → n < z.seats
-    → ((x : SlotId) → Quiet x (view_at c n) u)
-    → shows z (put c n u p (slice_index c.words p)) ≡ with_seat (shows z c) n (show_seat u)
-still_quiet z c n u p so hn quiet =
-    subst (λ (ws : List ℕ). shows z (record { words = ws; views = set c.views n u })
-    ≡ with_seat (shows z c) n (show_seat u))
-    (sym (set-get_or c.words p 0))
-    (shows_seat z c (record { words = c.words; views = set c.views n u }) n u refl
-    (record { cells = λ i h. refl; weak_cells = λ i h. refl })
-    (λ x hx. slot_quiet z c n u c.words so hn x (quiet x)
-    (rest_same z c n u c.words so hn x (quiet x).made (λ i h. refl) refl (λ i h. refl)) refl refl))
+pub weak_beside : (z : Shape) (s x : SlotId) → Beside z (weak_at z s) x
+weak_beside z s x = record {
+  fields = λ i h. omega arith;
+  weak_field = omega arith;
+  payload = λ i h. omega arith;
+}
+
+-- a word before the slots, or past them
+pub front_beside : (z : Shape) (p : ℕ) (x : SlotId) → p < slot_at z 0 → Beside z p x
+front_beside z p x h = record {
+  fields = λ i l. omega arith;
+  weak_field = omega arith;
+  payload = λ i l. omega arith;
+}
+
+pub past_beside : (z : Shape) (p : ℕ) (x : SlotId) → slot_at z z.slots ≤ p → x.0 < z.slots
+    → Beside z p x
+past_beside z p x h hx = record {
+  fields = λ i l. omega arith;
+  weak_field = omega arith;
+  payload = λ i l. omega arith;
+}
+
+-- the strong word of s is written
+pub strong_other : (z : Shape) (ws : List ℕ) (s x : SlotId) (w : ℕ) → s.0 < z.slots → x.0 ≢ s.0
+    → SlotSame z ws (set ws (strong_at z s) w) x
+strong_other z ws s x w hs ne =
+    slot_beside z ws (strong_at z s) w x (strong_beside z s x) (omega arith) (omega arith)
+
+module _ (z : Shape) (c : Core) (n : ℕ) (u : CoreView) (so : Sound z c) (hn : n < z.seats) where
+  h : n < length c.views
+  h = at_seat z c n so hn
+
+  module _ (ws : List ℕ) where
+    abbrev d : Core
+    d = record { words = ws; views = set c.views n u }
+
+    pub claimers_move : (x : SlotId)
+        → barers (record { words = ws; views = set c.views n u }) x
+        + fillers (record { words = ws; views = set c.views n u }) x
+        + (baring x (view_at c n).phase + filling x (view_at c n).phase)
+        ≡ barers c x + fillers c x + (baring x u.phase + filling x u.phase)
+    claimers_move x =
+        let a = total_set (λ (v : CoreView). baring x v.phase) c.views n u h in
+        let b = total_set (λ (v : CoreView). filling x v.phase) c.views n u h in omega arith
+
+    pub dying_move : (x : SlotId)
+        → dying_times (record { words = ws; views = set c.views n u }) x
+        + times x (view_at c n).dying ≡ dying_times c x + times x u.dying
+    dying_move x = total_set (λ (v : CoreView). times x v.dying) c.views n u h
+
+    pub lives_move : (x : SlotId)
+        → lives (record { words = ws; views = set c.views n u }) x + times x (view_at c n).made
+        ≡ lives c x + times x u.made
+    lives_move x = total_set (λ (v : CoreView). times x v.made) c.views n u h
+
+    -- slot x shows the same
+    pub slot_quiet : (x : SlotId) → Quiet x (view_at c n) u → SlotSame z c.words ws x
+        → show_slot z (record { words = ws; views = set c.views n u }) x ≡ show_slot z c x
+    slot_quiet x q same =
+        let a = claimers_move x in
+        let b = dying_move x in
+        let m = lives_move x in
+        let e = q.claims in
+        let f = q.dying in
+        let g = q.made in
+        slot_made z c d x _ _ _ same.fields
+        (stage_same (signs z c x) (signs z d x) same.bit (omega arith) (omega arith) same.live)
+        same.zero (omega arith)
+
+    -- no slot shows anything else
+    pub quiet_step : SameFrame z c.words ws → ((x : SlotId) → x.0 < z.slots → SlotSame z c.words ws x)
+        → ((x : SlotId) → Quiet x (view_at c n) u)
+        → shows z (record { words = ws; views = set c.views n u })
+        ≡ with_seat (shows z c) n (show_seat u)
+    quiet_step frame same quiet =
+        shows_seat z c d n u refl frame (λ x hx. slot_quiet x (quiet x) (same x hx))
+
+  -- the strong word of s is written, and keeps its flags
+  pub strong_quiet : (s : SlotId) (w : ℕ) → s.0 < z.slots → SameFlags (strong z c s) w
+      → ((x : SlotId) → Quiet x (view_at c n) u)
+      → shows z (put c n u (strong_at z s) w) ≡ with_seat (shows z c) n (show_seat u)
+  strong_quiet s w hs flags quiet =
+      quiet_step (set c.words (strong_at z s) w)
+      (same_frame z c.words (strong_at z s) w (inner z (strong_at z s) (omega arith) (omega arith)))
+      (λ x hx. ⊎_elim
+      (λ (e : x ≡ s). subst (SlotSame z c.words (set c.words (strong_at z s) w)) (sym e) here)
+      (λ (ne : x.0 ≢ s.0). strong_other z c.words s x w hs ne)
+      (slot_cases x s)) quiet
+    where
+      here : SlotSame z c.words (set c.words (strong_at z s) w) s
+      here =
+          let len = so.words in
+          let e = get_or-set_same c.words (strong_at z s) w 0 (omega arith) in
+          record {
+            fields = same_fields z c.words (strong_at z s) w s (strong_beside z s s);
+            bit = ap (bit_in s) (get_or-set_other c.words (strong_at z s) (bits_at z s) w 0 (omega arith));
+            zero = ap has_zero e ∙ flags.zero;
+            live = ap is_live_word e ∙ flags.live;
+          }
+
+  -- the weak word of s is written
+  pub weak_quiet : (s : SlotId) (w : ℕ) → s.0 < z.slots → ((x : SlotId) → Quiet x (view_at c n) u)
+      → shows z (put c n u (weak_at z s) w) ≡ with_seat (shows z c) n (show_seat u)
+  weak_quiet s w hs quiet =
+      quiet_step (set c.words (weak_at z s) w)
+      (same_frame z c.words (weak_at z s) w (inner z (weak_at z s) (omega arith) (omega arith)))
+      (λ x hx. slot_beside z c.words (weak_at z s) w x (weak_beside z s x) (omega arith) (omega arith))
+      quiet
+
+  -- an announcement word is written
+  pub note_quiet : (j w : ℕ) → j < 4 → ((x : SlotId) → Quiet x (view_at c n) u)
+      → shows z (put c n u (note_at n j) w) ≡ with_seat (shows z c) n (show_seat u)
+  note_quiet j w hj quiet =
+      quiet_step (set c.words (note_at n j) w)
+      (same_frame z c.words (note_at n j) w (record {
+        cells = λ i l. omega arith;
+        weak_cells = λ i l. omega arith;
+        tickets = omega arith;
+      }))
+      (λ x hx. slot_beside z c.words (note_at n j) w x (front_beside z (note_at n j) x (omega arith))
+      (omega arith) (omega arith))
+      quiet
+
+  -- no word changes
+  pub still_quiet : (p : ℕ) → ((x : SlotId) → Quiet x (view_at c n) u)
+      → shows z (put c n u p (slice_index c.words p)) ≡ with_seat (shows z c) n (show_seat u)
+  still_quiet p quiet =
+      subst (λ (ws : List ℕ). shows z (record { words = ws; views = set c.views n u })
+      ≡ with_seat (shows z c) n (show_seat u))
+      (sym (set-get_or c.words p 0))
+      (quiet_step c.words
+      (record { cells = λ i l. refl; weak_cells = λ i l. refl; tickets = refl })
+      (λ x hx. record {
+        fields = record { fields = λ i l. refl; weak_field = refl; payload = λ i l. refl };
+        bit = refl;
+        zero = refl;
+        live = refl;
+      })
+      quiet)

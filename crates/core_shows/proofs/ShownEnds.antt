@@ -1,14 +1,13 @@
 -- A finish, a take and a mark show a plain step each.
-use Rattle.std.proofs.Common.{◌≡◌, ◌⊎◌, inl, inr, ℕ, ◌+◌, ◌-◌, ◌^◌, ◌<◌, ◌≤◌, Bool, true, false, List, [], ◌∷◌, ◌++◌, length, set, refl, ap, sym, ◌∙◌, subst, arith}
-use Rattle.std.specs.Prelude.{slice_index, ◌==◌, nat_lt, bit_and, if◌then◌else◌, Option}
+use Rattle.std.proofs.Common.{◌≡◌, ◌≢◌, ◌⊎◌, inl, inr, ℕ, ◌+◌, ◌-◌, ◌^◌, ◌<◌, ◌≤◌, Bool, true, false, List, [], ◌∷◌, ◌++◌, set, refl, ap, sym, ◌∙◌, subst, arith}
+use Rattle.std.specs.Prelude.{slice_index, ◌==◌, bit_and, if◌then◌else◌, Option, None}
 use prog.Atomic.{either}
-use Rattle.std.proofs.lemmas.List.{get_or-set_same}
+use Rattle.std.proofs.lemmas.List.{get_or-set_same, get_or-set_other}
 use Rattle.std.proofs.lemmas.Bool.Decides.{nat_tests}
 use Rattle.plain_state.specs.declared.act.PlainAct.TheVariants as plain
 use Rattle.plain_state.specs.declared.slot.PlainSlot.{PlainSlot}
 use Rattle.plain_state.specs.declared.slot.SlotId.{SlotId}
-use Rattle.plain_state.specs.declared.slot.Stage.TheVariants.{Live, Ended}
-use Rattle.plain_state.specs.Lists.{times}
+use Rattle.plain_state.specs.declared.slot.Stage.TheVariants.{Ended}
 use Rattle.plain_state.specs.References.{strong_refs}
 use Rattle.plain_state.specs.State.{Plain, seat_at, with_seat, with_slot}
 use Rattle.plain_state.specs.Steps.{Row}
@@ -17,305 +16,237 @@ use Rattle.core_events.specs.declared.outcome.Outcome.TheVariants as outcome
 use Rattle.core_events.specs.declared.shape.Shape.{Shape}
 use Rattle.core_events.specs.declared.view.CoreView.{CoreView}
 use Rattle.core_events.specs.declared.view.Move.{Move}
+use Rattle.core_events.specs.declared.view.Phase.{Phase}
 use Rattle.core_events.specs.declared.view.Phase.TheVariants as phase
-use Rattle.core_events.specs.Words.{ZERO, HELP, has_zero, has_help, value, strong_at}
+use Rattle.core_events.specs.Words.{ZERO, HELP, has_zero, has_help, value, strong_at, bits_at, bit_in}
 use Rattle.core_events.specs.Views.{slot_of}
 use Rattle.core_events.specs.Steps.{noted, ended}
 use Rattle.core_events.specs.Runs.{Core, Enabled, view_at}
-use Rattle.core_events.specs.Counts.{strong, adds_used, stage, filling, total}
+use Rattle.core_events.specs.Counts.{strong, adds_used, stage, signs, free_bit, is_live_word}
 use Rattle.core_events.specs.Shows.{shows, show_seat, show_slot, lives, filled}
 use Rattle.core_invariant.specs.Slots.{numbers}
 use Rattle.core_invariant.specs.Sound.{Sound}
-use Rattle.core_invariant.proofs.Kit.{one_same, one_other, times_push, total_set, total_at}
-use Rattle.core_invariant.proofs.Flags.{flags, cleared}
-use Rattle.core_invariant.proofs.Parts.{value_is, stage_is}
+use Rattle.core_invariant.proofs.Kit.{one_same, one_other, times_push}
+use Rattle.core_invariant.proofs.Flags.{Flags, flags, cleared, live_low}
+use Rattle.core_invariant.proofs.Parts.{value_is}
 use Rattle.core_invariant.proofs.Put.{put, at_seat, adds_fit}
 use Rattle.core_invariant.proofs.Steady.{named_in_range, in_finish, in_help, in_zero}
-use Rattle.core_law.proofs.Always.{step_keeps}
 use Rattle.core_shows.proofs.Bridge.{shown_seat, shown_slot, shown_strong}
 use Rattle.core_shows.proofs.Changes.{strong_changes}
 use Rattle.core_shows.proofs.Does as does
-use Rattle.core_shows.proofs.Quiet.{Quiet, still_quiet, lives_same}
-use Rattle.core_shows.proofs.Ranges.{refs_le}
 use Rattle.core_shows.proofs.Does.{ShowsRow}
-use Rattle.core_shows.proofs.ShownCounters.{same_plain}
-use Rattle.core_shows.proofs.Stages.{live_counted, live_asked, ended_dying}
+use Rattle.core_shows.proofs.Quiet.{same_plain, unfilled, unfilled_if, fills_nothing, still_quiet, claimers_move, dying_move, lives_move}
+use Rattle.core_shows.proofs.Ranges.{zero_stands}
+use Rattle.core_shows.proofs.Stages.{ended_stage, alive_stage, live_started, is_live}
 
--- a word other than 0 counts 0 only where the zero flag stands
-zero_stands : (w : ℕ) → (w == 0) ≡ false → value w ≡ 0 → has_zero w ≡ true
-zero_stands w test = go (nat_lt w ZERO) refl
-  where
-    go : (b : Bool) → nat_lt w ZERO ≡ b → (if b then w else 0) ≡ 0 → has_zero w ≡ true
-    go true low none = absurd (grind (arith, nat_tests))
-    go false high none = grind (arith, nat_tests)
+-- a word with the help flag is that of an object that lives, until the flag is taken
+help_lives : (w : ℕ) → has_help w ≡ true → is_live_word w ≡ true
+help_lives w e = grind (arith, nat_tests)
+
+help_taken : (w w' : ℕ) → w' ≡ w - HELP → ZERO + HELP ≤ w → has_zero w' ≡ true
+help_taken w w' e big = grind (arith, nat_tests)
 
 module _ (z : Shape) (c : Core) (n : ℕ) (so : Sound z c) (hn : n < z.seats) where
   abbrev v : CoreView
   v = view_at c n
 
-  h : n < length c.views
-  h = at_seat z c n so hn
-
   is : seat_at (shows z c) n ≡ show_seat (view_at c n)
   is = shown_seat z c n (at_seat z c n so hn)
 
-  fit : adds_used c < 2 ^ 60
-  fit = adds_fit z c so
+  -- the slot that the seat is in the middle of something with
+  abbrev mine : SlotId
+  mine = slot_of (view_at c n).phase
+
+  -- the bit of s after a write of its strong word
+  bit_stays : (s : SlotId) (w : ℕ) → s.0 < z.slots
+      → bit_in s (slice_index (set c.words (strong_at z s) w) (bits_at z s)) ≡ free_bit z c s
+  bit_stays s w hs = ap (bit_in s)
+      (get_or-set_other c.words (strong_at z s) (bits_at z s) w 0 (omega arith))
 
   -- the object of s ends: its strong word becomes w
-  ends : (s : SlotId) (t : List Move) (w : ℕ) → s.0 < z.slots
-      → ((x : SlotId) → filling x v.phase ≡ 0) → filled v.phase ≡ filled phase.Idle
-      → stage z c s ≡ Live → (has_zero (strong z c s) ≡ true) ⊎ (strong_refs (shows z c) s ≡ 0)
-      → has_zero w ≡ true
-      → Sound z (put c n (record v { dying = v.dying ++ s ∷ []; phase = phase.Idle; trail = t })
-      (strong_at z s) w)
+  ends : (s : SlotId) (t : List Move) (w : ℕ) → s.0 < z.slots → filled v.phase ≡ None
+      → is_live_word (strong z c s) ≡ true
+      → (has_zero (strong z c s) ≡ true) ⊎ (strong_refs (shows z c) s ≡ 0) → has_zero w ≡ true
       → Row (shows z c) n (plain.End s) 0
       (shows z (put c n (record v { dying = v.dying ++ s ∷ []; phase = phase.Idle; trail = t })
       (strong_at z s) w))
-  ends s t w hs fill none live over mark so' =
+  ends s t w hs none live over mark =
       let u : CoreView = record v { dying = v.dying ++ s ∷ []; phase = phase.Idle; trail = t } in
+      let ws : List ℕ = set c.words (strong_at z s) w in
+      let started = live_started z c so s hs live in
+      let b = started.bit in
+      let cl = started.claimers in
+      let b' = bit_stays s w hs in
+      let m = claimers_move z c n u so hn ws s in
+      let fill = unfilled v.phase s none in
+      let d = dying_move z c n u so hn ws s in
+      let l = lives_move z c n u so hn ws s in
+      let p = times_push s s v.dying in
+      let o = one_same s s refl in
       does.does_end (shows z c) _ n (show_seat v) is s (show_slot z c s)
-      (shown_slot z c s hs) live over
-      (strong_changes z c n u w s Ended true (lives c s) so hn hs
+      (shown_slot z c s hs) (is_live z c so s hs live) over
+      (strong_changes z c n u s so hn hs
       (λ x ne.
-      let p = times_push x s v.dying in
-      let o = one_other x s (λ e. ne (sym e)) in
-      record { fill = sym (fill x); dyi = omega arith; made = refl })
-      (stage_is _ (numbers z (put c n u (strong_at z s) w) s) (so'.slots s hs) (adds_fit z _ so')
-      ∙ ended_dying _ (numbers z (put c n u (strong_at z s) w) s) (so'.slots s hs) (stands u refl))
-      mark
-      (lives_same z c n u (set c.words (strong_at z s) w) so hn s refl)
+      let f = unfilled v.phase x none in
+      let q = times_push x s v.dying in
+      let r = one_other x s (λ e. ne (sym e)) in
+      record { claims = omega arith; dying = omega arith; made = refl })
+      w Ended true (lives c s)
+      (ended_stage (signs z (put c n u (strong_at z s) w) s) (omega arith) (omega arith) (omega arith))
+      mark (omega arith)
       ∙ ap (λ (f : Option SlotId). with_slot (with_seat (shows z c) n
       (record (show_seat v) { dying = v.dying ++ s ∷ []; filling = f })) s
       (record (show_slot z c s) { stage = Ended; marked = true })) (sym none))
-    where
-      stands : (u : CoreView) → u.dying ≡ v.dying ++ s ∷ []
-          → 0 < total (λ (x : CoreView). times s x.dying) (set c.views n u)
-      stands u e =
-          let q = total_set (λ (x : CoreView). times s x.dying) c.views n u h in
-          let r = total_at (λ (x : CoreView). times s x.dying) c.views n h in
-          let p = times_push s s v.dying in
-          let d = ap (times s) e in
-          let o = one_same s s refl in omega arith
 
   -- nothing but the phase changes
-  stays : (u : CoreView) (p : ℕ) → ((x : SlotId) → Quiet x v u) → show_seat u ≡ show_seat v
-      → Row (shows z c) n plain.Still 0 (shows z (put c n u p (slice_index c.words p)))
-  stays u p quiet same = (
-    refl,
-    same_plain (shows z c) _ n (show_seat u)
-        (still_quiet z c n u p so hn quiet) (same ∙ sym is),
-  )
+  stays : (u : CoreView) (p : ℕ) → filled v.phase ≡ None → filled u.phase ≡ None
+      → u.dying ≡ v.dying → u.made ≡ v.made → show_seat u ≡ show_seat v
+      → shows z (put c n u p (slice_index c.words p)) ≡ shows z c
+  stays u p was none d m same = same_plain (shows z c) _ n (show_seat u)
+      (still_quiet z c n u so hn p (fills_nothing v u was none d m)) (same ∙ sym is)
+
+  -- what shows no filled slot after as before
+  refill : (p : Phase) → filled v.phase ≡ None → filled p ≡ None
+      → record (show_seat v) { filling = filled p } ≡ show_seat v
+  refill p was none =
+      ap (λ (f : Option SlotId). record (show_seat v) { filling = f }) (none ∙ sym was)
+
+  -- where the word is 0 there are no references
+  unreferred : (s : SlotId) → s.0 < z.slots → strong z c s ≡ 0 → strong_refs (shows z c) s ≡ 0
+  unreferred s hs null =
+      shown_strong z c s
+      ∙ (sym (value_is (adds_used c) (numbers z c s) (so.slots s hs) (adds_fit z c so))
+      ∙ ap value null)
 
   pub finish_shows : Enabled z c n act.Finish → ShowsRow z c n act.Finish
-  finish_shows on = subst
-      (λ (y : SlotId). Row (shows z c) n (if strong z c y == 0 then plain.End y else plain.Still) 0
-      (shows z (put c n (noted act.Finish
-      (if strong z c y == 0 then outcome.Ended else if has_help
-      (strong z c y) then outcome.Help else outcome.Lost)
-      (ended (strong z c y == 0) y (if has_help (strong z c y) then phase.Help y else phase.Idle)
-      v))
-      (strong_at z y) (either (strong z c y == 0) ZERO (strong z c y)))))
-      (sym (ap slot_of at))
-      (go (strong z c on.1.0 == 0) refl (subst
-      (λ (y : SlotId). Sound z (put c n (noted act.Finish
-      (if strong z c y == 0 then outcome.Ended else if has_help
-      (strong z c y) then outcome.Help else outcome.Lost)
-      (ended (strong z c y == 0) y (if has_help (strong z c y) then phase.Help y else phase.Idle)
-      v))
-      (strong_at z y) (either (strong z c y == 0) ZERO (strong z c y))))
-      (ap slot_of at) (step_keeps z c n act.Finish so on)))
+  finish_shows on = go (strong z c mine == 0) refl
     where
-      at : v.phase ≡ phase.Finish on.1.0
-      at = on.1.1
+      at : v.phase ≡ phase.Finish mine
+      at = on.1.1 ∙ sym (ap (λ (x : SlotId). phase.Finish x) (ap slot_of on.1.1))
 
-      hs : on.1.0.0 < z.slots
+      hs : mine.0 < z.slots
       hs =
-          let p = in_finish v.phase on.1.0 on.1.0 on.1.1 in
-          let o = one_same on.1.0 on.1.0 refl in
-          named_in_range z n v on.1.0 (so.seats n hn) (omega arith)
+          let p = in_finish v.phase mine mine at in
+          let o = one_same mine mine refl in
+          named_in_range z n v mine (so.seats n hn) (omega arith)
 
-      quiet : (x : SlotId) (u : CoreView) → filling x u.phase ≡ 0 → u.dying ≡ v.dying → u.made
-          ≡ v.made → Quiet x v u
-      quiet x u e f g =
-          let p = in_finish v.phase x on.1.0 on.1.1 in
-          record { fill = omega arith; dyi = ap (times x) f; made = ap (times x) g }
-
-      lost : (b : Bool) → Row (shows z c) n plain.Still 0 (shows z (put c n (noted act.Finish
-          (if b then outcome.Help else outcome.Lost) (record v
-          { phase = if b then phase.Help on.1.0 else phase.Idle }))
-          (strong_at z on.1.0) (strong z c on.1.0)))
-      lost true = stays _ (strong_at z on.1.0) (λ x. quiet x _ refl refl refl) (rw at refl)
-      lost false = stays _ (strong_at z on.1.0) (λ x. quiet x _ refl refl refl) (rw at refl)
-
-      go : (b : Bool) → (strong z c on.1.0 == 0) ≡ b
-          → Sound z (put c n (noted act.Finish
-          (if b then outcome.Ended else if has_help (strong z c on.1.0) then outcome.Help else
-          outcome.Lost)
-          (ended b on.1.0 (if has_help (strong z c on.1.0) then phase.Help on.1.0 else phase.Idle)
-          v))
-          (strong_at z on.1.0) (either b ZERO (strong z c on.1.0)))
-          → Row (shows z c) n (if b then plain.End on.1.0 else plain.Still) 0
+      go : (b : Bool) → (strong z c mine == 0) ≡ b
+          → Row (shows z c) n (if b then plain.End mine else plain.Still) 0
           (shows z (put c n (noted act.Finish
-          (if b then outcome.Ended else if has_help (strong z c on.1.0) then outcome.Help else
+          (if b then outcome.Ended else if has_help (strong z c mine) then outcome.Help else
           outcome.Lost)
-          (ended b on.1.0 (if has_help (strong z c on.1.0) then phase.Help on.1.0 else phase.Idle)
-          v))
-          (strong_at z on.1.0) (either b ZERO (strong z c on.1.0))))
-      go true test so' =
-          let null : strong z c on.1.0 ≡ 0 = grind (arith, nat_tests) in
-          let r = refs_le _ (numbers z c on.1.0) (so.slots on.1.0 hs) in
-          let e = shown_strong z c on.1.0 in
-          ends on.1.0 _ ZERO hs (λ x. let p = in_finish v.phase x on.1.0 at in p.fills) (rw at refl)
-          (stage_is _ (numbers z c on.1.0) (so.slots on.1.0 hs) fit
-          ∙ live_counted _ (numbers z c on.1.0) (so.slots on.1.0 hs) (omega arith))
-          (inr (omega arith)) refl so'
-      go false test so' = lost (has_help (strong z c on.1.0))
+          (ended b mine (if has_help (strong z c mine) then phase.Help mine else phase.Idle) v))
+          (strong_at z mine) (either b ZERO (strong z c mine))))
+      go true test =
+          let null : strong z c mine ≡ 0 = grind (arith, nat_tests) in
+          ends mine _ ZERO hs (ap filled at) (live_low (strong z c mine) (omega arith))
+          (inr (unreferred mine hs null)) refl
+      go false test =
+          let none = unfilled_if (has_help (strong z c mine)) (phase.Help mine) phase.Idle refl refl in
+          (refl, stays _ (strong_at z mine) (ap filled at) none refl refl (refill _ (ap filled at) none))
 
   pub take_shows : Enabled z c n act.Take → ShowsRow z c n act.Take
-  take_shows on = subst
-      (λ (y : SlotId). Row (shows z c) n (if has_help (strong z c y) then plain.End y else
-      plain.Still) 0
-      (shows z (put c n (noted act.Take (if has_help (strong z c y) then outcome.Ended else
-      outcome.NoHelp)
-      (ended (has_help (strong z c y)) y phase.Idle v))
-      (strong_at z y) (bit_and (strong z c y) (2 ^ 64 - 1 - HELP)))))
-      (sym (ap slot_of at))
-      (go (has_help (strong z c on.1.0)) refl (subst
-      (λ (y : SlotId). Sound z (put c n (noted act.Take
-      (if has_help (strong z c y) then outcome.Ended else outcome.NoHelp)
-      (ended (has_help (strong z c y)) y phase.Idle v))
-      (strong_at z y) (bit_and (strong z c y) (2 ^ 64 - 1 - HELP))))
-      (ap slot_of at) (step_keeps z c n act.Take so on)))
+  take_shows on = go (has_help (strong z c mine)) refl
     where
-      at : v.phase ≡ phase.Help on.1.0
-      at = on.1.1
+      at : v.phase ≡ phase.Help mine
+      at = on.1.1 ∙ sym (ap (λ (x : SlotId). phase.Help x) (ap slot_of on.1.1))
 
-      hs : on.1.0.0 < z.slots
+      hs : mine.0 < z.slots
       hs =
-          let p = in_help v.phase on.1.0 on.1.0 on.1.1 in
-          let o = one_same on.1.0 on.1.0 refl in
-          named_in_range z n v on.1.0 (so.seats n hn) (omega arith)
+          let p = in_help v.phase mine mine at in
+          let o = one_same mine mine refl in
+          named_in_range z n v mine (so.seats n hn) (omega arith)
 
-      mask : (b : Bool) → has_help (strong z c on.1.0) ≡ b
-          → bit_and (strong z c on.1.0) (2 ^ 64 - 1 - HELP)
-          ≡ (if b then strong z c on.1.0 - HELP else strong z c on.1.0)
+      f : Flags (strong z c mine)
+      f = flags (adds_used c) (numbers z c mine) (so.slots mine hs) (adds_fit z c so)
+
+      mask : (b : Bool) → has_help (strong z c mine) ≡ b
+          → bit_and (strong z c mine) (2 ^ 64 - 1 - HELP)
+          ≡ (if b then strong z c mine - HELP else strong z c mine)
       mask b test =
-          let f = flags _ (numbers z c on.1.0) (so.slots on.1.0 hs) fit in
-          cleared (strong z c on.1.0) f.fits ∙ ap (λ (x : Bool). if x then strong z c on.1.0 - HELP
-          else strong z c on.1.0) test
+          cleared (strong z c mine) f.fits ∙ ap (λ (x : Bool). if x then strong z c mine - HELP
+          else strong z c mine) test
 
-      go : (b : Bool) → has_help (strong z c on.1.0) ≡ b
-          → Sound z (put c n (noted act.Take (if b then outcome.Ended else outcome.NoHelp)
-          (ended b on.1.0 phase.Idle v))
-          (strong_at z on.1.0) (bit_and (strong z c on.1.0) (2 ^ 64 - 1 - HELP)))
-          → Row (shows z c) n (if b then plain.End on.1.0 else plain.Still) 0
+      go : (b : Bool) → has_help (strong z c mine) ≡ b
+          → Row (shows z c) n (if b then plain.End mine else plain.Still) 0
           (shows z (put c n (noted act.Take (if b then outcome.Ended else outcome.NoHelp)
-          (ended b on.1.0 phase.Idle v))
-          (strong_at z on.1.0) (bit_and (strong z c on.1.0) (2 ^ 64 - 1 - HELP))))
-      go true test so' =
-          let f = flags _ (numbers z c on.1.0) (so.slots on.1.0 hs) fit in
+          (ended b mine phase.Idle v))
+          (strong_at z mine) (bit_and (strong z c mine) (2 ^ 64 - 1 - HELP))))
+      go true test =
           let big = f.help test in
-          let m = mask true test in
-          let zero' : has_zero (strong z c on.1.0) ≡ true = grind (arith, nat_tests) in
-          let after' : has_zero (bit_and (strong z c on.1.0) (2 ^ 64 - 1 - HELP))
-          ≡ true = marked' m big in
-          ends on.1.0 _ (bit_and (strong z c on.1.0) (2 ^ 64 - 1 - HELP)) hs
-          (λ x. let p = in_help v.phase x on.1.0 at in p.fills) (rw at refl)
-          (stage_is _ (numbers z c on.1.0) (so.slots on.1.0 hs) fit
-          ∙ live_asked _ (numbers z c on.1.0) (so.slots on.1.0 hs) fit big)
-          (inl zero') after' so'
-        where
-          marked' : {w : ℕ} → w ≡ strong z c on.1.0 - HELP → ZERO + HELP ≤ strong z c on.1.0
-              → has_zero w ≡ true
-          marked' e big = grind (arith, nat_tests)
-      go false test so' =
+          let marked : has_zero (strong z c mine) ≡ true = grind (arith, nat_tests) in
+          ends mine _ (bit_and (strong z c mine) (2 ^ 64 - 1 - HELP)) hs (ap filled at)
+          (help_lives (strong z c mine) test) (inl marked)
+          (help_taken (strong z c mine) _ (mask true test) big)
+      go false test =
           subst (λ (w : ℕ). Row (shows z c) n plain.Still 0
-          (shows z (put c n (noted act.Take outcome.NoHelp (ended false on.1.0 phase.Idle v))
-          (strong_at z on.1.0) w)))
+          (shows z (put c n (noted act.Take outcome.NoHelp (ended false mine phase.Idle v))
+          (strong_at z mine) w)))
           (sym (mask false test))
-          (stays _ (strong_at z on.1.0)
-          (λ x. let p = in_help v.phase x on.1.0 at in record {
-            fill = sym p.fills;
-            dyi = refl;
-            made = refl;
-          })
-          (rw at refl))
-
-  abbrev marked' : SlotId → CoreView
-  marked' s = noted act.Mark (outcome.Number (value (strong z c s)))
-      (record v { phase = phase.Idle })
+          (refl, stays _ (strong_at z mine) (ap filled at) refl refl refl (refill phase.Idle (ap filled at) refl))
 
   pub mark_shows : Enabled z c n act.Mark → ShowsRow z c n act.Mark
-  mark_shows on = subst
-      (λ (y : SlotId). Row (shows z c) n (plain.Mark y) (value (strong z c y))
-      (shows z (put c n (noted act.Mark (outcome.Number (value (strong z c y)))
-      (record v { phase = phase.Idle }))
-      (strong_at z y) (either (strong z c y == 0) (ZERO + HELP) (strong z c y)))))
-      (sym (ap slot_of at))
-      (go (strong z c on.1.0 == 0) refl (subst
-      (λ (y : SlotId). Sound z (put c n (noted act.Mark (outcome.Number (value (strong z c y)))
-      (record v { phase = phase.Idle }))
-      (strong_at z y) (either (strong z c y == 0) (ZERO + HELP) (strong z c y))))
-      (ap slot_of at) (step_keeps z c n act.Mark so on)))
+  mark_shows on = go (strong z c mine == 0) refl
     where
-      at : v.phase ≡ phase.Zero on.1.0
-      at = on.1.1
+      at : v.phase ≡ phase.Zero mine
+      at = on.1.1 ∙ sym (ap (λ (x : SlotId). phase.Zero x) (ap slot_of on.1.1))
 
-      hs : on.1.0.0 < z.slots
+      hs : mine.0 < z.slots
       hs =
-          let p = in_zero v.phase on.1.0 on.1.0 on.1.1 in
-          let o = one_same on.1.0 on.1.0 refl in
-          named_in_range z n v on.1.0 (so.seats n hn) (omega arith)
+          let p = in_zero v.phase mine mine at in
+          let o = one_same mine mine refl in
+          named_in_range z n v mine (so.seats n hn) (omega arith)
 
-      reads : value (strong z c on.1.0) ≡ strong_refs (shows z c) on.1.0
-      reads = value_is _ (numbers z c on.1.0) (so.slots on.1.0 hs) fit
-          ∙ sym (shown_strong z c on.1.0)
+      reads : value (strong z c mine) ≡ strong_refs (shows z c) mine
+      reads =
+          value_is (adds_used c) (numbers z c mine) (so.slots mine hs) (adds_fit z c so)
+          ∙ sym (shown_strong z c mine)
 
-      quiet : (x : SlotId) (t : List Move) → Quiet x v (record v { phase = phase.Idle; trail = t })
-      quiet x t = let p = in_zero v.phase x on.1.0 at in
-          record { fill = sym p.fills; dyi = refl; made = refl }
+      u : CoreView
+      u = noted act.Mark (outcome.Number (value (strong z c mine))) (record v { phase = phase.Idle })
 
-      go : (b : Bool) → (strong z c on.1.0 == 0) ≡ b
-          → Sound z (put c n (noted act.Mark (outcome.Number (value (strong z c on.1.0)))
-          (record v { phase = phase.Idle }))
-          (strong_at z on.1.0) (either b (ZERO + HELP) (strong z c on.1.0)))
-          → Row (shows z c) n (plain.Mark on.1.0) (value (strong z c on.1.0))
-          (shows z (put c n (noted act.Mark (outcome.Number (value (strong z c on.1.0)))
-          (record v { phase = phase.Idle }))
-          (strong_at z on.1.0) (either b (ZERO + HELP) (strong z c on.1.0))))
-      go true test so' =
-          let null : strong z c on.1.0 ≡ 0 = grind (arith, nat_tests) in
-          let r = refs_le _ (numbers z c on.1.0) (so.slots on.1.0 hs) in
-          let e = shown_strong z c on.1.0 in
+      marks : strong z c mine ≡ 0 → shows z (put c n u (strong_at z mine) (ZERO + HELP))
+          ≡ with_slot (shows z c) mine (record (show_slot z c mine) { marked = true })
+      marks null =
+          let ws : List ℕ = set c.words (strong_at z mine) (ZERO + HELP) in
+          let live = live_low (strong z c mine) (omega arith) in
+          let started = live_started z c so mine hs live in
+          let b = started.bit in
+          let cl = started.claimers in
+          let dy = started.dying in
+          let b' = bit_stays mine (ZERO + HELP) hs in
+          let m = claimers_move z c n u so hn ws mine in
+          let fill = unfilled v.phase mine (ap filled at) in
+          let d = dying_move z c n u so hn ws mine in
+          let l = lives_move z c n u so hn ws mine in
           let len = so.words in
           let there = hs in
-          let live : stage z c on.1.0 ≡ Live =
-          stage_is _ (numbers z c on.1.0) (so.slots on.1.0 hs) fit
-          ∙ live_counted _ (numbers z c on.1.0) (so.slots on.1.0 hs) (omega arith) in
-          let here = get_or-set_same c.words (strong_at z on.1.0) (ZERO + HELP) 0 (omega arith) in
-          does.does_mark (shows z c) _ n (show_seat v) is on.1.0 (show_slot z c on.1.0)
-          (shown_slot z c on.1.0 hs) (value (strong z c on.1.0)) reads
-          live (omega arith)
-          (strong_changes z c n (marked' on.1.0) (ZERO + HELP) on.1.0 (stage z c on.1.0) true
-          (lives c on.1.0) so hn hs (λ x ne. quiet x _)
-          (stage_is _ (numbers z (put c n (marked' on.1.0) (strong_at z on.1.0) (ZERO + HELP))
-          on.1.0) (so'.slots on.1.0 hs) (adds_fit z _ so')
-          ∙ (live_asked _ (numbers z (put c n (marked' on.1.0) (strong_at z on.1.0) (ZERO + HELP))
-          on.1.0) (so'.slots on.1.0 hs) (adds_fit z _ so') (omega arith) ∙ sym live))
-          refl
-          (lives_same z c n (marked' on.1.0) (set c.words (strong_at z on.1.0) (ZERO + HELP)) so hn
-          on.1.0 refl)
-          ∙ ap (λ (P : Plain). with_slot P on.1.0 (record (show_slot z c on.1.0) { marked = true }))
-          (same_plain (shows z c) _ n (show_seat (record v { phase = phase.Idle })) refl
-          (rw at refl ∙ sym is)))
-      go false test so' = (
-        reads,
-        inl (
-          same_plain (shows z c) _ n _
-              (still_quiet z c n _ (strong_at z on.1.0) so hn (λ x. quiet x _))
-              (rw at refl ∙ sym is),
-          λ none. ap (λ (x : PlainSlot). x.marked) (shown_slot z c on.1.0 hs)
-              ∙ zero_stands (strong z c on.1.0) test none,
-        ),
-      )
+          let here = ap is_live_word (get_or-set_same c.words (strong_at z mine) (ZERO + HELP) 0 (omega arith)) in
+          strong_changes z c n u mine so hn hs
+          (λ x ne. fills_nothing v u (ap filled at) refl refl refl x)
+          (ZERO + HELP) (stage z c mine) true (lives c mine)
+          (alive_stage (signs z (put c n u (strong_at z mine) (ZERO + HELP)) mine)
+          (omega arith) (omega arith) (omega arith) here
+          ∙ sym (is_live z c so mine hs live))
+          refl (omega arith)
+          ∙ ap (λ (P : Plain). with_slot P mine (record (show_slot z c mine) { marked = true }))
+          (same_plain (shows z c) _ n (show_seat u) refl (refill phase.Idle (ap filled at) refl ∙ sym is))
+
+      go : (b : Bool) → (strong z c mine == 0) ≡ b
+          → Row (shows z c) n (plain.Mark mine) (value (strong z c mine))
+          (shows z (put c n u (strong_at z mine) (either b (ZERO + HELP) (strong z c mine))))
+      go true test =
+          let null : strong z c mine ≡ 0 = grind (arith, nat_tests) in
+          does.does_mark (shows z c) _ n (show_seat v) is mine (show_slot z c mine)
+          (shown_slot z c mine hs) (value (strong z c mine)) reads
+          (is_live z c so mine hs (live_low (strong z c mine) (omega arith))) (unreferred mine hs null)
+          (marks null)
+      go false test =
+          let some' : strong z c mine ≢ 0 = grind (arith, nat_tests) in (
+            reads,
+            inl (
+              stays u (strong_at z mine) (ap filled at) refl refl refl (refill phase.Idle (ap filled at) refl),
+              λ none. ap (λ (x : PlainSlot). x.marked) (shown_slot z c mine hs)
+                  ∙ zero_stands (strong z c mine) some' none,
+            ),
+          )

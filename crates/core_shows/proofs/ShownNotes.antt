@@ -1,13 +1,15 @@
 -- Announcements, releases, scans, reads, and the events of weak words show a plain step each.
-use Rattle.std.proofs.Common.{◌≡◌, ⊎_elim, ℕ, ◌+◌, ◌^◌, ◌<◌, Bool, true, false, List, [], ◌∷◌, ◌++◌, length, set, refl, ap, sym, ◌∙◌, subst, arith}
-use Rattle.std.specs.Prelude.{slice_index, ◌==◌, if◌then◌else◌, Option}
-use Rattle.std.proofs.lemmas.List.{get_or-set_other}
+use Rattle.std.proofs.Common.{◌≡◌, ◌≢◌, ⊎_elim, ℕ, ◌+◌, ◌<◌, Bool, true, false, List, [], ◌∷◌, ◌++◌, length, set, refl, ap, sym, ◌∙◌, subst, arith}
+use Rattle.std.specs.Prelude.{slice_index, ◌==◌, nat_lt, if◌then◌else◌, Option}
+use Rattle.std.proofs.lemmas.List.{get_or-set_same, get_or-set_other, map-set}
+use Rattle.std.proofs.lemmas.Bool.Decides.{nat_tests}
 use Rattle.plain_state.specs.declared.act.EventPlace.{EventPlace}
 use Rattle.plain_state.specs.declared.act.PlainAct.TheVariants as plain
 use Rattle.plain_state.specs.declared.slot.Kind.{Kind}
-use Rattle.plain_state.specs.declared.slot.Kind.TheVariants.{Weak}
+use Rattle.plain_state.specs.declared.slot.Kind.TheVariants.{Disposal}
 use Rattle.plain_state.specs.declared.slot.SlotId.{SlotId}
-use Rattle.plain_state.specs.Lists.{Entry, entry_times}
+use Rattle.plain_state.specs.Lists.{Entry, entry_times, Gains}
+use Rattle.plain_state.specs.References.{strong_refs}
 use Rattle.plain_state.specs.State.{seat_at, with_seat}
 use Rattle.plain_state.specs.Steps.{Row}
 use Rattle.core_events.specs.declared.act.Act.TheVariants as act
@@ -17,73 +19,46 @@ use Rattle.core_events.specs.declared.view.CoreView.{CoreView}
 use Rattle.core_events.specs.declared.view.Note.{Note}
 use Rattle.core_events.specs.declared.view.Note.TheVariants as note
 use Rattle.core_events.specs.declared.view.Phase.TheVariants as phase
-use Rattle.core_events.specs.Words.{note_at, code, strong_at, weak_at, place_at, payload_at}
+use Rattle.core_events.specs.Words.{slot_in, value, note_at, code, cell_at, weak_cell_at, strong_at, weak_at, place_at, payload_at, ticket_at}
 use Rattle.core_events.specs.Ejection.{kept, ejected}
-use Rattle.core_events.specs.Views.{note_of, valid_of, without}
-use Rattle.core_events.specs.Steps.{noted, with_note, plus_one, minus_one, is_last}
+use Rattle.core_events.specs.Views.{note_of, slot_noted, valid_of, without}
+use Rattle.core_events.specs.Steps.{noted, moved, with_note, validated, plus_one, minus_one, is_last, ripened}
 use Rattle.core_events.specs.Runs.{Core, Enabled, view_at}
-use Rattle.core_events.specs.Counts.{weak, adds_used, listed, filling}
+use Rattle.core_events.specs.Counts.{strong, weak, adds_used}
 use Rattle.core_events.specs.Shows.{shows, show_seat, filled}
 use Rattle.core_events.specs.ShownSteps.{releases}
 use Rattle.core_invariant.specs.Slots.{numbers}
 use Rattle.core_invariant.specs.Sound.{Sound}
-use Rattle.core_invariant.proofs.Kit.{total_at, entry_append, entry_none}
-use Rattle.core_invariant.proofs.Held.{held_refs, held_named}
+use Rattle.core_invariant.proofs.Kit.{entry_append, entry_none}
+use Rattle.core_invariant.proofs.Bits.{bits_bound}
+use Rattle.core_invariant.proofs.Held.{held_named}
+use Rattle.core_invariant.proofs.InRange.{readable_in_range}
+use Rattle.core_invariant.proofs.Parts.{value_is}
 use Rattle.core_invariant.proofs.Put.{put, at_seat, adds_fit}
 use Rattle.core_invariant.proofs.Splits.{split_times}
-use Rattle.core_invariant.proofs.Steady.{named_in_range, in_idle, in_scan}
-use Rattle.core_law.proofs.Keeps.{open_there}
-use Rattle.core_law.proofs.Always.{step_keeps}
-use Rattle.core_shows.proofs.Bridge.{shown_seat}
+use Rattle.core_invariant.proofs.Steady.{named_in_range}
+use Rattle.core_shows.proofs.Bridge.{shown_seat, shown_strong}
 use Rattle.core_shows.proofs.Does as does
-use Rattle.core_shows.proofs.Losing.{loses_without, valid_same, valid_loses}
-use Rattle.core_shows.proofs.Quiet.{OffShown, Quiet, quiet_step, weak_quiet, still_quiet}
-use Rattle.core_shows.proofs.Ranges.{plus_free, minus_free, weak_positive}
+use Rattle.core_shows.proofs.Losing.{loses_without, valid_same, valid_loses, valid_gains}
+use Rattle.core_shows.proofs.Quiet.{same_plain, calm, fills_nothing, unfilled_if, past_beside, slot_beside, slot_quiet, weak_quiet, note_quiet, still_quiet}
+use Rattle.core_shows.proofs.Frames.{plain_eq}
+use Rattle.core_shows.proofs.Lawful.{shows_lawful}
+use Rattle.core_shows.proofs.Lists.{each_same}
 use Rattle.core_shows.proofs.Does.{ShowsRow}
-use Rattle.core_shows.proofs.ShownCounters.{same_plain}
-use Rattle.core_shows.proofs.ShownPlaces.{shown_open, shown_word}
-use Rattle.core_shows.proofs.Stages.{SameFree, weak_small}
+use Rattle.core_shows.proofs.ShownPlaces.{shown_readable, shown_word}
 
 module _ (z : Shape) (c : Core) (n : ℕ) (so : Sound z c) (hn : n < z.seats) where
   abbrev v : CoreView
   v = view_at c n
 
-  h : n < length c.views
-  h = at_seat z c n so hn
-
   is : seat_at (shows z c) n ≡ show_seat (view_at c n)
   is = shown_seat z c n (at_seat z c n so hn)
 
-  fit : adds_used c < 2 ^ 60
-  fit = adds_fit z c so
-
-  note_off : (j : ℕ) → j < 4 → OffShown z (note_at n j)
-  note_off j hj = record {
-    cells = λ i l. omega arith;
-    weak_cells = λ i l. omega arith;
-    fields = λ x i l. omega arith;
-    weak_fields = λ x. omega arith;
-    payloads = λ x i l. omega arith;
-  }
-
-  -- an announcement word is written
-  note_quiet : (u : CoreView) (j w : ℕ) → j < 4 → Sound z (put c n u (note_at n j) w)
-      → ((x : SlotId) → Quiet x v u)
-      → shows z (put c n u (note_at n j) w) ≡ with_seat (shows z c) n (show_seat u)
-  note_quiet u j w hj so' quiet =
-      let s : SlotId = record { 0 = 0 } in
-      let a = get_or-set_other c.words (note_at n j) (strong_at z s) w 0 (omega arith) in
-      let b = get_or-set_other c.words (note_at n j) (weak_at z s) w 0 (omega arith) in
-      quiet_step z c n u (note_at n j) w s so hn so' (note_off j hj)
-      (λ x ne. (omega arith, omega arith)) quiet
-      (record {
-        up = λ e. omega arith;
-        down = λ e. omega arith;
-        more = λ e. omega arith;
-        less = λ e.
-            omega arith;
-      })
-      (record { to = λ e. b ∙ e; from = λ e. sym b ∙ e })
+  -- a seat that only goes on has its trail alone anew
+  same : (u : CoreView) (p : ℕ) → u.phase ≡ v.phase → u.dying ≡ v.dying → u.made ≡ v.made
+      → show_seat u ≡ show_seat v → shows z (put c n u p (slice_index c.words p)) ≡ shows z c
+  same u p e f g seen = same_plain (shows z c) _ n (show_seat u)
+      (still_quiet z c n u so hn p (calm v u e f g)) (seen ∙ sym is)
 
   pub announce_shows : (j : ℕ) (k : Kind) (s : SlotId) → Enabled z c n (act.Announce j k s)
       → ShowsRow z c n (act.Announce j k s)
@@ -91,22 +66,15 @@ module _ (z : Shape) (c : Core) (n : ℕ) (so : Sound z c) (hn : n < z.seats) wh
       (λ (m : ℕ). Row (shows z c) n plain.Still 0
       (shows z (put c n (noted (act.Announce j k s) outcome.Plain
       (with_note j (note.Announced k s) v)) (note_at m j) (code k s))))
-      (sym number) (
+      (sym (so.seats n hn).number) (
         refl,
         same_plain (shows z c) _ n _
-            (note_quiet _ j (code k s) on.1.1 (subst
-            (λ (m : ℕ). Sound z (put c n (noted (act.Announce j k s) outcome.Plain
-            (with_note j (note.Announced k s) v)) (note_at m j) (code k s)))
-            number (step_keeps z c n (act.Announce j k s) so on))
-            (λ x. record { fill = refl; dyi = refl; made = refl }))
-            (ap (λ (es : List Entry). record (show_seat v) { snapshots = es }) same ∙ sym is),
+            (note_quiet z c n _ so hn j (code k s) on.1.1 (calm v _ refl refl refl))
+            (ap (λ (es : List Entry). record (show_seat v) { snapshots = es }) unseen ∙ sym is),
       )
     where
-      number : v.seat ≡ n
-      number = (so.seats n hn).number
-
-      same : valid_of (set v.notes j (note.Announced k s)) ≡ valid_of v.notes
-      same =
+      unseen : valid_of (set v.notes j (note.Announced k s)) ≡ valid_of v.notes
+      unseen =
           let four = (so.seats n hn).four in
           let small = on.1.1 in
           let idle = on.1.2 in
@@ -118,11 +86,8 @@ module _ (z : Shape) (c : Core) (n : ℕ) (so : Sound z c) (hn : n < z.seats) wh
       (λ (m : ℕ). Row (shows z c) n (releases (note_of v j)) 0
       (shows z (put c n (noted (act.Release j) outcome.Plain (with_note j note.Idle v))
       (note_at m j) 0)))
-      (sym number) (of (note_of v j) refl)
+      (sym (so.seats n hn).number) (of (note_of v j) refl)
     where
-      number : v.seat ≡ n
-      number = (so.seats n hn).number
-
       four : j < length v.notes
       four = let f = (so.seats n hn).four in let small = on.1.1 in omega arith
 
@@ -130,11 +95,7 @@ module _ (z : Shape) (c : Core) (n : ℕ) (so : Sound z c) (hn : n < z.seats) wh
           (note_at n j) 0)
           ≡ with_seat (shows z c) n (record (show_seat v)
           { snapshots = valid_of (set v.notes j note.Idle) })
-      q = note_quiet _ j 0 on.1.1 (subst
-          (λ (m : ℕ). Sound z (put c n (noted (act.Release j) outcome.Plain
-          (with_note j note.Idle v)) (note_at m j) 0))
-          number (step_keeps z c n (act.Release j) so on))
-          (λ x. record { fill = refl; dyi = refl; made = refl })
+      q = note_quiet z c n _ so hn j 0 on.1.1 (calm v _ refl refl refl)
 
       of : (x : Note) → note_of v j ≡ x → Row (shows z c) n (releases x) 0
           (shows z (put c n (noted (act.Release j) outcome.Plain (with_note j note.Idle v))
@@ -154,77 +115,118 @@ module _ (z : Shape) (c : Core) (n : ℕ) (so : Sound z c) (hn : n < z.seats) wh
 
   pub look_shows : (p : EventPlace) → Enabled z c n (act.Look p) → ShowsRow z c n (act.Look p)
   look_shows p on = (
-    shown_open z c n p so hn on.1.1,
-    shown_word z c p (open_there z c n so hn p on.1.1),
-    same_plain (shows z c) _ n _ (still_quiet z c n _ (place_at z p) so hn
-        (λ x. record { fill = refl; dyi = refl; made = refl })) (sym is),
+    shown_readable z c n p so hn on.1.1,
+    shown_word z c p (readable_in_range z n v (so.seats n hn) p on.1.1),
+    same _ (place_at z p) refl refl refl refl,
   )
 
   pub see_shows : (s : SlotId) (i : ℕ) → Enabled z c n (act.See s i) → ShowsRow z c n (act.See s i)
   see_shows s i on =
       does.does_see (shows z c) _ n (show_seat v) is s i
       (⊎_elim (λ a. omega arith) (λ a. omega arith) on.1.1) on.1.2
-      (same_plain (shows z c) _ n _ (still_quiet z c n _ (payload_at z s i) so hn
-      (λ x. record { fill = refl; dyi = refl; made = refl })) (sym is))
+      (same _ (payload_at z s i) refl refl refl refl)
 
   pub wcount_shows : (s : SlotId) → Enabled z c n (act.Wcount s) → ShowsRow z c n (act.Wcount s)
   wcount_shows s on =
       does.does_weak_count (shows z c) _ n (show_seat v) is s on.1.1
-      (same_plain (shows z c) _ n _ (still_quiet z c n _ (weak_at z s) so hn
-      (λ x. record { fill = refl; dyi = refl; made = refl })) (sym is))
+      (same _ (weak_at z s) refl refl refl refl)
 
   pub wadd_shows : (s : SlotId) → Enabled z c n (act.Wadd s) → ShowsRow z c n (act.Wadd s)
   wadd_shows s on =
-      let hs = named_in_range z n v s (so.seats n hn) (held_named s v on.1.2) in
-      let r = held_refs z c n s so hn on.1.2 in
-      let q = weak_small _ (numbers z c s) (so.slots s hs) (omega arith) in
       does.does_weak_gain (shows z c) _ n (show_seat v) is s on.1.2
-      (weak_quiet z c n _ (plus_one (weak z c s)) s so hn hs (step_keeps z c n (act.Wadd s) so on)
-      (λ x. record { fill = refl; dyi = refl; made = refl })
-      (plus_free (adds_used c) (weak z c s) fit q))
+      (weak_quiet z c n _ so hn s (plus_one (weak z c s))
+      (named_in_range z n v s (so.seats n hn) (held_named s v on.1.2)) (calm v _ refl refl refl))
 
   pub wdrop_shows : (s : SlotId) → Enabled z c n (act.Wdrop s) → ShowsRow z c n (act.Wdrop s)
-  wdrop_shows s on = go (weak z c s == 1) (step_keeps z c n (act.Wdrop s) so on)
+  wdrop_shows s on =
+      let own = on.1.1 in
+      let hs = named_in_range z n v s (so.seats n hn) (omega arith) in
+      let was = ap filled on.1.0.0 in
+      let none = unfilled_if (weak z c s == 1) (phase.Give s) phase.Idle refl refl in
+      does.does_weak_drop (shows z c) _ n (show_seat v) is s (without s v.weaks)
+      (loses_without s v.weaks on.1.1)
+      (weak_quiet z c n _ so hn s (minus_one (weak z c s)) hs (fills_nothing v _ was none refl refl)
+      ∙ ap (λ (f : Option SlotId). with_seat (shows z c) n
+      (record (show_seat v) { weaks = without s v.weaks; filling = f })) (none ∙ sym was))
+
+  -- the number of tickets is written, and shows no slot anything else
+  pub ticket_shows : Enabled z c n act.Ticket → ShowsRow z c n act.Ticket
+  ticket_shows on =
+      does.does_ticket (shows z c) _ n (show_seat v) is (slice_index c.words (ticket_at z)) refl
+      (plain_eq _ (shows z (put c n u (ticket_at z) (plus_one (slice_index c.words (ticket_at z)))))
+      (map-set show_seat c.views n u)
+      (each_same z.cells _ _ (λ i l. ap slot_in (off (cell_at z i) (omega arith))))
+      (each_same z.weak_cells _ _ (λ i l. ap slot_in (off (weak_cell_at z i) (omega arith))))
+      (each_same z.slots _ _ (λ x l.
+      let s : SlotId = record { 0 = x } in
+      let b = bits_bound z s l in
+      slot_quiet z c n u so hn ws s (calm v u refl refl refl s)
+      (slot_beside z c.words (ticket_at z) _ s (past_beside z (ticket_at z) s (omega arith) l)
+      (omega arith) (omega arith))))
+      (get_or-set_same c.words (ticket_at z) _ 0 there ∙ one_more))
     where
+      u : CoreView
+      u = moved z act.Ticket (slice_index c.words (ticket_at z)) v
+
+      ws : List ℕ
+      ws = set c.words (ticket_at z) (plus_one (slice_index c.words (ticket_at z)))
+
+      off : (i : ℕ) → i ≢ ticket_at z → slice_index ws i ≡ slice_index c.words i
+      off i ne = get_or-set_other c.words (ticket_at z) i
+          (plus_one (slice_index c.words (ticket_at z))) 0 ne
+
+      there : ticket_at z < length c.words
+      there = let len = so.words in omega arith
+
+      -- there are few tickets
+      one_more : plus_one (slice_index c.words (ticket_at z)) ≡ slice_index c.words (ticket_at z) + 1
+      one_more = let few = so.tickets.few in let fit = adds_fit z c so in omega arith
+
+  -- a weak snapshot
+  pub alive_shows : (j : ℕ) → Enabled z c n (act.Alive j) → ShowsRow z c n (act.Alive j)
+  alive_shows j on = subst
+      (λ (x : Note). Row (shows z c) n (plain.Alive j) (value (strong z c (slot_noted x)))
+      (shows z (put c n (noted (act.Alive j)
+      (if nat_lt 0 (value (strong z c (slot_noted x))) then outcome.Alive else outcome.Zeroed)
+      (if nat_lt 0 (value (strong z c (slot_noted x))) then with_note j (validated x) v else v))
+      (strong_at z (slot_noted x)) (strong z c (slot_noted x)))))
+      (sym on.1.2.1) (go (nat_lt 0 (value (strong z c s))) refl)
+    where
+      -- what the seat announced
+      s : SlotId
+      s = on.1.2.0
+
       hs : s.0 < z.slots
-      hs = let own = on.1.1 in named_in_range z n v s (so.seats n hn) (omega arith)
+      hs = named_in_range z n v on.1.2.0 (so.seats n hn) (held_named on.1.2.0 v on.1.2.2)
 
-      frees : SameFree (weak z c s) (minus_one (weak z c s))
-      frees =
-          let own = on.1.1 in
-          let t = total_at (listed Weak s) c.views n h in
-          let p = weak_positive _ (numbers z c s) (so.slots s hs) (omega arith) in
-          let q = weak_small _ (numbers z c s) (so.slots s hs) (omega arith) in
-          minus_free (adds_used c) (weak z c s) fit q p
+      reads : value (strong z c s) ≡ strong_refs (shows z c) s
+      reads =
+          value_is (adds_used c) (numbers z c s) (so.slots s hs) (adds_fit z c so)
+          ∙ sym (shown_strong z c s)
 
-      go : (b : Bool)
-          → Sound z (put c n (noted (act.Wdrop s) (if b then outcome.Last else outcome.Left)
-          (record v { weaks = without s v.weaks; phase = if b then phase.Give s else phase.Idle }))
-          (weak_at z s) (minus_one (weak z c s)))
-          → Row (shows z c) n (plain.WeakDrop s) 0
-          (shows z (put c n (noted (act.Wdrop s) (if b then outcome.Last else outcome.Left)
-          (record v { weaks = without s v.weaks; phase = if b then phase.Give s else phase.Idle }))
-          (weak_at z s) (minus_one (weak z c s))))
-      go true so' =
-          does.does_weak_drop (shows z c) _ n (show_seat v) is s (without s v.weaks)
-          (loses_without s v.weaks on.1.1)
-          (weak_quiet z c n _ (minus_one (weak z c s)) s so hn hs so'
-          (λ x. let p = in_idle v.phase x on.1.0.0 in record {
-            fill = sym p.fills;
-            dyi = refl;
-            made = refl;
-          }) frees
-          ∙ ap (with_seat (shows z c) n) (rw on.1.0.0 refl))
-      go false so' =
-          does.does_weak_drop (shows z c) _ n (show_seat v) is s (without s v.weaks)
-          (loses_without s v.weaks on.1.1)
-          (weak_quiet z c n _ (minus_one (weak z c s)) s so hn hs so'
-          (λ x. let p = in_idle v.phase x on.1.0.0 in record {
-            fill = sym p.fills;
-            dyi = refl;
-            made = refl;
-          }) frees
-          ∙ ap (with_seat (shows z c) n) (rw on.1.0.0 refl))
+      gains : Gains (valid_of v.notes) (Disposal, s) (valid_of (set v.notes j (note.Valid Disposal s)))
+      gains =
+          let four = (so.seats n hn).four in
+          let small = on.1.1 in
+          let noted_as = on.1.2.1 in
+          valid_gains v.notes j Disposal s (omega arith) (λ k x e. absurd (cc (noted_as, e)))
+
+      go : (b : Bool) → nat_lt 0 (value (strong z c s)) ≡ b
+          → Row (shows z c) n (plain.Alive j) (value (strong z c s))
+          (shows z (put c n (noted (act.Alive j) (if b then outcome.Alive else outcome.Zeroed)
+          (if b then with_note j (note.Valid Disposal s) v else v))
+          (strong_at z s) (strong z c s)))
+      go true test =
+          let pos : 0 < value (strong z c s) = grind (arith, nat_tests) in
+          let some' : 0 < strong_refs (shows z c) s = subst (λ (m : ℕ). 0 < m) reads pos in
+          does.does_alive (shows z c) _ n (show_seat v) is j s (value (strong z c s))
+          (valid_of (set v.notes j (note.Valid Disposal s))) on.1.2.2 reads pos
+          ((shows_lawful z c so).strong s some').0 gains
+          (still_quiet z c n _ so hn (strong_at z s) (calm v _ refl refl refl))
+      go false test =
+          let none : value (strong z c s) ≡ 0 = grind (arith, nat_tests) in
+          does.does_alive_none (shows z c) _ n (show_seat v) is j s (value (strong z c s)) on.1.2.2
+          reads none (same _ (strong_at z s) refl refl refl refl)
 
   pub scan_shows : Enabled z c n act.Scan → ShowsRow z c n act.Scan
   scan_shows on = go (is_last z v)
@@ -234,10 +236,6 @@ module _ (z : Shape) (c : Core) (n : ℕ) (so : Sound z c) (hn : n < z.seats) wh
 
       nothing : filled v.phase ≡ filled phase.Idle
       nothing = ⊎_elim (λ e. ap filled e.0.0) (λ e. ap filled e) on.1
-
-      fills : (x : SlotId) → filling x v.phase ≡ 0
-      fills x = ⊎_elim (λ e. (in_idle v.phase x e.0.0).fills)
-          (λ e. (in_scan v.phase x e).fills) on.1
 
       owes : v.owed ≡ []
       owes = ⊎_elim (λ e. e.1) (λ e. (so.seats n hn).owes_nothing e) on.1
@@ -267,13 +265,13 @@ module _ (z : Shape) (c : Core) (n : ℕ) (so : Sound z c) (hn : n < z.seats) wh
             retired = kept v.retired
                 (v.seen ++ w ∷ []);
             owed = ejected v.retired (v.seen ++ w ∷ []);
+            ripe = ripened v.ripe v.dying (v.seen ++ w ∷ []);
           }
           else record v { phase = phase.Scan; seen = v.seen ++ w ∷ [] })) (1 + length v.seen) w))
       go true =
           does.does_split (shows z c) _ n (show_seat v) is
           (ejected v.retired (v.seen ++ w ∷ []) ++ kept v.retired (v.seen ++ w ∷ [])) order
-          (still_quiet z c n _ (1 + length v.seen) so hn
-          (λ x. record { fill = sym (fills x); dyi = refl; made = refl })
+          (still_quiet z c n _ so hn (1 + length v.seen) (fills_nothing v _ nothing refl refl refl)
           ∙ ap (λ (f : Option SlotId). with_seat (shows z c) n (record (show_seat v) {
             deferred = ejected v.retired (v.seen ++ w ∷ []) ++ kept v.retired (v.seen ++ w ∷ []);
             filling = f;
@@ -281,8 +279,7 @@ module _ (z : Shape) (c : Core) (n : ℕ) (so : Sound z c) (hn : n < z.seats) wh
       go false = (
         refl,
         same_plain (shows z c) _ n _
-            (still_quiet z c n _ (1 + length v.seen) so hn
-            (λ x. record { fill = sym (fills x); dyi = refl; made = refl }))
+            (still_quiet z c n _ so hn (1 + length v.seen) (fills_nothing v _ nothing refl refl refl))
             (ap (λ (f : Option SlotId). record (show_seat v) { filling = f }) (sym nothing)
             ∙ sym is),
       )

@@ -7,19 +7,20 @@ use Rattle.plain_state.specs.declared.act.EventPlace.TheVariants.{Cell, Field, W
 use Rattle.plain_state.specs.declared.slot.SlotId.{SlotId}
 use Rattle.plain_state.specs.declared.slot.PlainSlot.{PlainSlot}
 use Rattle.plain_state.specs.Lists.{times}
-use Rattle.plain_state.specs.Places.{content, field_of, HoldsStrongly as PlainHoldsStrongly, IsOpen as PlainIsOpen, IsDyingField as PlainIsDyingField}
+use Rattle.plain_state.specs.Places.{content, field_of, HoldsStrongly as PlainHoldsStrongly, CanReadFields as PlainCanReadFields, CanDispose, IsOpen as PlainIsOpen, IsReadable as PlainIsReadable, IsDyingField as PlainIsDyingField}
 use Rattle.plain_state.specs.Steps.{word_of}
 use Rattle.plain_state.specs.State.{PlainSeat}
 use Rattle.core_events.specs.declared.shape.Shape.{Shape}
 use Rattle.core_events.specs.Words.{slot_in, place_at, cell_at, weak_cell_at, field_at}
-use Rattle.core_events.specs.Views.{IsOpen, IsDyingField}
+use Rattle.core_events.specs.Views.{IsOpen, IsReadable, IsRipeField}
 use Rattle.core_events.specs.Runs.{Core, view_at}
 use Rattle.core_events.specs.Shows.{shows, show_slot}
 use Rattle.core_invariant.specs.Sound.{Sound}
 use Rattle.core_invariant.proofs.Put.{at_seat}
 use Rattle.core_invariant.proofs.Writes.{IsPlace}
 use Rattle.core_shows.proofs.Bridge.{shown_seat, shown_slot}
-use Rattle.core_shows.proofs.Lists.{length_each, get_each}
+use Rattle.core_invariant.proofs.Each.{length_each, get_each}
+use Rattle.core_shows.proofs.Covered.{undisposed}
 
 pub word_slot : (w : ℕ) → word_of (slot_in w) ≡ w
 word_slot w = go (w == 0) refl
@@ -79,15 +80,37 @@ shown_open z c n (WeakField s) so hn h =
     subst (λ (y : PlainSeat). PlainHoldsStrongly y s) (sym (shown_seat z c n (at_seat z c n so hn)))
     h
 
-pub shown_dying_field : (z : Shape) (c : Core) (n : ℕ) (q : EventPlace) → Sound z c → n < z.seats
-    → IsDyingField (view_at c n) q
-    → PlainIsDyingField (shows z c) n q
-shown_dying_field z c n (Cell i) so hn h = absurd h
-shown_dying_field z c n (Field s i) so hn h = (
+pub shown_readable : (z : Shape) (c : Core) (n : ℕ) (q : EventPlace) → Sound z c → n < z.seats
+    → IsReadable z (view_at c n) q
+    → PlainIsReadable (shows z c) n q
+shown_readable z c n (Cell i) so hn h =
+    let l = length_each 0 z.cells (λ k. slot_in (slice_index c.words (cell_at z k))) in omega arith
+shown_readable z c n (Field s i) so hn h = (
   h.0,
-  subst (λ (y : PlainSeat). 0 < times s y.dying)
+  subst (λ (y : PlainSeat). PlainCanReadFields y s)
       (sym (shown_seat z c n (at_seat z c n so hn))) h.1,
 )
+shown_readable z c n (WeakCell i) so hn h =
+    let l = length_each 0 z.weak_cells (λ k. slot_in (slice_index c.words (weak_cell_at z k))) in
+    omega arith
+shown_readable z c n (WeakField s) so hn h =
+    subst (λ (y : PlainSeat). PlainCanReadFields y s) (sym (shown_seat z c n (at_seat z c n so hn)))
+    h
+
+-- a ripe slot waits to be destroyed, and is under no weak snapshot
+can_dispose : (z : Shape) (c : Core) (n : ℕ) (s : SlotId) → Sound z c → n < z.seats
+    → 0 < times s (view_at c n).ripe → CanDispose (shows z c) n s
+can_dispose z c n s so hn ripe =
+    let le = (so.seats n hn).ripe s in (
+      subst (λ (y : PlainSeat). 0 < times s y.dying) (sym (shown_seat z c n (at_seat z c n so hn)))
+          (omega arith),
+      undisposed z c so n s hn ripe,
+    )
+
+pub shown_dying_field : (z : Shape) (c : Core) (n : ℕ) (q : EventPlace) → Sound z c → n < z.seats
+    → IsRipeField (view_at c n) q
+    → PlainIsDyingField (shows z c) n q
+shown_dying_field z c n (Cell i) so hn h = absurd h
+shown_dying_field z c n (Field s i) so hn h = (h.0, can_dispose z c n s so hn h.1)
 shown_dying_field z c n (WeakCell i) so hn h = absurd h
-shown_dying_field z c n (WeakField s) so hn h =
-    subst (λ (y : PlainSeat). 0 < times s y.dying) (sym (shown_seat z c n (at_seat z c n so hn))) h
+shown_dying_field z c n (WeakField s) so hn h = can_dispose z c n s so hn h

@@ -1,5 +1,5 @@
 -- A swap, a compare-exchange and a check show a plain step each.
-use Rattle.std.proofs.Common.{◌≡◌, ◌≢◌, ◌⊎◌, inl, inr, ⊎_elim, ℕ, ◌+◌, ◌<◌, Bool, true, false, List, [], ◌∷◌, ◌++◌, length, set, refl, ap, sym, ◌∙◌, subst, arith, append_assoc}
+use Rattle.std.proofs.Common.{◌≡◌, ◌≢◌, ◌⊎◌, inl, inr, ⊎_elim, ℕ, ◌+◌, ◌<◌, Bool, true, false, List, [], ◌∷◌, ◌++◌, set, refl, ap, sym, ◌∙◌, subst, arith, append_assoc}
 use Rattle.std.specs.Prelude.{slice_index, ◌==◌, nat_lt, if◌then◌else◌, Option, Some, None}
 use prog.Atomic.{either}
 use Rattle.std.proofs.lemmas.Bool.Decides.{nat_tests}
@@ -7,7 +7,7 @@ use Rattle.plain_state.specs.declared.act.EventPlace.{EventPlace}
 use Rattle.plain_state.specs.declared.act.EventPlace.TheVariants.{Cell, Field, WeakCell, WeakField}
 use Rattle.plain_state.specs.declared.act.PlainAct.TheVariants as plain
 use Rattle.plain_state.specs.declared.slot.Kind.{Kind}
-use Rattle.plain_state.specs.declared.slot.Kind.TheVariants.{Strong, Weak}
+use Rattle.plain_state.specs.declared.slot.Kind.TheVariants.{Strong, Weak, Disposal}
 use Rattle.plain_state.specs.declared.slot.SlotId.{SlotId}
 use Rattle.plain_state.specs.Lists.{Entry, times, Gains}
 use Rattle.plain_state.specs.Places.{place_kind, content, with_content}
@@ -21,27 +21,30 @@ use Rattle.core_events.specs.declared.view.Move.{Move}
 use Rattle.core_events.specs.declared.view.Note.{Note}
 use Rattle.core_events.specs.declared.view.Note.TheVariants as note
 use Rattle.core_events.specs.Words.{slot_in, place_at}
-use Rattle.core_events.specs.Views.{note_of, valid_of, without, IsOpen, IsDyingField, HoldsStrongly}
+use Rattle.core_events.specs.Views.{note_of, valid_of, without, IsOpen, IsRipeField, HoldsStrongly}
 use Rattle.core_events.specs.Steps.{CanGive, exchanged, without_given, noted, is_valid, validated, with_note}
 use Rattle.core_events.specs.Runs.{Core, Enabled, view_at, after}
+use Rattle.core_events.specs.Counts.{strong, refs, adds_used}
 use Rattle.core_events.specs.Shows.{shows, show_seat}
-use Rattle.core_events.specs.ShownSteps.{is_dying_field}
+use Rattle.core_events.specs.ShownSteps.{is_ripe_field}
 use Rattle.core_invariant.specs.Slots.{numbers}
 use Rattle.core_invariant.specs.Sound.{Sound}
 use Rattle.core_invariant.proofs.Kit.{total_at}
 use Rattle.core_invariant.proofs.Held.{strongly_refs}
-use Rattle.core_law.proofs.Keeps.{open_there, dying_there}
-use Rattle.core_invariant.proofs.Put.{put, at_seat}
+use Rattle.core_invariant.proofs.Flags.{live_low}
+use Rattle.core_invariant.proofs.InRange.{open_in_range, readable_in_range, ripe_in_range}
+use Rattle.core_invariant.proofs.Parts.{value_is}
+use Rattle.core_invariant.proofs.Put.{put, at_seat, adds_fit}
 use Rattle.core_invariant.proofs.Writes.{IsPlace}
 use Rattle.core_shows.proofs.Bridge.{shown_seat}
 use Rattle.core_shows.proofs.Does as does
 use Rattle.core_shows.proofs.Does.{ShowsRow}
 use Rattle.core_shows.proofs.Losing.{loses_without, valid_gains}
-use Rattle.core_shows.proofs.Quiet.{Quiet, still_quiet}
-use Rattle.core_shows.proofs.Ranges.{strong_not_dying}
-use Rattle.core_shows.proofs.ShownCounters.{same_plain}
+use Rattle.core_shows.proofs.Quiet.{Quiet, same_plain, still_quiet}
+use Rattle.core_shows.proofs.Ranges.{counts_low}
 use Rattle.core_shows.proofs.ShownExchange.{shows_place}
-use Rattle.core_shows.proofs.ShownPlaces.{slot_word, word_slot, shown_content, shown_word, shown_open, shown_dying_field}
+use Rattle.core_shows.proofs.ShownPlaces.{slot_word, word_slot, shown_content, shown_word, shown_open, shown_readable, shown_dying_field}
+use Rattle.core_shows.proofs.Stages.{live_started}
 
 joined_append : (k : Kind) (o : Option SlotId) (es fs : List Entry) → es ++ joined k o fs
     ≡ joined k o (es ++ fs)
@@ -51,9 +54,10 @@ joined_append k (Some s) es fs = sym (append_assoc es fs ((k, s) ∷ []))
 quiet_exchange : (kind : Kind) (new : Option SlotId) (w : ℕ) (v : CoreView) (t : List Move)
     (x : SlotId)
     → Quiet x v (record (exchanged kind new w v) { trail = t })
-quiet_exchange kind None w v t x = record { fill = refl; dyi = refl; made = refl }
-quiet_exchange Strong (Some s) w v t x = record { fill = refl; dyi = refl; made = refl }
-quiet_exchange Weak (Some s) w v t x = record { fill = refl; dyi = refl; made = refl }
+quiet_exchange kind None w v t x = record { claims = refl; dying = refl; made = refl }
+quiet_exchange Strong (Some s) w v t x = record { claims = refl; dying = refl; made = refl }
+quiet_exchange Weak (Some s) w v t x = record { claims = refl; dying = refl; made = refl }
+quiet_exchange Disposal (Some s) w v t x = record { claims = refl; dying = refl; made = refl }
 
 -- what the seat shows after it gave the new content
 seat_exchanged : (kind : Kind) (new : Option SlotId) (w : ℕ) (v : CoreView) (t : List Move)
@@ -71,6 +75,9 @@ seat_exchanged Strong (Some s) w v t =
 seat_exchanged Weak (Some s) w v t =
     ap (λ (es : List Entry). record (show_seat v) { weaks = without s v.weaks; deferred = es })
     (joined_append Weak (slot_in w) v.owed v.retired)
+seat_exchanged Disposal (Some s) w v t =
+    ap (λ (es : List Entry). record (show_seat v) { deferred = es })
+    (joined_append Disposal (slot_in w) v.owed v.retired)
 
 -- what the seat shows gives up the new content
 gives_up : (kind : Kind) (new : Option SlotId) (v : CoreView) (y : PlainSeat) → y ≡ show_seat v
@@ -78,6 +85,8 @@ gives_up : (kind : Kind) (new : Option SlotId) (v : CoreView) (y : PlainSeat) �
     → GivesUp kind new y (show_seat (without_given kind new v))
 gives_up Strong None v y e can = sym e
 gives_up Weak None v y e can = sym e
+gives_up Disposal None v y e can = sym e
+gives_up Disposal (Some s) v y e can = absurd can
 gives_up Strong (Some s) v y e can = (
   without s v.owned,
   rw e
@@ -96,13 +105,11 @@ deferred_given : (kind : Kind) (new : Option SlotId) (v : CoreView)
 deferred_given kind None v = refl
 deferred_given Strong (Some s) v = refl
 deferred_given Weak (Some s) v = refl
+deferred_given Disposal (Some s) v = refl
 
 module _ (z : Shape) (c : Core) (n : ℕ) (so : Sound z c) (hn : n < z.seats) where
   abbrev v : CoreView
   v = view_at c n
-
-  h : n < length c.views
-  h = at_seat z c n so hn
 
   is : seat_at (shows z c) n ≡ show_seat (view_at c n)
   is = shown_seat z c n (at_seat z c n so hn)
@@ -115,8 +122,8 @@ module _ (z : Shape) (c : Core) (n : ℕ) (so : Sound z c) (hn : n < z.seats) wh
   replaces q new t there can = (
     show_seat (without_given (place_kind q) new v),
     gives_up (place_kind q) new v (seat_at (shows z c) n) is can,
-    shows_place z c n _ q new so hn there (quiet_exchange (place_kind q) new
-        (slice_index c.words (place_at z q)) v t)
+    shows_place z c n _ so hn (quiet_exchange (place_kind q) new
+        (slice_index c.words (place_at z q)) v t) q new there
         ∙ ap (λ (y : PlainSeat). with_content (with_seat (shows z c) n y) q new)
         (seat_exchanged (place_kind q) new (slice_index c.words (place_at z q)) v t ∙ same),
   )
@@ -142,52 +149,55 @@ module _ (z : Shape) (c : Core) (n : ℕ) (so : Sound z c) (hn : n < z.seats) wh
       (shows z (put c n (record (exchanged (place_kind q) None
       (slice_index c.words (place_at z q)) v) { trail = t }) (place_at z q) 0))
   clears q t there =
-      shows_place z c n _ q None so hn there (quiet_exchange (place_kind q) None
-      (slice_index c.words (place_at z q)) v t)
+      shows_place z c n _ so hn (quiet_exchange (place_kind q) None
+      (slice_index c.words (place_at z q)) v t) q None there
       ∙ ap (λ (y : PlainSeat). with_content (with_seat (shows z c) n y) q None)
       (seat_exchanged (place_kind q) None (slice_index c.words (place_at z q)) v t
       ∙ (ap (λ (o : Option SlotId). record (show_seat v)
       { deferred = joined (place_kind q) o (v.owed ++ v.retired) })
       (sym (shown_content z c q there)) ∙ rw is refl))
 
-  -- a place that is open is no field of a dying slot
-  not_dying : (s : SlotId) → HoldsStrongly v s → s.0 < z.slots → nat_lt 0 (times s v.dying) ≡ false
-  not_dying s held hs =
+  -- a place that is open is no field of a ripe slot, since that is dying
+  not_ripe : (s : SlotId) → HoldsStrongly v s → s.0 < z.slots → nat_lt 0 (times s v.ripe) ≡ false
+  not_ripe s held hs =
       let r = strongly_refs z c n s so hn held in
-      let d = strong_not_dying _ (numbers z c s) (so.slots s hs) r in
-      let t = total_at (λ (u : CoreView). times s u.dying) c.views n h in
-      let none : times s v.dying ≡ 0 = omega arith in grind (arith, nat_tests)
+      let e = value_is (adds_used c) (numbers z c s) (so.slots s hs) (adds_fit z c so) in
+      let p = counts_low (strong z c s) (refs Strong z c s) e r in
+      let d = (live_started z c so s hs (live_low (strong z c s) p.1)).dying in
+      let t = total_at (λ (u : CoreView). times s u.dying) c.views n (at_seat z c n so hn) in
+      let le = (so.seats n hn).ripe s in
+      let none : times s v.ripe ≡ 0 = omega arith in grind (arith, nat_tests)
 
-  open_not_dying : (q : EventPlace) → IsOpen z v q → IsPlace z q → is_dying_field v q ≡ false
-  open_not_dying (Cell i) on there = refl
-  open_not_dying (Field s i) on there = not_dying s on.1 there.0
-  open_not_dying (WeakCell i) on there = refl
-  open_not_dying (WeakField s) on there = not_dying s on there
+  open_not_ripe : (q : EventPlace) → IsOpen z v q → IsPlace z q → is_ripe_field v q ≡ false
+  open_not_ripe (Cell i) on there = refl
+  open_not_ripe (Field s i) on there = not_ripe s on.1 there.0
+  open_not_ripe (WeakCell i) on there = refl
+  open_not_ripe (WeakField s) on there = not_ripe s on there
 
-  is_dying : (q : EventPlace) → IsDyingField v q → is_dying_field v q ≡ true
-  is_dying (Cell i) on = absurd on
-  is_dying (Field s i) on = let d = on.1 in grind (arith, nat_tests)
-  is_dying (WeakCell i) on = absurd on
-  is_dying (WeakField s) on = grind (arith, nat_tests)
+  is_ripe : (q : EventPlace) → IsRipeField v q → is_ripe_field v q ≡ true
+  is_ripe (Cell i) on = absurd on
+  is_ripe (Field s i) on = let d = on.1 in grind (arith, nat_tests)
+  is_ripe (WeakCell i) on = absurd on
+  is_ripe (WeakField s) on = grind (arith, nat_tests)
 
   pub swap_shows : (q : EventPlace) (new : Option SlotId) → Enabled z c n (act.Swap q new)
       → ShowsRow z c n (act.Swap q new)
   swap_shows q new on = ⊎_elim
       (λ e. subst (λ (b : Bool). Row (shows z c) n (if b then plain.Clear q else plain.Replace q
       new) (slice_index c.words (place_at z q)) (shows z (after z c n (act.Swap q new))))
-      (sym (open_not_dying q e.0 (open_there z c n so hn q e.0))) (
+      (sym (open_not_ripe q e.0 (open_in_range z n v (so.seats n hn) q e.0))) (
         shown_open z c n q so hn e.0,
-        shown_word z c q (open_there z c n so hn q e.0),
+        shown_word z c q (open_in_range z n v (so.seats n hn) q e.0),
         replaces q new
-            _ (open_there z c n so hn q e.0) e.1,
+            _ (open_in_range z n v (so.seats n hn) q e.0) e.1,
       ))
       (λ e. subst (λ (b : Bool). Row (shows z c) n (if b then plain.Clear q else plain.Replace q
       new) (slice_index c.words (place_at z q)) (shows z (after z c n (act.Swap q new))))
-      (sym (is_dying q e.0)) (
+      (sym (is_ripe q e.0)) (
         shown_dying_field z c n q so hn e.0,
-        shown_word z c q (dying_there z c n so hn q e.0),
+        shown_word z c q (ripe_in_range z n v (so.seats n hn) q e.0),
         subst (λ (x : Option SlotId). Clears (shows z c) n q (shows z (after z c n (act.Swap q x))))
-            (sym e.1) (clears q _ (dying_there z c n so hn q e.0)),
+            (sym e.1) (clears q _ (ripe_in_range z n v (so.seats n hn) q e.0)),
       ))
       on.1.2
 
@@ -204,7 +214,7 @@ module _ (z : Shape) (c : Core) (n : ℕ) (so : Sound z c) (hn : n < z.seats) wh
       w = slice_index c.words (place_at z q)
 
       there : IsPlace z q
-      there = open_there z c n so hn q on.1.2
+      there = open_in_range z n v (so.seats n hn) q on.1.2
 
       go : (b : Bool) → (w == word_of old) ≡ b
           → ((content (shows z c) q ≡ old) × Replaces (shows z c) n q new
@@ -227,8 +237,8 @@ module _ (z : Shape) (c : Core) (n : ℕ) (so : Sound z c) (hn : n < z.seats) wh
           let other : w ≢ word_of old = grind (arith, nat_tests) in
           inr (
             λ e. other (sym (word_slot w) ∙ ap word_of (sym (shown_content z c q there) ∙ e)),
-            same_plain (shows z c) _ n _ (still_quiet z c n _ (place_at z q) so hn
-                (λ x. record { fill = refl; dyi = refl; made = refl })) (sym is),
+            same_plain (shows z c) _ n _ (still_quiet z c n _ so hn (place_at z q)
+                (λ x. record { claims = refl; dying = refl; made = refl })) (sym is),
           )
 
   pub check_shows : (j : ℕ) (q : EventPlace) → Enabled z c n (act.Check j q)
@@ -244,7 +254,7 @@ module _ (z : Shape) (c : Core) (n : ℕ) (so : Sound z c) (hn : n < z.seats) wh
       w = slice_index c.words (place_at z q)
 
       there : IsPlace z q
-      there = open_there z c n so hn q on.1.3
+      there = readable_in_range z n v (so.seats n hn) q on.1.3
 
       -- what the seat announced
       s : SlotId
@@ -269,13 +279,13 @@ module _ (z : Shape) (c : Core) (n : ℕ) (so : Sound z c) (hn : n < z.seats) wh
           let found' : w ≡ s.0 + 1 = grind (arith, nat_tests) in
           does.does_check (shows z c) _ n (show_seat v) is j w q s
           (valid_of (set v.notes j (note.Valid (place_kind q) s)))
-          (shown_open z c n q so hn on.1.3) (shown_word z c q there)
+          (shown_readable z c n q so hn on.1.3) (shown_word z c q there)
           (shown_content z c q there ∙ (ap slot_in found' ∙ slot_word (Some s))) gains
-          (still_quiet z c n _ (place_at z q) so hn
-          (λ x. record { fill = refl; dyi = refl; made = refl }))
+          (still_quiet z c n _ so hn (place_at z q)
+          (λ x. record { claims = refl; dying = refl; made = refl }))
       go false test = (
-        shown_open z c n q so hn on.1.3,
+        shown_readable z c n q so hn on.1.3,
         shown_word z c q there,
-        inl (same_plain (shows z c) _ n _ (still_quiet z c n _ (place_at z q) so hn
-            (λ x. record { fill = refl; dyi = refl; made = refl })) (sym is)),
+        inl (same_plain (shows z c) _ n _ (still_quiet z c n _ so hn (place_at z q)
+            (λ x. record { claims = refl; dying = refl; made = refl })) (sym is)),
       )

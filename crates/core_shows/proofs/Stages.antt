@@ -1,137 +1,146 @@
--- Where the flags, the weak word's meaning, the fillers and the dying lists stay, the stage and the
--- mark stay.
-use Rattle.std.proofs.Common.{◌≡◌, ◌≢◌, ℕ, ◌+◌, ◌^◌, ◌<◌, ◌≤◌, refl, arith}
+-- The stage of a slot, by its signs, and what the invariant tells of the signs of a slot in each stage.
+use Rattle.std.proofs.Common.{◌≡◌, ⊎_elim, ℕ, ◌+◌, ◌<◌, ◌≤◌, true, false, refl, ◌∙◌, arith}
+use Rattle.std.specs.Prelude.{◌==◌, nat_lt}
+use Rattle.std.proofs.lemmas.Bool.{cases_lt}
 use Rattle.std.proofs.lemmas.Bool.Decides.{nat_tests}
+use Rattle.plain_state.specs.declared.slot.Kind.TheVariants.{Weak}
+use Rattle.plain_state.specs.declared.slot.SlotId.{SlotId}
 use Rattle.plain_state.specs.declared.slot.Stage.TheVariants.{Free, Blank, Live, Ended, Husk}
-use Rattle.core_events.specs.Words.{ZERO, HELP, has_zero}
-use Rattle.core_invariant.specs.Slots.{Numbers, SlotLaw, free, blank, counted, asked, over, husk}
-use Rattle.core_invariant.proofs.Parts.{stage_in}
+use Rattle.core_events.specs.declared.shape.Shape.{Shape}
+use Rattle.core_events.specs.Runs.{Core}
+use Rattle.core_events.specs.Counts.{Signs, signs, stage_of, stage, is_live_word, strong, free_bit, barers, fillers, givers, dying_times, refs, adds_used}
+use Rattle.core_events.specs.Good.{OneEnder, IsOver}
+use Rattle.core_invariant.specs.Slots.{Numbers, numbers, SlotLaw, free, bare, blank, counted, asked, over, husk}
+use Rattle.core_invariant.specs.Sound.{Sound}
+use Rattle.core_invariant.proofs.Flags.{live_taken}
+use Rattle.core_invariant.proofs.Parts.{sound_good, stage_is, live_stage}
+use Rattle.core_invariant.proofs.Put.{adds_fit}
 
--- the two strong words have the same flags
-pub record SameFlags (w w' : ℕ) : Type 0 where
-  pub up : w < ZERO → w' < ZERO
-  pub down : w' < ZERO → w < ZERO
-  pub more : ZERO + HELP ≤ w → ZERO + HELP ≤ w'
-  pub less : ZERO + HELP ≤ w' → ZERO + HELP ≤ w
+-- the same signs, as far as they tell the stage
+pub stage_same : (g h : Signs) → h.bit ≡ g.bit → h.claimers ≡ g.claimers → h.dying ≡ g.dying
+    → is_live_word h.strong ≡ is_live_word g.strong → stage_of h ≡ stage_of g
+unfolding stage_of
+stage_same g h e1 e2 e3 e4 = rw (e1, e2, e3, e4) refl
 
--- the two weak words are both a free slot's, or neither is
-pub record SameFree (w w' : ℕ) : Type 0 where
-  pub to : w ≡ ZERO → w' ≡ ZERO
-  pub from : w' ≡ ZERO → w ≡ ZERO
+pub free_stage : (g : Signs) → g.bit ≡ 1 → stage_of g ≡ Free
+unfolding stage_of
+free_stage g e = let t : (g.bit == 1) ≡ true = grind (arith, nat_tests) in rw t refl
 
-pub mark_keeps : (w w' : ℕ) → SameFlags w w' → has_zero w' ≡ has_zero w
-mark_keeps w w' f = grind (arith, nat_tests)
+pub blank_stage : (g : Signs) → g.bit ≡ 0 → 0 < g.claimers → stage_of g ≡ Blank
+unfolding stage_of
+blank_stage g e f =
+    let t : (g.bit == 1) ≡ false = grind (arith, nat_tests) in
+    let u : nat_lt 0 g.claimers ≡ true = grind (arith, nat_tests) in rw (t, u) refl
 
-pub stage_keeps : (a b : ℕ) (m n : Numbers) (l : SlotLaw a m) (k : SlotLaw b n) → a < 2 ^ 60
-    → b < 2 ^ 60
-    → SameFlags m.strong n.strong → SameFree m.weak n.weak → n.filling ≡ m.filling → n.dying
-    ≡ m.dying
-    → stage_in k ≡ stage_in l
-stage_keeps a b m n (free h) (free i) fa fb flags frees fill dyi = refl
-stage_keeps a b m n (free h) (blank i) fa fb flags frees fill dyi = absurd (grind arith)
-stage_keeps a b m n (free h) (counted i) fa fb flags frees fill dyi = absurd (grind arith)
-stage_keeps a b m n (free h) (asked i) fa fb flags frees fill dyi = absurd (grind arith)
-stage_keeps a b m n (free h) (over i) fa fb flags frees fill dyi = absurd (grind arith)
-stage_keeps a b m n (free h) (husk i) fa fb flags frees fill dyi = absurd (grind arith)
-stage_keeps a b m n (blank h) (free i) fa fb flags frees fill dyi = absurd (grind arith)
-stage_keeps a b m n (blank h) (blank i) fa fb flags frees fill dyi = refl
-stage_keeps a b m n (blank h) (counted i) fa fb flags frees fill dyi = absurd (grind arith)
-stage_keeps a b m n (blank h) (asked i) fa fb flags frees fill dyi = absurd (grind arith)
-stage_keeps a b m n (blank h) (over i) fa fb flags frees fill dyi = absurd (grind arith)
-stage_keeps a b m n (blank h) (husk i) fa fb flags frees fill dyi = absurd (grind arith)
-stage_keeps a b m n (counted h) (free i) fa fb flags frees fill dyi = absurd (grind arith)
-stage_keeps a b m n (counted h) (blank i) fa fb flags frees fill dyi = absurd (grind arith)
-stage_keeps a b m n (counted h) (counted i) fa fb flags frees fill dyi = refl
-stage_keeps a b m n (counted h) (asked i) fa fb flags frees fill dyi = refl
-stage_keeps a b m n (counted h) (over i) fa fb flags frees fill dyi = absurd (grind arith)
-stage_keeps a b m n (counted h) (husk i) fa fb flags frees fill dyi = absurd (grind arith)
-stage_keeps a b m n (asked h) (free i) fa fb flags frees fill dyi = absurd (grind arith)
-stage_keeps a b m n (asked h) (blank i) fa fb flags frees fill dyi = absurd (grind arith)
-stage_keeps a b m n (asked h) (counted i) fa fb flags frees fill dyi = refl
-stage_keeps a b m n (asked h) (asked i) fa fb flags frees fill dyi = refl
-stage_keeps a b m n (asked h) (over i) fa fb flags frees fill dyi = absurd (grind arith)
-stage_keeps a b m n (asked h) (husk i) fa fb flags frees fill dyi = absurd (grind arith)
-stage_keeps a b m n (over h) (free i) fa fb flags frees fill dyi = absurd (grind arith)
-stage_keeps a b m n (over h) (blank i) fa fb flags frees fill dyi = absurd (grind arith)
-stage_keeps a b m n (over h) (counted i) fa fb flags frees fill dyi = absurd (grind arith)
-stage_keeps a b m n (over h) (asked i) fa fb flags frees fill dyi = absurd (grind arith)
-stage_keeps a b m n (over h) (over i) fa fb flags frees fill dyi = refl
-stage_keeps a b m n (over h) (husk i) fa fb flags frees fill dyi = absurd (grind arith)
-stage_keeps a b m n (husk h) (free i) fa fb flags frees fill dyi = absurd (grind arith)
-stage_keeps a b m n (husk h) (blank i) fa fb flags frees fill dyi = absurd (grind arith)
-stage_keeps a b m n (husk h) (counted i) fa fb flags frees fill dyi = absurd (grind arith)
-stage_keeps a b m n (husk h) (asked i) fa fb flags frees fill dyi = absurd (grind arith)
-stage_keeps a b m n (husk h) (over i) fa fb flags frees fill dyi = absurd (grind arith)
-stage_keeps a b m n (husk h) (husk i) fa fb flags frees fill dyi = refl
+pub ended_stage : (g : Signs) → g.bit ≡ 0 → g.claimers ≡ 0 → 0 < g.dying → stage_of g ≡ Ended
+unfolding stage_of
+ended_stage g e f d =
+    let t : (g.bit == 1) ≡ false = grind (arith, nat_tests) in
+    let u : nat_lt 0 g.claimers ≡ false = grind (arith, nat_tests) in
+    let w : nat_lt 0 g.dying ≡ true = grind (arith, nat_tests) in rw (t, u, w) refl
 
--- what the numbers tell of the stage
-pub live_counted : (a : ℕ) (m : Numbers) (l : SlotLaw a m) → m.strong < ZERO → stage_in l ≡ Live
-live_counted a m (free h) e = absurd (omega arith)
-live_counted a m (blank h) e = absurd (omega arith)
-live_counted a m (counted h) e = refl
-live_counted a m (asked h) e = refl
-live_counted a m (over h) e = absurd (omega arith)
-live_counted a m (husk h) e = absurd (omega arith)
+pub alive_stage : (g : Signs) → g.bit ≡ 0 → g.claimers ≡ 0 → g.dying ≡ 0
+    → is_live_word g.strong ≡ true → stage_of g ≡ Live
+unfolding stage_of
+alive_stage g e f d l =
+    let t : (g.bit == 1) ≡ false = grind (arith, nat_tests) in
+    let u : nat_lt 0 g.claimers ≡ false = grind (arith, nat_tests) in
+    let w : nat_lt 0 g.dying ≡ false = grind (arith, nat_tests) in rw (t, u, w, l) refl
 
-pub live_asked : (a : ℕ) (m : Numbers) (l : SlotLaw a m) → a < 2 ^ 60 → ZERO + HELP ≤ m.strong
-    → stage_in l ≡ Live
-live_asked a m (free h) fit e = absurd (omega arith)
-live_asked a m (blank h) fit e = absurd (omega arith)
-live_asked a m (counted h) fit e = refl
-live_asked a m (asked h) fit e = refl
-live_asked a m (over h) fit e = absurd (omega arith)
-live_asked a m (husk h) fit e = absurd (omega arith)
+pub husk_stage : (g : Signs) → g.bit ≡ 0 → g.claimers ≡ 0 → g.dying ≡ 0
+    → is_live_word g.strong ≡ false → stage_of g ≡ Husk
+unfolding stage_of
+husk_stage g e f d l =
+    let t : (g.bit == 1) ≡ false = grind (arith, nat_tests) in
+    let u : nat_lt 0 g.claimers ≡ false = grind (arith, nat_tests) in
+    let w : nat_lt 0 g.dying ≡ false = grind (arith, nat_tests) in rw (t, u, w, l) refl
 
-pub ended_dying : (a : ℕ) (m : Numbers) (l : SlotLaw a m) → 0 < m.dying → stage_in l ≡ Ended
-ended_dying a m (free h) e = absurd (omega arith)
-ended_dying a m (blank h) e = absurd (omega arith)
-ended_dying a m (counted h) e = absurd (omega arith)
-ended_dying a m (asked h) e = absurd (omega arith)
-ended_dying a m (over h) e = refl
-ended_dying a m (husk h) e = absurd (omega arith)
+over_dead : (w : ℕ) → IsOver w → is_live_word w ≡ false
+over_dead w h = let f = h.1 in let a = h.0 in grind (arith, nat_tests)
 
-pub blank_filled : (a : ℕ) (m : Numbers) (l : SlotLaw a m) → 0 < m.filling → stage_in l ≡ Blank
-blank_filled a m (free h) e = absurd (omega arith)
-blank_filled a m (blank h) e = refl
-blank_filled a m (counted h) e = absurd (omega arith)
-blank_filled a m (asked h) e = absurd (omega arith)
-blank_filled a m (over h) e = absurd (omega arith)
-blank_filled a m (husk h) e = absurd (omega arith)
+-- a slot that is to be given back isn't dying, and nothing refers to it
+given_free : (a : ℕ) (m : Numbers) → SlotLaw a m → 0 < m.giving
+    → (m.dying ≡ 0) × (m.weak_refs ≡ 0)
+given_free a m (free h) p = absurd (omega arith)
+given_free a m (bare h) p = absurd (omega arith)
+given_free a m (blank h) p = absurd (omega arith)
+given_free a m (counted h) p = absurd (omega arith)
+given_free a m (asked h) p = absurd (omega arith)
+given_free a m (over h) p = absurd (omega arith)
+given_free a m (husk h) p = (omega arith, omega arith)
 
-pub free_weak : (a : ℕ) (m : Numbers) (l : SlotLaw a m) → a < 2 ^ 60 → m.weak ≡ ZERO → stage_in l
-    ≡ Free
-free_weak a m (free h) fit e = refl
-free_weak a m (blank h) fit e = absurd (omega arith)
-free_weak a m (counted h) fit e = absurd (omega arith)
-free_weak a m (asked h) fit e = absurd (omega arith)
-free_weak a m (over h) fit e = absurd (omega arith)
-free_weak a m (husk h) fit e = absurd (omega arith)
+module _ (z : Shape) (c : Core) (so : Sound z c) (s : SlotId) (hs : s.0 < z.slots) where
+  ender : OneEnder z c s
+  ender = (sound_good z c so).enders s hs
 
--- a dead slot that is neither free, nor filled, nor dying
-pub husk_left : (a : ℕ) (m : Numbers) (l : SlotLaw a m) → a < 2 ^ 60 → ZERO ≤ m.strong
-    → m.strong < ZERO + HELP → m.weak ≢ ZERO
-    → m.filling ≡ 0 → m.dying ≡ 0 → stage_in l ≡ Husk
-husk_left a m (free h) fit x y ne f d = absurd (omega arith)
-husk_left a m (blank h) fit x y ne f d = absurd (omega arith)
-husk_left a m (counted h) fit x y ne f d = absurd (grind arith)
-husk_left a m (asked h) fit x y ne f d = absurd (omega arith)
-husk_left a m (over h) fit x y ne f d = absurd (omega arith)
-husk_left a m (husk h) fit x y ne f d = refl
+  -- no bit, no claimer, not dying
+  pub record IsStarted : Type 0 where
+    pub bit : free_bit z c s ≡ 0
+    pub claimers : barers c s + fillers c s ≡ 0
+    pub dying : dying_times c s ≡ 0
 
-pub husk_giving : (a : ℕ) (m : Numbers) (l : SlotLaw a m) → 0 < m.giving → stage_in l ≡ Husk
-husk_giving a m (free h) e = absurd (omega arith)
-husk_giving a m (blank h) e = absurd (omega arith)
-husk_giving a m (counted h) e = absurd (omega arith)
-husk_giving a m (asked h) e = absurd (omega arith)
-husk_giving a m (over h) e = absurd (omega arith)
-husk_giving a m (husk h) e = refl
+  pub live_started : is_live_word (strong z c s) ≡ true → IsStarted
+  live_started live =
+      let t = live_taken (adds_used c) (numbers z c s) (so.slots s hs) (adds_fit z c so) live in
+      let a = t.0 in let b = t.1 in
+      record { bit = omega arith; claimers = omega arith; dying = omega arith }
 
--- a slot that is referred to has a small weak word
-pub weak_small : (a : ℕ) (m : Numbers) → SlotLaw a m → 0 < m.strong_refs + m.weak_refs + m.dying
-    → m.weak ≤ a
-weak_small a m (free h) e = absurd (omega arith)
-weak_small a m (blank h) e = absurd (omega arith)
-weak_small a m (counted h) e = omega arith
-weak_small a m (asked h) e = omega arith
-weak_small a m (over h) e = omega arith
-weak_small a m (husk h) e = omega arith
+  pub is_live : is_live_word (strong z c s) ≡ true → stage z c s ≡ Live
+  is_live live =
+      stage_is (adds_used c) (numbers z c s) (so.slots s hs) (adds_fit z c so)
+      ∙ live_stage (adds_used c) (numbers z c s) (so.slots s hs) (adds_fit z c so) live
+
+  -- a slot that waits to be destroyed
+  pub record IsDying : Type 0 where
+    pub bit : free_bit z c s ≡ 0
+    pub claimers : barers c s + fillers c s ≡ 0
+    pub once : dying_times c s ≡ 1
+    pub dead : is_live_word (strong z c s) ≡ false
+
+  pub dying_is : 0 < dying_times c s → IsDying
+  dying_is pos =
+      let once' = ender.once in
+      let d = ender.dying pos in
+      record { bit = d.1; claimers = d.2; once = omega arith; dead = over_dead _ d.0 }
+
+  -- a slot that a seat has claimed
+  pub record IsClaimed : Type 0 where
+    pub bit : free_bit z c s ≡ 0
+    pub claimers : barers c s + fillers c s ≡ 1
+    pub dying : dying_times c s ≡ 0
+
+  pub claimed_is : 0 < barers c s + fillers c s → IsClaimed
+  claimed_is pos =
+      let one = ender.one_keeper in
+      let k = ender.kept (omega arith) in
+      record { bit = k.1; claimers = omega arith; dying = none }
+    where
+      none : dying_times c s ≡ 0
+      none = ⊎_elim
+          (λ (d : 0 < dying_times c s). let e = (ender.dying d).2 in absurd (omega arith))
+          (λ (d : dying_times c s ≤ 0). omega arith)
+          (cases_lt 0 (dying_times c s))
+
+  pub is_claimed : 0 < barers c s + fillers c s → stage z c s ≡ Blank
+  is_claimed pos = blank_stage (signs z c s) (claimed_is pos).bit pos
+
+  -- a slot that a seat is to give back
+  pub record IsGiven : Type 0 where
+    pub bit : free_bit z c s ≡ 0
+    pub claimers : barers c s + fillers c s ≡ 0
+    pub dying : dying_times c s ≡ 0
+    pub dead : is_live_word (strong z c s) ≡ false
+    pub none : refs Weak z c s ≡ 0
+
+  pub given_is : 0 < givers c s → IsGiven
+  given_is pos =
+      let one = ender.one_keeper in
+      let k = ender.kept (omega arith) in
+      let f = given_free (adds_used c) (numbers z c s) (so.slots s hs) pos in
+      record {
+        bit = k.1;
+        claimers = omega arith;
+        dying = f.0;
+        dead = over_dead _ k.0;
+        none = f.1;
+      }

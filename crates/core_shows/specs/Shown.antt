@@ -1,16 +1,18 @@
 -- What a core shows of its words and of its events.
-use Rattle.std.specs.Prelude.{ℕ, ◌≡◌, ◌≢◌, ◌⊎◌, false, List, [], ◌∷◌}
+use Rattle.std.specs.Prelude.{ℕ, ◌≡◌, ◌≢◌, ◌⊎◌, ◌<◌, false, List, [], ◌∷◌}
+use Rattle.plain_state.specs.declared.slot.Kind.TheVariants.{Disposal}
 use Rattle.plain_state.specs.declared.slot.SlotId.{SlotId}
-use Rattle.plain_state.specs.declared.slot.Stage.TheVariants.{Free, Live}
+use Rattle.plain_state.specs.declared.slot.Stage.TheVariants.{Free, Live, Ended}
+use Rattle.plain_state.specs.Lists.{entry_times}
 use Rattle.plain_state.specs.References.{strong_refs, weak_refs}
 use Rattle.plain_state.specs.State.{slot_at, stage_at}
 use Rattle.plain_state.specs.Steps.{Does}
 use Rattle.core_events.specs.declared.act.Act.{Act}
 use Rattle.core_events.specs.declared.act.Event.{Event}
 use Rattle.core_events.specs.declared.shape.Shape.{Shape}
-use Rattle.core_events.specs.Words.{ZERO, value}
-use Rattle.core_events.specs.Views.{Holds, HoldsStrongly}
-use Rattle.core_events.specs.Counts.{strong, weak, fillers, givers}
+use Rattle.core_events.specs.Words.{value}
+use Rattle.core_events.specs.Views.{snapshots, Holds, HoldsStrongly}
+use Rattle.core_events.specs.Counts.{strong, weak, barers}
 use Rattle.core_events.specs.Runs.{Core, view_at, found, after}
 use Rattle.core_events.specs.Shows.{shows}
 use Rattle.core_events.specs.ShownSteps.{shown_act, shown_number}
@@ -27,16 +29,20 @@ abbrev pub AllShow : Shape → Core → List Event → Type 0
 AllShow z c [] = Unit {0}
 AllShow z c (e ∷ es) = ShowsStep z c e.seat e.act × AllShow z (after z c e.seat e.act) es
 
--- a slot's words count the references of the plain state that the core shows
+-- a slot's words count the references of the plain state that the core shows, but for the own weak reference of a slot
+-- that a seat has claimed and not yet armed
 abbrev pub CountsShown : Shape → Core → SlotId → Type 0
 CountsShown z c s =
     (value (strong z c s) ≡ strong_refs (shows z c) s)
     × ((weak z c s ≡ weak_refs (shows z c) s)
-    ⊎ ((weak z c s ≡ ZERO) × (weak_refs (shows z c) s ≡ 0) × (fillers c s ≡ 0) × (givers c s ≡ 0)))
+    ⊎ ((weak z c s ≡ 0) × (0 < barers c s) × (weak_refs (shows z c) s ≡ 1)))
 
--- what a seat holds strongly is live without a zero mark, and what it holds at all isn't free
+-- what a seat holds strongly is live without a zero mark, what it holds at all isn't free, and what is under its weak
+-- snapshot isn't destroyed
 abbrev pub HeldStays : Shape → Core → ℕ → SlotId → Type 0
 HeldStays z c n s =
     (HoldsStrongly (view_at c n) s
     → (stage_at (shows z c) s ≡ Live) × ((slot_at (shows z c) s).marked ≡ false))
     × (Holds (view_at c n) s → stage_at (shows z c) s ≢ Free)
+    × (0 < entry_times Disposal s (snapshots (view_at c n))
+    → (stage_at (shows z c) s ≡ Live) ⊎ (stage_at (shows z c) s ≡ Ended))
