@@ -1,0 +1,19 @@
+mod Quiet
+pub mod Kit
+pub mod Effects
+pub mod Chain
+pub mod ChainWrites
+pub mod ChainCalm
+pub mod ChainGrows
+pub mod Notes
+pub mod Counts
+pub mod Orders
+pub mod Seen
+pub mod Calm
+pub mod Pushing
+pub mod Exchange
+pub mod Link
+pub mod Advance
+pub mod Land
+pub mod Take
+pub mod Fields
