@@ -148,7 +148,7 @@ help_deed u p q views n v step found lawful law is stays_on ready d =
     let w0 : FirstSet p q r.before (r.node + 1) = hit.2 in
     let w1 : FirstSet p q (sent h b.0).node (r.node + 1) = subst (λ z. FirstSet p q z (r.node + 1)) (sym b.2) w0 in
     let w : FirstSet p q (sent h b.0).node ((sent h (b.0 + 1)).node + 1) = subst (λ z. FirstSet p q (sent h b.0).node (z + 1)) (sym at_node) w1 in
-    let now = sees_at_on p q h h (length ts) (length ts) t t v.eyes s.0.0 (unchanged h) (omega arith) (on u p q views n v h ts t law.3 here.0 here.1 b.0 inside pr null b.4 w) s.0.1 in (
+    let now = sees_at_on p q h h (length ts) (length ts) t t v.eyes s.0.0 (unchanged h) (omega arith) (omega arith) (on u p q views n v h ts t law.3 here.0 here.1 b.0 inside pr null b.4 w) s.0.1 in (
       h,
       ts,
       t,

@@ -17,3 +17,5 @@ pub mod Advance
 pub mod Land
 pub mod Take
 pub mod Fields
+pub mod Lessons
+pub mod Before

@@ -1,12 +1,13 @@
 -- The deeds by which a seat learns: each is a step that changes nothing that a queue reads.
-use Rattle.std.specs.Prelude.{◌≡◌, ℕ, zero, suc, ◌+◌, ◌-◌, ◌<◌, Bool, true, cond, ◌==◌, ◌⊎◌, nat_lt, not}
+use Rattle.std.specs.Prelude.{◌≡◌, ◌≢◌, ℕ, zero, suc, ◌+◌, ◌-◌, ◌<◌, Bool, true, cond, ◌==◌, ◌⊎◌, nat_lt, not}
 use Rattle.plain_state.specs.declared.act.EventPlace.{EventPlace}
 use Rattle.plain_state.specs.declared.act.EventPlace.TheVariants.{Cell}
 use Rattle.plain_state.specs.declared.act.PlainAct.{PlainAct}
 use Rattle.plain_state.specs.declared.act.PlainAct.TheVariants as act
+use Rattle.plain_state.specs.State.{Plain}
 use Rattle.plain_protocol.specs.Owns.{OwnPart}
-use Rattle.queue_law.specs.Words.{id, first_of, second_of, back_of, held_times, life_in}
-use Rattle.queue_law.specs.Views.{Double, View, Eyes, sees_node}
+use Rattle.queue_law.specs.Words.{id, slot_at, cell_at, first_of, second_of, back_of, held_times, life_in}
+use Rattle.queue_law.specs.Views.{Linked, Double, View, Eyes, sees_node}
 use Rattle.queue_law.specs.Chain.{Ends}
 use Rattle.queue_law.specs.Pushes.{helped_view}
 
@@ -32,11 +33,26 @@ learn_next head own after v step (suc s) =
 pub record NextReady (own : OwnPart) (v : View) (step : PlainAct) : Type 0 where
   pub node : ℕ
   pub reads : Reads (first_of node) step
+  pub held : 0 < held_times node own.seat
   pub seen : v.eyes.node ≡ node + 1
   pub seen_life : life_in own node ≡ v.eyes.life
 
 abbrev pub next_next : OwnPart → OwnPart → View → PlainAct → ℕ → View
 next_next own after v step found = record v { eyes = record v.eyes { following = found; found = 0 } }
+
+-- AHEAD, in a linked queue. Field 0 of the node after one that was seen
+pub record AheadReady (u : Ends) (own : OwnPart) (v : View) (step : PlainAct) : Type 0 where
+  pub node : ℕ
+  pub old : ℕ
+  pub reads : Reads (first_of node) step
+  pub form : u.form ≡ Linked
+  pub held : 0 < held_times old own.seat
+  pub seen : v.eyes.node ≡ old + 1
+  pub seen_life : life_in own old ≡ v.eyes.life
+  pub following : v.eyes.following ≡ node + 1
+
+abbrev pub ahead_next : OwnPart → OwnPart → View → PlainAct → ℕ → View
+ahead_next own after v step found = v
 
 -- ITEM. The item of the node after one that was seen
 pub record ItemReady (own : OwnPart) (v : View) (step : PlainAct) : Type 0 where
@@ -44,7 +60,9 @@ pub record ItemReady (own : OwnPart) (v : View) (step : PlainAct) : Type 0 where
   pub old : ℕ
   pub reads : Reads (second_of node) step
   pub attached : v.attached ≡ true
+  pub held : 0 < held_times old own.seat
   pub seen : v.eyes.node ≡ old + 1
+  pub seen_life : life_in own old ≡ v.eyes.life
   pub following : v.eyes.following ≡ node + 1
 
 abbrev pub item_next : OwnPart → OwnPart → View → PlainAct → ℕ → View
@@ -56,6 +74,7 @@ pub record BeforeReady (u : Ends) (own : OwnPart) (v : View) (step : PlainAct) :
   pub node : ℕ
   pub reads : Reads (back_of node) step
   pub form : u.form ≡ Double
+  pub held : 0 < held_times node own.seat
   pub seen : v.eyes.node ≡ node + 1
   pub seen_life : life_in own node ≡ v.eyes.life
 
@@ -101,3 +120,29 @@ AttachReady u own v step = step ≡ act.Look (Cell u.head)
 abbrev pub attach_next : OwnPart → OwnPart → View → PlainAct → ℕ → View
 attach_next own after v step zero = v
 attach_next own after v step (suc s) = record v { attached = true }
+
+-- WHAT LESSONS TELL. Nothing is linked behind the node that the head cell holds
+abbrev pub NothingLinked : Ends → Plain → Type 0
+NothingLinked u p = (s : ℕ) × (cell_at p u.head ≡ s + 1) × ((slot_at p s).first ≡ 0)
+
+-- where the node after one that the head cell held is null, nothing is linked
+abbrev pub NextTells : Ends → Plain → Plain → ℕ → View → View → Type 0
+NextTells u p q n v w =
+    v.eyes.was_head ≡ true → v.attached ≡ true → w.eyes.following ≡ 0 → NothingLinked u q
+
+-- where the node after the next one isn't null, the tail cell doesn't hold the node that was seen
+abbrev pub AheadTells : Ends → Plain → Plain → ℕ → View → View → Type 0
+AheadTells u p q n v w =
+    (slot_at p (v.eyes.following - 1)).first ≢ 0 → cell_at q u.tail ≢ v.eyes.node
+
+-- where the next node has no item, the head cell doesn't hold the node that was seen
+abbrev pub ItemTells : Ends → Plain → Plain → ℕ → View → View → Type 0
+ItemTells u p q n v w = w.eyes.found ≡ 0 → cell_at q u.head ≢ v.eyes.node
+
+-- the head cell isn't null
+abbrev pub AttachTells : Ends → Plain → Plain → ℕ → View → View → Type 0
+AttachTells u p q n v w = w.attached ≡ true → cell_at q u.head ≢ 0
+
+-- other deeds tell no more than their views
+abbrev pub TellsNothing : Plain → Plain → ℕ → View → View → Type 0
+TellsNothing p q n v w = Unit {0}
