@@ -19,3 +19,8 @@ pub mod Take
 pub mod Fields
 pub mod Lessons
 pub mod Before
+pub mod Make
+pub mod Foreign
+pub mod Leave
+pub mod Start
+pub mod Lays

@@ -25,7 +25,7 @@ use Rattle.queue_law.specs.Owned.{Keeps, owns}
 use Rattle.queue_law.specs.Nodes.{MakeReady, make_next, made, given, CarryReady, carry_next, BackReady, back_next}
 use Rattle.queue_law.specs.Pushes.{PushReady, carried_item, pushed_view, LinkReady, linked_view, link_next, AdvanceReady, advance_next, ExchangeReady, takes_off, flying_view, exchange_next, LandReady, land_next, HelpReady, helped_view, help_next}
 use Rattle.queue_law.specs.Pops.{TakeReady, popped_item, popped_view, take_next, EmptyReady, empty_next}
-use Rattle.queue_law.specs.Lessons.{Reads, LearnReady, learnt, learn_next, NextReady, next_next, ItemReady, item_next, BeforeReady, before_next, EndedReady, ended_next, SetReady, set_next, AttachReady, attach_next}
+use Rattle.queue_law.specs.Lessons.{Reads, LearnReady, learnt, learn_next, NextReady, next_next, AheadReady, ahead_next, ItemReady, item_next, BeforeReady, before_next, EndedReady, ended_next, SetReady, set_next, AttachReady, attach_next, NothingLinked, NextTells, AheadTells, ItemTells, AttachTells, TellsNothing}
 use Rattle.queue_law.specs.Opening.{LayTailReady, lay_tail_next, LayHeadReady, lay_head_next, item_of, behind, is_end, walk, waiting_in, ShutHeadReady, shut_head_next, ShutTailReady, shut_tail_next}
 use Rattle.queue_law.specs.Promises.{Follows, Far, OnChain, InFlight, OneMore, AllLinked, Waiting, Conserved, InOrder, LeftOver}
 use Rattle.queue_law.proofs.Kit.{held_live, own_life}
@@ -112,3 +112,11 @@ pub firsts_lead : (p q : Plain) (h : List Sent) → SameObjects p q
 firsts_lead p q h o first i low l at =
     let a = l (was_present p q o (sent h i) at) in
     (first (sent h i).node ∙ a.0, same_present p q o (sent h (i + 1)) a.1)
+
+-- no other seat has this seat's node
+pub own_apart : (u : Ends) (p : Plain) (h : List Sent) (k t : ℕ) (views : List View) (n : ℕ) (v : View)
+    → Known u p h k t views → view_at views n ≡ v → (m : ℕ) → m ≢ n → v.load.node ≢ 0
+    → v.load.node ≡ (view_at views m).load.node → v.load.life ≡ (view_at views m).load.life → ⊥
+own_apart u p h k t views n v o at m ne is_some same life =
+    ne (sym (o.apart n m (λ z. is_some (ap (λ (y : View). y.load.node) (sym at) ∙ z))
+    (ap (λ (y : View). y.load.node) at ∙ same) (ap (λ (y : View). y.load.life) at ∙ life)))
