@@ -24,3 +24,8 @@ pub mod Foreign
 pub mod Leave
 pub mod Start
 pub mod Lays
+pub mod Gives
+pub mod Cycles
+pub mod Left
+pub mod Whole
+pub mod Alone
