@@ -29,3 +29,6 @@ pub mod Cycles
 pub mod Left
 pub mod Whole
 pub mod Alone
+pub mod Told
+pub mod Shut
+pub mod Deeds

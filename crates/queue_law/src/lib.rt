@@ -14,8 +14,10 @@
 //! ```
 #![tactic(auto)]
 
-//mod promises;
+mod laws;
+mod promises;
 mod view;
 
-//pub use promises::{all_in_order, no_cycles, nothing_is_lost, what_was_left};
+pub use laws::others_keep_the_law;
+pub use promises::{all_in_order, no_cycles, nothing_is_lost, what_was_left};
 pub use view::{Eyes, Flight, Form, Item, Load, Stand, Taken, View};
