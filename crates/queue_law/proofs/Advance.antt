@@ -1,33 +1,18 @@
 -- The advance of the tail, in a linked queue.
-use Rattle.std.proofs.Common.{◌≡◌, ◌≢◌, ◌⊎◌, inl, inr, ⊎_elim, ℕ, zero, suc, ◌+◌, ◌-◌, ◌<◌, ◌≤◌, Bool, true, false, List, [], ◌∷◌, ◌++◌, length, get_or, set, drop, map, sum_by, replicate, refl, ap, sym, ◌∙◌, subst, arith, append_assoc, Option, Some, None}
-use Rattle.std.specs.Prelude.{cond, ◌==◌, ◌&&◌, nat_lt, if◌then◌else◌}
-use Rattle.std.proofs.lemmas.Bool.{cases_eq, cases_lt, false≢true, eq-eqb, eqb-true, ltb-true, lt-ltb}
-use Rattle.plain_state.specs.State.{Plain, PlainSeat, seat_at, new_seat, new_slot, no_payload}
+use Rattle.std.proofs.Common.{◌≡◌, ◌≢◌, inl, inr, ⊎_elim, ℕ, ◌+◌, ◌-◌, ◌<◌, ◌≤◌, true, List, length, set, refl, ap, sym, ◌∙◌, subst, arith}
+use Rattle.std.proofs.lemmas.Bool.{cases_lt, false≢true}
+use Rattle.plain_state.specs.State.{Plain, seat_at}
 use Rattle.plain_state.specs.Lawful.{Lawful}
-use Rattle.plain_state.specs.Steps.{Does, Replaces, word_of}
-use Rattle.plain_state.specs.Places.{content, IsOpen, IsReadable}
-use Rattle.plain_state.specs.declared.slot.SlotId.{SlotId}
-use Rattle.plain_state.specs.declared.slot.PlainSlot.{PlainSlot}
-use Rattle.plain_state.specs.declared.act.EventPlace.{EventPlace}
-use Rattle.plain_state.specs.declared.act.EventPlace.TheVariants.{Cell, Field, WeakCell, WeakField}
-use Rattle.plain_state.specs.declared.act.PlainAct.{PlainAct}
-use Rattle.plain_state.specs.declared.act.PlainAct.TheVariants as act
-use Rattle.plain_protocol.specs.Owns.{OwnPart, own_part}
-use Rattle.plain_protocol.specs.Acts.{IsCalm, IsForeign}
-use Rattle.queue_law.specs.Words.{SlotPart, slot_at, cell_at, code, read_slot, Live, LIVE, BLANK, strong_refs, weak_refs, times, held_times, life_of, payload_of, life_in, payload_in, id, first_of, second_of, back_of, whole_of, no_plain}
-use Rattle.queue_law.specs.Views.{Form, Linked, Double, Item, Taken, View, Stand, Eyes, Load, Flight, no_item, no_taken, no_eyes, sees_node, no_load, no_flight, first_view, view_of, joined, view_at}
-use Rattle.queue_law.specs.Chain.{Ends, Sent, no_sent, sent, Present, Leads, Solid, BacksTo, Missing, Lags, HoldsItem, HasItem, IsKnown, IsNode, WasLinked, HeadAt, TailAt, Chain}
-use Rattle.queue_law.specs.Notes.{Sees, SeesAt, Emptied, Carries, Flies, FliesAt, IsFlight, flown_at, HasFlight, Flights, Known}
-use Rattle.queue_law.specs.Lists.{taken, same_item, item_times, views_total, sent_items, taken_items, Counted, tagged, home, Kept, sends, Ordered}
-use Rattle.queue_law.specs.Law.{Phase, Queue, QueueLaw, Gone, WholeLaw}
-use Rattle.queue_law.specs.Writes.{SameObjects, FirstSet, SecondSet, BackSet, CellSet, Quiet, Makes, Aside}
-use Rattle.queue_law.specs.Owned.{Keeps, owns}
-use Rattle.queue_law.specs.Nodes.{MakeReady, make_next, made, given, CarryReady, carry_next, BackReady, back_next}
-use Rattle.queue_law.specs.Pushes.{PushReady, carried_item, pushed_view, LinkReady, linked_view, link_next, AdvanceReady, advance_next, ExchangeReady, takes_off, flying_view, exchange_next, LandReady, land_next, HelpReady, helped_view, help_next}
-use Rattle.queue_law.specs.Pops.{TakeReady, popped_item, popped_view, take_next, EmptyReady, empty_next}
-use Rattle.queue_law.specs.Lessons.{Reads, LearnReady, learnt, learn_next, NextReady, next_next, ItemReady, item_next, BeforeReady, before_next, EndedReady, ended_next, SetReady, set_next, AttachReady, attach_next}
-use Rattle.queue_law.specs.Opening.{LayTailReady, lay_tail_next, LayHeadReady, lay_head_next, item_of, behind, is_end, walk, waiting_in, ShutHeadReady, shut_head_next, ShutTailReady, shut_tail_next}
-use Rattle.queue_law.specs.Promises.{Follows, Far, OnChain, InFlight, OneMore, AllLinked, Waiting, Conserved, InOrder, LeftOver}
+use Rattle.plain_state.specs.Steps.{Does}
+use Rattle.plain_protocol.specs.Owns.{own_part}
+use Rattle.queue_law.specs.Words.{slot_at, cell_at, held_times, life_in}
+use Rattle.queue_law.specs.Views.{Linked, Taken, View, Load, sees_node, view_at}
+use Rattle.queue_law.specs.Chain.{Ends, Sent, sent, Present, TailAt}
+use Rattle.queue_law.specs.Notes.{Sees, SeesAt, Emptied, Carries, Flies}
+use Rattle.queue_law.specs.Law.{Queue, QueueLaw}
+use Rattle.queue_law.specs.Writes.{CellSet}
+use Rattle.queue_law.specs.Owned.{Keeps}
+use Rattle.queue_law.specs.Pushes.{AdvanceReady, advance_next}
 use Rattle.queue_law.proofs.Kit.{own_life}
 use Rattle.queue_law.proofs.Effects.{tried_cell}
 use Rattle.queue_law.proofs.Chain.{one_form, same_node}
@@ -71,19 +56,21 @@ module _ (u : Ends) (cells : u.head ≢ u.tail) (p q : Plain) (views : List View
 
   -- the node is seen, where the tail has come to it
   sees_now : (r : Plain) (t' : ℕ) → sees.0.0 + 1 ≤ t' → Sees r h (length ts) t' now.eyes
-  sees_now r t' le is_some =
-      (sees.0.0 + 1, record {
-        inside = more;
-        node = (sees.0.1.next (λ z. omega arith)).1;
-        life = life_now;
-        was_head = λ f. absurd (false≢true f);
-        was_tail = λ f. le;
-        next = λ f. absurd (f refl);
-        leads = λ f. absurd (f refl);
-        item = λ f. absurd (f refl);
-        before = λ f. absurd (f refl);
-        helped = λ f. absurd (false≢true f);
-      })
+  sees_now r t' le is_some = (
+    sees.0.0 + 1,
+    record {
+      inside = more;
+      node = (sees.0.1.next (λ z. omega arith)).1;
+      life = life_now;
+      was_head = λ f. absurd (false≢true f);
+      was_tail = λ f. le;
+      next = λ f. absurd (f refl);
+      leads = λ f. absurd (f refl);
+      item = λ f. absurd (f refl);
+      before = λ f. absurd (f refl);
+      helped = λ f. absurd (false≢true f);
+    },
+  )
 
   pub advance_done : cell_at p u.tail ≡ old + 1 → CellSet p q u.tail (new + 1)
       → Queue u q (set views n now) h ts (t + 1)
@@ -135,10 +122,19 @@ pub advance_deed : (u : Ends) → u.head ≢ u.tail → Keeps (QueueLaw u) (Adva
 advance_deed u cells p q views n v step found lawful law is stays_on r d =
     let st = tried_cell p q n u.tail r.old r.new found (subst (λ a. Does p n a found q) r.act_is d) in
     ⊎_elim
-    (λ hit. (_, _, _, advance_done u cells p q views n v r.old r.new lawful law.0 law.1 law.2 law.3 is.0 is.1
-    r.form r.held r.held_new r.seen r.seen_life r.following r.was_tail r.attached (sym st.0 ∙ hit.0) hit.2))
+    (λ hit. (
+      _,
+      _,
+      _,
+      advance_done u cells p q views n v r.old r.new lawful law.0 law.1 law.2 law.3 is.0 is.1
+          r.form r.held r.held_new r.seen r.seen_life r.following r.was_tail r.attached (sym st.0 ∙ hit.0) hit.2,
+    ))
     (λ miss. subst (λ z. QueueLaw u z (set views n (advance_next (own_part p n) (own_part q n) v step found)))
-    (sym miss.1)
-    (_, _, _, advance_lost u cells p q views n v r.old r.new lawful law.0 law.1 law.2 law.3 is.0 is.1
-    r.form r.held r.held_new r.seen r.seen_life r.following r.was_tail r.attached (λ e. miss.0 (st.0 ∙ e))))
+    (sym miss.1) (
+      _,
+      _,
+      _,
+      advance_lost u cells p q views n v r.old r.new lawful law.0 law.1 law.2 law.3 is.0 is.1
+          r.form r.held r.held_new r.seen r.seen_life r.following r.was_tail r.attached (λ e. miss.0 (st.0 ∙ e)),
+    ))
     st.1

@@ -1,35 +1,12 @@
 -- Calm steps keep the chain, and so does the setting of the missing link.
-use Rattle.std.proofs.Common.{◌≡◌, ◌≢◌, ◌⊎◌, inl, inr, ⊎_elim, ℕ, zero, suc, ◌+◌, ◌-◌, ◌<◌, ◌≤◌, Bool, true, false, List, [], ◌∷◌, ◌++◌, length, get_or, set, drop, map, sum_by, replicate, refl, ap, sym, ◌∙◌, subst, arith, append_assoc, Option, Some, None}
-use Rattle.std.specs.Prelude.{cond, ◌==◌, ◌&&◌, nat_lt, if◌then◌else◌}
-use Rattle.std.proofs.lemmas.Bool.{cases_eq, cases_lt, false≢true, eq-eqb, eqb-true, ltb-true, lt-ltb}
-use Rattle.plain_state.specs.State.{Plain, PlainSeat, seat_at, new_seat, new_slot, no_payload}
-use Rattle.plain_state.specs.Lawful.{Lawful}
-use Rattle.plain_state.specs.Steps.{Does, Replaces, word_of}
-use Rattle.plain_state.specs.Places.{content, IsOpen, IsReadable}
-use Rattle.plain_state.specs.declared.slot.SlotId.{SlotId}
-use Rattle.plain_state.specs.declared.slot.PlainSlot.{PlainSlot}
-use Rattle.plain_state.specs.declared.act.EventPlace.{EventPlace}
-use Rattle.plain_state.specs.declared.act.EventPlace.TheVariants.{Cell, Field, WeakCell, WeakField}
-use Rattle.plain_state.specs.declared.act.PlainAct.{PlainAct}
-use Rattle.plain_state.specs.declared.act.PlainAct.TheVariants as act
-use Rattle.plain_protocol.specs.Owns.{OwnPart, own_part}
-use Rattle.plain_protocol.specs.Acts.{IsCalm, IsForeign}
-use Rattle.queue_law.specs.Words.{SlotPart, slot_at, cell_at, code, read_slot, Live, LIVE, BLANK, strong_refs, weak_refs, times, held_times, life_of, payload_of, life_in, payload_in, id, first_of, second_of, back_of, whole_of, no_plain}
-use Rattle.queue_law.specs.Views.{Form, Linked, Double, Item, Taken, View, Stand, Eyes, Load, Flight, no_item, no_taken, no_eyes, sees_node, no_load, no_flight, first_view, view_of, joined, view_at}
-use Rattle.queue_law.specs.Chain.{Ends, Sent, no_sent, sent, Present, Leads, Solid, BacksTo, Missing, Lags, HoldsItem, HasItem, IsKnown, IsNode, WasLinked, HeadAt, TailAt, Chain}
-use Rattle.queue_law.specs.Notes.{Sees, SeesAt, Emptied, Carries, Flies, FliesAt, IsFlight, flown_at, HasFlight, Flights, Known}
-use Rattle.queue_law.specs.Lists.{taken, same_item, item_times, views_total, sent_items, taken_items, Counted, tagged, home, Kept, sends, Ordered}
-use Rattle.queue_law.specs.Law.{Phase, Queue, QueueLaw, Gone, WholeLaw}
-use Rattle.queue_law.specs.Writes.{SameObjects, FirstSet, SecondSet, BackSet, CellSet, Quiet, Makes, Aside}
-use Rattle.queue_law.specs.Owned.{Keeps, owns}
-use Rattle.queue_law.specs.Nodes.{MakeReady, make_next, made, given, CarryReady, carry_next, BackReady, back_next}
-use Rattle.queue_law.specs.Pushes.{PushReady, carried_item, pushed_view, LinkReady, linked_view, link_next, AdvanceReady, advance_next, ExchangeReady, takes_off, flying_view, exchange_next, LandReady, land_next, HelpReady, helped_view, help_next}
-use Rattle.queue_law.specs.Pops.{TakeReady, popped_item, popped_view, take_next, EmptyReady, empty_next}
-use Rattle.queue_law.specs.Lessons.{Reads, LearnReady, learnt, learn_next, NextReady, next_next, ItemReady, item_next, BeforeReady, before_next, EndedReady, ended_next, SetReady, set_next, AttachReady, attach_next}
-use Rattle.queue_law.specs.Opening.{LayTailReady, lay_tail_next, LayHeadReady, lay_head_next, item_of, behind, is_end, walk, waiting_in, ShutHeadReady, shut_head_next, ShutTailReady, shut_tail_next}
-use Rattle.queue_law.specs.Promises.{Follows, Far, OnChain, InFlight, OneMore, AllLinked, Waiting, Conserved, InOrder, LeftOver}
+use Rattle.std.proofs.Common.{◌≡◌, ◌≢◌, ◌⊎◌, inl, inr, ⊎_elim, ℕ, ◌+◌, ◌-◌, ◌<◌, List, length, ap, sym, ◌∙◌, subst, arith}
+use Rattle.std.proofs.lemmas.Bool.{cases_eq}
+use Rattle.plain_state.specs.State.{Plain}
+use Rattle.queue_law.specs.Words.{slot_at, strong_refs}
+use Rattle.queue_law.specs.Chain.{Ends, Sent, sent, Present, Leads, Solid, Missing, WasLinked, HeadAt, TailAt, Chain}
+use Rattle.queue_law.specs.Writes.{FirstSet, Quiet}
 use Rattle.queue_law.proofs.Kit.{refs_cell, refs_first, refs_second, refs_back}
-use Rattle.queue_law.proofs.Chain.{present_on, the_tail, head_some, tail_last, leads_passed, missing_null, same_node, same_present, was_present, same_solid, same_known, same_is_node, same_head, same_tail}
+use Rattle.queue_law.proofs.Chain.{present_on, the_tail, head_some, tail_last, missing_null, same_node, same_present, was_present, same_solid, same_known, same_is_node, same_head, same_tail}
 
 -- CALM: what is referred to stays
 module _ (u : Ends) (p q : Plain) (h : List Sent) (k t : ℕ) (c : Chain u p h k t) (w : Quiet p q) where
@@ -146,9 +123,10 @@ module _ (u : Ends) (p q : Plain) (h : List Sent) (k t i : ℕ) (c : Chain u p h
       (λ e. subst (Leads q h) (sym e) leads_here)
       (λ ne.
       let pr = was (sent h j) at in
-      let y = l ne in
-      (w.other (sent h j).node (other j (omega arith) ne pr) ∙ y.0,
-      same_present p q w.objects (sent h (j + 1)) y.1))
+      let y = l ne in (
+        w.other (sent h j).node (other j (omega arith) ne pr) ∙ y.0,
+        same_present p q w.objects (sent h (j + 1)) y.1,
+      ))
       (cases_eq j i)
 
   pub lead_set : (j : ℕ) → j + 1 < length h → (Present p (sent h j) → Leads p h j)
@@ -176,8 +154,12 @@ module _ (u : Ends) (p q : Plain) (h : List Sent) (k t i : ℕ) (c : Chain u p h
         first_back = λ double lz at. w.back _ ∙ c.first_back double lz (was (sent h 0) at);
         strays = λ s live node not.
             w.other s
-            (λ is. not (i, omega arith, sym is,
-            sym here.1 ∙ (ap (λ z. (slot_at p z).life) (sym is) ∙ sym (o.life s))))
+            (λ is. not (
+              i,
+              omega arith,
+              sym is,
+              sym here.1 ∙ (ap (λ z. (slot_at p z).life) (sym is) ∙ sym (o.life s)),
+            ))
             ∙ c.strays s (sym (o.stage s) ∙ live) (sym (o.payload s) ∙ node)
             (λ l. not (subst (WasLinked h s) (sym (o.life s)) l));
         apart = c.apart;

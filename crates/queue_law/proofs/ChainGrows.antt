@@ -1,33 +1,11 @@
 -- A node is linked: by the exchange of the tail cell, or by field 0 of the last node.
-use Rattle.std.proofs.Common.{◌≡◌, ◌≢◌, ◌⊎◌, inl, inr, ⊎_elim, ℕ, zero, suc, ◌+◌, ◌-◌, ◌<◌, ◌≤◌, Bool, true, false, List, [], ◌∷◌, ◌++◌, length, get_or, set, drop, map, sum_by, replicate, refl, ap, sym, ◌∙◌, subst, arith, append_assoc, Option, Some, None}
-use Rattle.std.specs.Prelude.{cond, ◌==◌, ◌&&◌, nat_lt, if◌then◌else◌}
-use Rattle.std.proofs.lemmas.Bool.{cases_eq, cases_lt, false≢true, eq-eqb, eqb-true, ltb-true, lt-ltb}
-use Rattle.plain_state.specs.State.{Plain, PlainSeat, seat_at, new_seat, new_slot, no_payload}
-use Rattle.plain_state.specs.Lawful.{Lawful}
-use Rattle.plain_state.specs.Steps.{Does, Replaces, word_of}
-use Rattle.plain_state.specs.Places.{content, IsOpen, IsReadable}
-use Rattle.plain_state.specs.declared.slot.SlotId.{SlotId}
-use Rattle.plain_state.specs.declared.slot.PlainSlot.{PlainSlot}
-use Rattle.plain_state.specs.declared.act.EventPlace.{EventPlace}
-use Rattle.plain_state.specs.declared.act.EventPlace.TheVariants.{Cell, Field, WeakCell, WeakField}
-use Rattle.plain_state.specs.declared.act.PlainAct.{PlainAct}
-use Rattle.plain_state.specs.declared.act.PlainAct.TheVariants as act
-use Rattle.plain_protocol.specs.Owns.{OwnPart, own_part}
-use Rattle.plain_protocol.specs.Acts.{IsCalm, IsForeign}
-use Rattle.queue_law.specs.Words.{SlotPart, slot_at, cell_at, code, read_slot, Live, LIVE, BLANK, strong_refs, weak_refs, times, held_times, life_of, payload_of, life_in, payload_in, id, first_of, second_of, back_of, whole_of, no_plain}
-use Rattle.queue_law.specs.Views.{Form, Linked, Double, Item, Taken, View, Stand, Eyes, Load, Flight, no_item, no_taken, no_eyes, sees_node, no_load, no_flight, first_view, view_of, joined, view_at}
-use Rattle.queue_law.specs.Chain.{Ends, Sent, no_sent, sent, Present, Leads, Solid, BacksTo, Missing, Lags, HoldsItem, HasItem, IsKnown, IsNode, WasLinked, HeadAt, TailAt, Chain}
-use Rattle.queue_law.specs.Notes.{Sees, SeesAt, Emptied, Carries, Flies, FliesAt, IsFlight, flown_at, HasFlight, Flights, Known}
-use Rattle.queue_law.specs.Lists.{taken, same_item, item_times, views_total, sent_items, taken_items, Counted, tagged, home, Kept, sends, Ordered}
-use Rattle.queue_law.specs.Law.{Phase, Queue, QueueLaw, Gone, WholeLaw}
-use Rattle.queue_law.specs.Writes.{SameObjects, FirstSet, SecondSet, BackSet, CellSet, Quiet, Makes, Aside}
-use Rattle.queue_law.specs.Owned.{Keeps, owns}
-use Rattle.queue_law.specs.Nodes.{MakeReady, make_next, made, given, CarryReady, carry_next, BackReady, back_next}
-use Rattle.queue_law.specs.Pushes.{PushReady, carried_item, pushed_view, LinkReady, linked_view, link_next, AdvanceReady, advance_next, ExchangeReady, takes_off, flying_view, exchange_next, LandReady, land_next, HelpReady, helped_view, help_next}
-use Rattle.queue_law.specs.Pops.{TakeReady, popped_item, popped_view, take_next, EmptyReady, empty_next}
-use Rattle.queue_law.specs.Lessons.{Reads, LearnReady, learnt, learn_next, NextReady, next_next, ItemReady, item_next, BeforeReady, before_next, EndedReady, ended_next, SetReady, set_next, AttachReady, attach_next}
-use Rattle.queue_law.specs.Opening.{LayTailReady, lay_tail_next, LayHeadReady, lay_head_next, item_of, behind, is_end, walk, waiting_in, ShutHeadReady, shut_head_next, ShutTailReady, shut_tail_next}
-use Rattle.queue_law.specs.Promises.{Follows, Far, OnChain, InFlight, OneMore, AllLinked, Waiting, Conserved, InOrder, LeftOver}
+use Rattle.std.proofs.Common.{◌≡◌, ◌≢◌, ◌⊎◌, inl, inr, ⊎_elim, ℕ, ◌+◌, ◌<◌, ◌≤◌, List, [], ◌∷◌, ◌++◌, length, refl, ap, sym, ◌∙◌, subst, arith}
+use Rattle.std.proofs.lemmas.Bool.{cases_lt}
+use Rattle.plain_state.specs.State.{Plain}
+use Rattle.queue_law.specs.Words.{slot_at, cell_at}
+use Rattle.queue_law.specs.Views.{Linked, Double}
+use Rattle.queue_law.specs.Chain.{Ends, Sent, sent, Present, Leads, Solid, BacksTo, HasItem, IsKnown, IsNode, WasLinked, HeadAt, Chain}
+use Rattle.queue_law.specs.Writes.{SameObjects, FirstSet, CellSet}
 use Rattle.queue_law.proofs.Chain.{lag_is, lag_double, lag_linked, leads_linked, is_last, same_node, old_node, new_node, longer, linked_more, same_present, was_present, same_solid, same_has, same_known, same_is_node, same_tail_at}
 
 -- a write that changes no object and no field 1, with a node e that the history gains
@@ -61,9 +39,11 @@ module _ (u : Ends) (p q : Plain) (h : List Sent) (k t : ℕ) (e : Sent) (c : Ch
       → Leads q grown j
   lead_old j jl same l =
       let a = old_node h e j (omega arith) in
-      let b = old_node h e (j + 1) jl in
-      (ap (λ (z : Sent). (slot_at q z.node).first) a
-      ∙ (same ∙ (l.0 ∙ ap (λ (z : Sent). z.node + 1) (sym b))), keep (j + 1) jl l.1)
+      let b = old_node h e (j + 1) jl in (
+        ap (λ (z : Sent). (slot_at q z.node).first) a
+            ∙ (same ∙ (l.0 ∙ ap (λ (z : Sent). z.node + 1) (sym b))),
+        keep (j + 1) jl l.1,
+      )
 
   pub head_grown : cell_at q u.head ≡ cell_at p u.head → (cell_at p u.head ≡ 0) ⊎ HeadAt u p h k
       → (cell_at q u.head ≡ 0) ⊎ HeadAt u q grown k
@@ -93,15 +73,21 @@ module _ (u : Ends) (p q : Plain) (h : List Sent) (k t : ℕ) (e : Sent) (c : Ch
       (ap (λ (z : Sent). z.node) (sym oa) ∙ (sn ∙ ap (λ (z : Sent). z.node) ob))
       (ap (λ (z : Sent). z.life) (sym oa) ∙ (sl ∙ ap (λ (z : Sent). z.life) ob)))
       (λ pb. let oa = old_node h e a ia in let ob = new_node h e b (omega arith) in
-      absurd (unlinked (a, ia,
-      ap (λ (z : Sent). z.node) (sym oa) ∙ (sn ∙ ap (λ (z : Sent). z.node) ob),
-      ap (λ (z : Sent). z.life) (sym oa) ∙ (sl ∙ ap (λ (z : Sent). z.life) ob))))
+      absurd (unlinked (
+        a,
+        ia,
+        ap (λ (z : Sent). z.node) (sym oa) ∙ (sn ∙ ap (λ (z : Sent). z.node) ob),
+        ap (λ (z : Sent). z.life) (sym oa) ∙ (sl ∙ ap (λ (z : Sent). z.life) ob),
+      )))
       (cases_lt b (length h)))
       (λ pa. ⊎_elim
       (λ ib. let oa = new_node h e a (omega arith) in let ob = old_node h e b ib in
-      absurd (unlinked (b, ib,
-      ap (λ (z : Sent). z.node) (sym ob) ∙ (sym sn ∙ ap (λ (z : Sent). z.node) oa),
-      ap (λ (z : Sent). z.life) (sym ob) ∙ (sym sl ∙ ap (λ (z : Sent). z.life) oa))))
+      absurd (unlinked (
+        b,
+        ib,
+        ap (λ (z : Sent). z.node) (sym ob) ∙ (sym sn ∙ ap (λ (z : Sent). z.node) oa),
+        ap (λ (z : Sent). z.life) (sym ob) ∙ (sym sl ∙ ap (λ (z : Sent). z.life) oa),
+      )))
       (λ pb. omega arith)
       (cases_lt b (length h)))
       (cases_lt a (length h))
@@ -155,18 +141,20 @@ module _ (u : Ends) (cells : u.head ≢ u.tail) (p q : Plain) (h : List Sent) (k
       ⊎_elim
       (λ inner.
       let b = old_node h e (j + 1) inner in
-      let x = c.backs double j inner (now_keep (j + 1) inner at) in
-      (ap (λ (z : Sent). (slot_at q z.node).back) b
-      ∙ (w.back (sent h (j + 1)).node ∙ (x.0 ∙ ap (λ (z : Sent). z.node + 1) (sym a))),
-      subst (λ (z : Sent). Solid q z.node z.life) (sym a) (same_solid p q w.objects _ _ x.1)))
+      let x = c.backs double j inner (now_keep (j + 1) inner at) in (
+        ap (λ (z : Sent). (slot_at q z.node).back) b
+            ∙ (w.back (sent h (j + 1)).node ∙ (x.0 ∙ ap (λ (z : Sent). z.node + 1) (sym a))),
+        subst (λ (z : Sent). Solid q z.node z.life) (sym a) (same_solid p q w.objects _ _ x.1),
+      ))
       (λ past.
       let b = new_node h e (j + 1) (omega arith) in
-      let is : t ≡ j = omega arith in
-      (ap (λ (z : Sent). (slot_at q z.node).back) b
-      ∙ (w.back e.node
-      ∙ (backs ∙ (ap (λ z. (sent h z).node + 1) is ∙ ap (λ (z : Sent). z.node + 1) (sym a)))),
-      subst (λ (z : Sent). Solid q z.node z.life) (sym a)
-      (subst (λ z. Solid q (sent h z).node (sent h z).life) is (same_solid p q w.objects _ _ solid))))
+      let is : t ≡ j = omega arith in (
+        ap (λ (z : Sent). (slot_at q z.node).back) b
+            ∙ (w.back e.node
+            ∙ (backs ∙ (ap (λ z. (sent h z).node + 1) is ∙ ap (λ (z : Sent). z.node + 1) (sym a)))),
+        subst (λ (z : Sent). Solid q z.node z.life) (sym a)
+            (subst (λ z. Solid q (sent h z).node (sent h z).life) is (same_solid p q w.objects _ _ solid)),
+      ))
       (cases_lt (j + 1) (length h))
 
   pub exchange_chain : k < length h → Chain u q (h ++ e ∷ []) k (length h)
@@ -241,11 +229,12 @@ module _ (u : Ends) (p q : Plain) (h : List Sent) (k t i : ℕ) (e : Sent) (c : 
       let y = link_last in
       let same : j ≡ i = omega arith in
       let a = old_node h e j (omega arith) in
-      let b = new_node h e (j + 1) (sym is) in
-      (ap (λ (z : Sent). (slot_at q z.node).first) a
-      ∙ (ap (λ z. (slot_at q (sent h z).node).first) same
-      ∙ (w.here ∙ ap (λ (z : Sent). z.node + 1) (sym b))),
-      new_at u p q h k t e c w.objects w.second new unlinked item (j + 1) (sym is))
+      let b = new_node h e (j + 1) (sym is) in (
+        ap (λ (z : Sent). (slot_at q z.node).first) a
+            ∙ (ap (λ z. (slot_at q (sent h z).node).first) same
+            ∙ (w.here ∙ ap (λ (z : Sent). z.node + 1) (sym b))),
+        new_at u p q h k t e c w.objects w.second new unlinked item (j + 1) (sym is),
+      )
 
   pub link_chain : Chain u q (h ++ e ∷ []) k t
   link_chain =

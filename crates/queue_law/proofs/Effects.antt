@@ -1,27 +1,23 @@
 -- What each step of the real plain state does to the places and objects that a queue reads.
-use Rattle.std.proofs.Common.{◌≡◌, ◌≢◌, ◌⊎◌, inl, inr, ⊎_elim, ℕ, zero, suc, ◌+◌, ◌<◌, ◌≤◌, Bool, true, false, List, [], ◌∷◌, length, get_or, set, refl, ap, sym, ◌∙◌, subst, arith, Option, Some, None}
-use Rattle.std.specs.Prelude.{if◌then◌else◌}
-use Rattle.std.proofs.lemmas.List.{get_or-set_same, get_or-set_other, set_past, get_or_past}
-use Rattle.std.proofs.lemmas.Bool.{cases_eq, cases_lt, false≢true}
-use Rattle.plain_state.specs.declared.act.EventPlace.{EventPlace}
-use Rattle.plain_state.specs.declared.act.EventPlace.TheVariants.{Cell, Field, WeakCell, WeakField}
+use Rattle.std.proofs.Common.{◌≡◌, ◌≢◌, ◌⊎◌, inl, inr, ⊎_elim, ℕ, ◌+◌, ◌<◌, length, get_or, set, refl, ap, sym, ◌∙◌, subst, arith, Option, Some, None}
+use Rattle.std.proofs.lemmas.List.{get_or-set_same, get_or-set_other, get_or_past}
+use Rattle.std.proofs.lemmas.Bool.{cases_eq, cases_lt}
+use Rattle.plain_state.specs.declared.act.EventPlace.TheVariants.{Cell}
 use Rattle.plain_state.specs.declared.act.PlainAct.{PlainAct}
 use Rattle.plain_state.specs.declared.act.PlainAct.TheVariants as act
 use Rattle.plain_state.specs.declared.slot.SlotId.{SlotId}
 use Rattle.plain_state.specs.declared.slot.PlainSlot.{PlainSlot}
-use Rattle.plain_state.specs.declared.slot.Kind.TheVariants.{Strong, Weak}
-use Rattle.plain_state.specs.declared.slot.Stage.TheVariants as stage
+use Rattle.plain_state.specs.declared.slot.Kind.TheVariants.{Strong}
 use Rattle.plain_state.specs.State.{Plain, PlainSeat, seat_at, new_slot, with_slot}
 use Rattle.plain_state.specs.State as state
 use Rattle.plain_state.specs.Lawful.{Lawful}
-use Rattle.plain_state.specs.Places.{content, with_content, with_field, field_of, place_kind}
 use Rattle.plain_state.specs.Steps.{word_of, Does, Replaces, GivesUp}
-use Rattle.plain_state.proofs.Kit.{slot_is, times_lost}
+use Rattle.plain_state.proofs.Kit.{times_lost}
 use Rattle.plain_protocol.specs.Acts.{IsCalm}
 use Rattle.plain_protocol.proofs.Calm.{calm_leaves}
 use Rattle.queue_law.proofs.Quiet as quiet
-use Rattle.queue_law.specs.Words.{SlotPart, slot_at, cell_at, code, read_slot, Live, LIVE, BLANK, strong_refs, weak_refs, times, held_times, life_of, payload_of, life_in, payload_in, id, first_of, second_of, back_of, whole_of, no_plain}
-use Rattle.queue_law.specs.Writes.{SameObjects, FirstSet, SecondSet, BackSet, CellSet, Quiet, Makes, Aside}
+use Rattle.queue_law.specs.Words.{slot_at, cell_at, code, read_slot, Live, BLANK, times, held_times, id, first_of, second_of, back_of}
+use Rattle.queue_law.specs.Writes.{SameObjects, FirstSet, SecondSet, BackSet, CellSet, Quiet, Makes}
 use Rattle.queue_law.proofs.Kit.{word_some, word_none, live_code, blank_code, held_live}
 
 -- CALM

@@ -1,37 +1,21 @@
 -- The deciding exchange of a push, in a doubly linked queue.
-use Rattle.std.proofs.Common.{◌≡◌, ◌≢◌, ◌⊎◌, inl, inr, ⊎_elim, ℕ, zero, suc, ◌+◌, ◌-◌, ◌<◌, ◌≤◌, Bool, true, false, List, [], ◌∷◌, ◌++◌, length, get_or, set, drop, map, sum_by, replicate, refl, ap, sym, ◌∙◌, subst, arith, append_assoc, Option, Some, None}
-use Rattle.std.specs.Prelude.{cond, ◌==◌, ◌&&◌, nat_lt, if◌then◌else◌}
-use Rattle.std.proofs.lemmas.Bool.{cases_eq, cases_lt, false≢true, eq-eqb, eqb-true, ltb-true, lt-ltb}
-use Rattle.plain_state.specs.State.{Plain, PlainSeat, seat_at, new_seat, new_slot, no_payload}
+use Rattle.std.proofs.Common.{◌≡◌, ◌≢◌, inl, ⊎_elim, ℕ, ◌+◌, ◌<◌, true, List, [], ◌∷◌, ◌++◌, length, set, ap, sym, ◌∙◌, subst, arith}
+use Rattle.plain_state.specs.State.{Plain, seat_at}
 use Rattle.plain_state.specs.Lawful.{Lawful}
-use Rattle.plain_state.specs.Steps.{Does, Replaces, word_of}
-use Rattle.plain_state.specs.Places.{content, IsOpen, IsReadable}
-use Rattle.plain_state.specs.declared.slot.SlotId.{SlotId}
-use Rattle.plain_state.specs.declared.slot.PlainSlot.{PlainSlot}
-use Rattle.plain_state.specs.declared.act.EventPlace.{EventPlace}
-use Rattle.plain_state.specs.declared.act.EventPlace.TheVariants.{Cell, Field, WeakCell, WeakField}
-use Rattle.plain_state.specs.declared.act.PlainAct.{PlainAct}
-use Rattle.plain_state.specs.declared.act.PlainAct.TheVariants as act
-use Rattle.plain_protocol.specs.Owns.{OwnPart, own_part}
-use Rattle.plain_protocol.specs.Acts.{IsCalm, IsForeign}
-use Rattle.queue_law.specs.Words.{SlotPart, slot_at, cell_at, code, read_slot, Live, LIVE, BLANK, strong_refs, weak_refs, times, held_times, life_of, payload_of, life_in, payload_in, id, first_of, second_of, back_of, whole_of, no_plain}
-use Rattle.queue_law.specs.Views.{Form, Linked, Double, Item, Taken, View, Stand, Eyes, Load, Flight, no_item, no_taken, no_eyes, sees_node, no_load, no_flight, first_view, view_of, joined, view_at}
-use Rattle.queue_law.specs.Chain.{Ends, Sent, no_sent, sent, Present, Leads, Solid, BacksTo, Missing, Lags, HoldsItem, HasItem, IsKnown, IsNode, WasLinked, HeadAt, TailAt, Chain}
-use Rattle.queue_law.specs.Notes.{Sees, SeesAt, Emptied, Carries, Flies, FliesAt, IsFlight, flown_at, HasFlight, Flights, Known}
-use Rattle.queue_law.specs.Lists.{taken, same_item, item_times, views_total, sent_items, taken_items, Counted, tagged, home, Kept, sends, Ordered}
-use Rattle.queue_law.specs.Law.{Phase, Queue, QueueLaw, Gone, WholeLaw}
-use Rattle.queue_law.specs.Writes.{SameObjects, FirstSet, SecondSet, BackSet, CellSet, Quiet, Makes, Aside}
-use Rattle.queue_law.specs.Owned.{Keeps, owns}
-use Rattle.queue_law.specs.Nodes.{MakeReady, make_next, made, given, CarryReady, carry_next, BackReady, back_next}
-use Rattle.queue_law.specs.Pushes.{PushReady, carried_item, pushed_view, LinkReady, linked_view, link_next, AdvanceReady, advance_next, ExchangeReady, takes_off, flying_view, exchange_next, LandReady, land_next, HelpReady, helped_view, help_next}
-use Rattle.queue_law.specs.Pops.{TakeReady, popped_item, popped_view, take_next, EmptyReady, empty_next}
-use Rattle.queue_law.specs.Lessons.{Reads, LearnReady, learnt, learn_next, NextReady, next_next, ItemReady, item_next, BeforeReady, before_next, EndedReady, ended_next, SetReady, set_next, AttachReady, attach_next}
-use Rattle.queue_law.specs.Opening.{LayTailReady, lay_tail_next, LayHeadReady, lay_head_next, item_of, behind, is_end, walk, waiting_in, ShutHeadReady, shut_head_next, ShutTailReady, shut_tail_next}
-use Rattle.queue_law.specs.Promises.{Follows, Far, OnChain, InFlight, OneMore, AllLinked, Waiting, Conserved, InOrder, LeftOver}
+use Rattle.plain_state.specs.Steps.{Does}
+use Rattle.plain_protocol.specs.Owns.{own_part}
+use Rattle.queue_law.specs.Words.{slot_at, cell_at, times, held_times}
+use Rattle.queue_law.specs.Views.{Double, Taken, View, view_at}
+use Rattle.queue_law.specs.Chain.{Ends, Sent, sent, Present, Leads, Solid, HasItem, WasLinked, TailAt}
+use Rattle.queue_law.specs.Notes.{Sees, SeesAt, Flies, HasFlight, Flights}
+use Rattle.queue_law.specs.Law.{Queue, QueueLaw}
+use Rattle.queue_law.specs.Writes.{CellSet}
+use Rattle.queue_law.specs.Owned.{Keeps}
+use Rattle.queue_law.specs.Pushes.{PushReady, carried_item, ExchangeReady, takes_off, flying_view, exchange_next}
 use Rattle.queue_law.proofs.Kit.{held_live, own_life}
 use Rattle.queue_law.proofs.Effects.{tried_cell}
 use Rattle.queue_law.proofs.Chain.{the_tail, the_head, tail_last, present_in, same_node, old_node, new_node, longer}
-use Rattle.queue_law.proofs.ChainGrows.{was, lead_exchange, exchange_chain}
+use Rattle.queue_law.proofs.ChainGrows.{lead_exchange, exchange_chain}
 use Rattle.queue_law.proofs.Notes.{grows, LeadsOn, sees_on, view_here}
 use Rattle.queue_law.proofs.Calm.{same_law, to_true, to_false}
 use Rattle.queue_law.proofs.Pushing.{push_attached, push_sees, push_carries, push_live, push_life, push_new, push_unlinked, push_has, push_keeps}
@@ -111,26 +95,29 @@ module _ (u : Ends) (cells : u.head ≢ u.tail) (p q : Plain) (views : List View
       let l = ends in
       let i = is_last_one in
       let f = r.fresh in
-      let lows = s.inside in
-      (t, record {
-        inside = omega arith;
-        prev =
-            ap (λ (z : Sent). z.node + 1) (old_node h e t (omega arith))
-            ∙ (ap (λ z. (sent h z).node + 1) (sym i) ∙ s.node);
-        prev_life =
-            ap (λ (z : Sent). z.life) (old_node h e t (omega arith))
-            ∙ (ap (λ z. (sent h z).life) (sym i) ∙ s.life);
-        node = ap (λ (z : Sent). z.node + 1) (new_node h e (t + 1) (sym l)) ∙ sym f;
-        life = ap (λ (z : Sent). z.life) (new_node h e (t + 1) (sym l));
-      })
+      let lows = s.inside in (
+        t,
+        record {
+          inside = omega arith;
+          prev =
+              ap (λ (z : Sent). z.node + 1) (old_node h e t (omega arith))
+              ∙ (ap (λ z. (sent h z).node + 1) (sym i) ∙ s.node);
+          prev_life =
+              ap (λ (z : Sent). z.life) (old_node h e t (omega arith))
+              ∙ (ap (λ z. (sent h z).life) (sym i) ∙ s.life);
+          node = ap (λ (z : Sent). z.node + 1) (new_node h e (t + 1) (sym l)) ∙ sym f;
+          life = ap (λ (z : Sent). z.life) (new_node h e (t + 1) (sym l));
+        },
+      )
 
   flights_now : Flights u q (h ++ e ∷ []) (set views n (flying_view v))
   flights_now d i is at_i null =
       let z = longer h e in
-      let is_new = new_node h e (i + 1) (omega arith) in
-      (n,
-      subst (HasFlight (sent (h ++ e ∷ []) (i + 1))) (sym (view_here views n (flying_view v) low))
-      (inl (ap (λ (z : Sent). z.node + 1) is_new ∙ sym r.fresh, ap (λ (z : Sent). z.life) is_new)))
+      let is_new = new_node h e (i + 1) (omega arith) in (
+        n,
+        subst (HasFlight (sent (h ++ e ∷ []) (i + 1))) (sym (view_here views n (flying_view v) low))
+            (inl (ap (λ (z : Sent). z.node + 1) is_new ∙ sym r.fresh, ap (λ (z : Sent). z.life) is_new)),
+      )
 
   pub exchange_keeps : Queue u q (set views n (flying_view v)) (h ++ e ∷ []) ts (length h)
   exchange_keeps =

@@ -1,37 +1,18 @@
 -- What the law gives: what waits, and in which order.
-use Rattle.std.proofs.Common.{◌≡◌, ◌≢◌, ◌⊎◌, inl, inr, ⊎_elim, ℕ, zero, suc, ◌+◌, ◌-◌, ◌<◌, ◌≤◌, Bool, true, false, List, [], ◌∷◌, ◌++◌, length, get_or, set, drop, map, sum_by, replicate, refl, ap, sym, ◌∙◌, subst, arith, append_assoc, Option, Some, None}
-use Rattle.std.specs.Prelude.{cond, ◌==◌, ◌&&◌, nat_lt, if◌then◌else◌}
-use Rattle.std.proofs.lemmas.Bool.{cases_eq, cases_lt, false≢true, eq-eqb, eqb-true, ltb-true, lt-ltb}
-use Rattle.plain_state.specs.State.{Plain, PlainSeat, seat_at, new_seat, new_slot, no_payload}
-use Rattle.plain_state.specs.Lawful.{Lawful}
-use Rattle.plain_state.specs.Steps.{Does, Replaces, word_of}
-use Rattle.plain_state.specs.Places.{content, IsOpen, IsReadable}
-use Rattle.plain_state.specs.declared.slot.SlotId.{SlotId}
-use Rattle.plain_state.specs.declared.slot.PlainSlot.{PlainSlot}
-use Rattle.plain_state.specs.declared.act.EventPlace.{EventPlace}
-use Rattle.plain_state.specs.declared.act.EventPlace.TheVariants.{Cell, Field, WeakCell, WeakField}
-use Rattle.plain_state.specs.declared.act.PlainAct.{PlainAct}
-use Rattle.plain_state.specs.declared.act.PlainAct.TheVariants as act
-use Rattle.plain_protocol.specs.Owns.{OwnPart, own_part}
-use Rattle.plain_protocol.specs.Acts.{IsCalm, IsForeign}
-use Rattle.queue_law.specs.Words.{SlotPart, slot_at, cell_at, code, read_slot, Live, LIVE, BLANK, strong_refs, weak_refs, times, held_times, life_of, payload_of, life_in, payload_in, id, first_of, second_of, back_of, whole_of, no_plain}
-use Rattle.queue_law.specs.Views.{Form, Linked, Double, Item, Taken, View, Stand, Eyes, Load, Flight, no_item, no_taken, no_eyes, sees_node, no_load, no_flight, first_view, view_of, joined, view_at}
-use Rattle.queue_law.specs.Chain.{Ends, Sent, no_sent, sent, Present, Leads, Solid, BacksTo, Missing, Lags, HoldsItem, HasItem, IsKnown, IsNode, WasLinked, HeadAt, TailAt, Chain}
-use Rattle.queue_law.specs.Notes.{Sees, SeesAt, Emptied, Carries, Flies, FliesAt, IsFlight, flown_at, HasFlight, Flights, Known}
-use Rattle.queue_law.specs.Lists.{taken, same_item, item_times, views_total, sent_items, taken_items, Counted, tagged, home, Kept, sends, Ordered}
-use Rattle.queue_law.specs.Law.{Phase, Queue, QueueLaw, Gone, WholeLaw}
-use Rattle.queue_law.specs.Writes.{SameObjects, FirstSet, SecondSet, BackSet, CellSet, Quiet, Makes, Aside}
-use Rattle.queue_law.specs.Owned.{Keeps, owns}
-use Rattle.queue_law.specs.Nodes.{MakeReady, make_next, made, given, CarryReady, carry_next, BackReady, back_next}
-use Rattle.queue_law.specs.Pushes.{PushReady, carried_item, pushed_view, LinkReady, linked_view, link_next, AdvanceReady, advance_next, ExchangeReady, takes_off, flying_view, exchange_next, LandReady, land_next, HelpReady, helped_view, help_next}
-use Rattle.queue_law.specs.Pops.{TakeReady, popped_item, popped_view, take_next, EmptyReady, empty_next}
-use Rattle.queue_law.specs.Lessons.{Reads, LearnReady, learnt, learn_next, NextReady, next_next, AheadReady, ahead_next, ItemReady, item_next, BeforeReady, before_next, EndedReady, ended_next, SetReady, set_next, AttachReady, attach_next, NothingLinked, NextTells, AheadTells, ItemTells, AttachTells, TellsNothing}
-use Rattle.queue_law.specs.Opening.{LayTailReady, lay_tail_next, LayHeadReady, lay_head_next, item_of, behind, is_end, walk, waiting_in, ShutHeadReady, shut_head_next, ShutTailReady, shut_tail_next}
-use Rattle.queue_law.specs.Promises.{Follows, Far, OnChain, InFlight, OneMore, AllLinked, Waiting, Conserved, InOrder, LeftOver}
+use Rattle.std.proofs.Common.{◌≡◌, ◌≢◌, inl, inr, ⊎_elim, ℕ, zero, suc, ◌+◌, ◌-◌, ◌<◌, ◌≤◌, List, [], ◌∷◌, ◌++◌, length, get_or, drop, map, refl, ap, sym, ◌∙◌, subst, arith}
+use Rattle.std.specs.Prelude.{cond}
+use Rattle.std.proofs.lemmas.Bool.{cases_lt}
+use Rattle.plain_state.specs.State.{Plain}
+use Rattle.queue_law.specs.Words.{slot_at, cell_at}
+use Rattle.queue_law.specs.Views.{Item, Taken, View, no_item, view_at}
+use Rattle.queue_law.specs.Chain.{Ends, Sent, no_sent, sent, Leads, Missing, HeadAt, TailAt, Chain}
+use Rattle.queue_law.specs.Notes.{HasFlight, Flights}
+use Rattle.queue_law.specs.Lists.{taken, same_item, item_times, sent_items, taken_items, sends}
+use Rattle.queue_law.specs.Law.{QueueLaw}
+use Rattle.queue_law.specs.Promises.{Follows, Far, Waiting, Conserved, InOrder}
 use Rattle.std.proofs.lemmas.List.{drop_more}
 use Rattle.std.proofs.lemmas.List.Sums.{sum_by-cons}
 use Rattle.queue_law.proofs.Chain.{the_tail, the_head, tail_last, leads_inner, chain_present, same_node}
-use Rattle.queue_law.proofs.Land.{on}
 
 past_all : {A : Type 0} (n : ℕ) (l : List A) → length l ≤ n → drop n l ≡ []
 past_all zero [] e = refl
@@ -102,9 +83,11 @@ module _ (u : Ends) (p : Plain) (h : List Sent) (k t : ℕ) (c : Chain u p h k t
             same = seg_all k m h (omega arith);
             on = λ double.
                 let x = tail_last u p h k t c double (omega arith) in
-                let is : k + (length h - 1 - k) ≡ t = omega arith in
-                ((sent h t).node, b.holds,
-                (m, subst (λ z. Far p m (sent h k).node (sent h z).node) is (far_from m k all)));
+                let is : k + (length h - 1 - k) ≡ t = omega arith in (
+                  (sent h t).node,
+                  b.holds,
+                  (m, subst (λ z. Far p m (sent h k).node (sent h z).node) is (far_from m k all)),
+                );
           });
         }
 
@@ -144,12 +127,13 @@ module _ (u : Ends) (p : Plain) (h : List Sent) (k t : ℕ) (c : Chain u p h k t
                 seg_all k (suc (i - k)) h (omega arith)
                 ∙ (seg_last k (i - k) h ∙ ap (λ z. seg k (i - k) h ++ (sent h z).item ∷ []) e');
             flies =
-                let g = flights m.double i ie pr m.null in
-                (g.0,
-                subst (λ z. HasFlight (record { node = (sent h t).node; life = z; item = no_item; sender = 0 }) (view_at views g.0))
-                (sym b.is.1)
-                (subst (λ z. HasFlight (record { node = (sent h z).node; life = (sent h z).life; item = no_item; sender = 0 }) (view_at views g.0))
-                it g.1));
+                let g = flights m.double i ie pr m.null in (
+                  g.0,
+                  subst (λ z. HasFlight (record { node = (sent h t).node; life = z; item = no_item; sender = 0 }) (view_at views g.0))
+                      (sym b.is.1)
+                      (subst (λ z. HasFlight (record { node = (sent h z).node; life = (sent h z).life; item = no_item; sender = 0 }) (view_at views g.0))
+                      it g.1),
+                );
           });
         }
 
@@ -235,4 +219,3 @@ in_order u p views law is_some =
       pushed = law.3.ordered.pushed;
       popped = law.3.ordered.popped;
     }
-

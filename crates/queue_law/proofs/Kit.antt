@@ -1,25 +1,24 @@
 -- References, and what stays while a slot is referred to.
-use Rattle.std.proofs.Common.{◌≡◌, ◌≢◌, ◌⊎◌, inl, inr, ⊎_elim, ℕ, zero, suc, ◌+◌, ◌<◌, ◌≤◌, Bool, true, false, List, [], ◌∷◌, length, get_or, set, refl, ap, sym, ◌∙◌, subst, arith, Option, Some, None}
-use Rattle.std.specs.Prelude.{if◌then◌else◌, nat_lt}
+use Rattle.std.proofs.Common.{◌≡◌, ⊎_elim, ℕ, ◌+◌, ◌<◌, false, length, get_or, refl, ap, sym, ◌∙◌, subst, arith, Option, Some, None}
+use Rattle.std.specs.Prelude.{if◌then◌else◌}
 use Rattle.std.proofs.lemmas.List.{get_or_past}
 use Rattle.std.proofs.lemmas.Bool.{cases_lt, lt-ltb}
 use Rattle.plain_state.specs.declared.slot.SlotId.{SlotId}
 use Rattle.plain_state.specs.declared.slot.PlainSlot.{PlainSlot}
-use Rattle.plain_state.specs.declared.slot.Kind.TheVariants.{Strong, Weak}
+use Rattle.plain_state.specs.declared.slot.Kind.TheVariants.{Strong}
 use Rattle.plain_state.specs.declared.slot.Stage.{Stage}
 use Rattle.plain_state.specs.declared.slot.Stage.TheVariants as stage
 use Rattle.plain_state.specs.Lists.{entry_times, cell_times}
 use Rattle.plain_state.specs.Lists as lists
-use Rattle.plain_state.specs.References.{held_in, over_slots, strong_fields, weak_fields}
+use Rattle.plain_state.specs.References.{held_in, strong_fields, weak_fields}
 use Rattle.plain_state.specs.State.{Plain, PlainSeat, seat_at, new_seat, new_slot}
 use Rattle.plain_state.specs.State as state
 use Rattle.plain_state.specs.Lawful.{Lawful}
 use Rattle.plain_state.specs.Steps.{word_of}
 use Rattle.plain_state.specs.Places as places
 use Rattle.plain_state.proofs.Kit.{slot_is, held_same, cells_at, slots_at, seats_at, times_none, entry_none}
-use Rattle.plain_protocol.specs.Owns.{OwnPart, own_part, object_of}
-use Rattle.queue_law.specs.Words.{SlotPart, slot_at, cell_at, code, read_slot, Live, LIVE, BLANK, strong_refs, weak_refs, times, held_times, life_of, payload_of, life_in, payload_in, id, first_of, second_of, back_of, whole_of, no_plain}
-use Rattle.queue_law.specs.Writes.{SameObjects, FirstSet, SecondSet, BackSet, CellSet, Quiet, Makes, Aside}
+use Rattle.plain_protocol.specs.Owns.{own_part, object_of}
+use Rattle.queue_law.specs.Words.{slot_at, cell_at, code, Live, LIVE, strong_refs, weak_refs, times, held_times, life_of, payload_of, life_in, payload_in, id}
 
 -- a word that isn't 0
 pub word_some : (o : Option SlotId) (s : ℕ) → word_of o ≡ s + 1 → o ≡ Some (id s)

@@ -1,43 +1,26 @@
 -- The dummy is laid into the tail cell, and then into the head cell.
-use Rattle.std.proofs.Common.{◌≡◌, ◌≢◌, ◌⊎◌, inl, inr, ⊎_elim, ℕ, zero, suc, ◌+◌, ◌-◌, ◌<◌, ◌≤◌, Bool, true, false, List, [], ◌∷◌, ◌++◌, length, get_or, set, drop, map, sum_by, replicate, refl, ap, sym, ◌∙◌, subst, arith, append_assoc, Option, Some, None}
-use Rattle.std.specs.Prelude.{cond, ◌==◌, ◌&&◌, nat_lt, if◌then◌else◌}
-use Rattle.std.proofs.lemmas.Bool.{cases_eq, cases_lt, false≢true, eq-eqb, eqb-true, ltb-true, lt-ltb}
-use Rattle.plain_state.specs.State.{Plain, PlainSeat, seat_at, new_seat, new_slot, no_payload}
+use Rattle.std.proofs.Common.{◌≡◌, ◌≢◌, inl, inr, ⊎_elim, ℕ, zero, suc, ◌+◌, ◌<◌, List, [], ◌∷◌, length, set, refl, ap, sym, ◌∙◌, subst, arith}
+use Rattle.std.proofs.lemmas.Bool.{false≢true}
+use Rattle.plain_state.specs.State.{Plain, seat_at, no_payload}
 use Rattle.plain_state.specs.Lawful.{Lawful}
-use Rattle.plain_state.specs.Steps.{Does, Replaces, word_of}
-use Rattle.plain_state.specs.Places.{content, IsOpen, IsReadable}
-use Rattle.plain_state.specs.declared.slot.SlotId.{SlotId}
-use Rattle.plain_state.specs.declared.slot.PlainSlot.{PlainSlot}
-use Rattle.plain_state.specs.declared.act.EventPlace.{EventPlace}
-use Rattle.plain_state.specs.declared.act.EventPlace.TheVariants.{Cell, Field, WeakCell, WeakField}
-use Rattle.plain_state.specs.declared.act.PlainAct.{PlainAct}
-use Rattle.plain_state.specs.declared.act.PlainAct.TheVariants as act
-use Rattle.plain_protocol.specs.Owns.{OwnPart, own_part}
-use Rattle.plain_protocol.specs.Acts.{IsCalm, IsForeign}
-use Rattle.queue_law.specs.Words.{SlotPart, slot_at, cell_at, code, read_slot, Live, LIVE, BLANK, strong_refs, weak_refs, times, held_times, life_of, payload_of, life_in, payload_in, id, first_of, second_of, back_of, whole_of, no_plain}
-use Rattle.queue_law.specs.Views.{Form, Linked, Double, Item, Taken, View, Stand, Eyes, Load, Flight, no_item, no_taken, no_eyes, sees_node, no_load, no_flight, first_view, view_of, joined, view_at}
-use Rattle.queue_law.specs.Chain.{Ends, Sent, no_sent, sent, Present, Leads, Solid, BacksTo, Missing, Lags, HoldsItem, HasItem, IsKnown, IsNode, WasLinked, HeadAt, TailAt, Chain}
-use Rattle.queue_law.specs.Notes.{Sees, SeesAt, Emptied, Carries, Flies, FliesAt, IsFlight, flown_at, HasFlight, Flights, Known}
-use Rattle.queue_law.specs.Lists.{taken, same_item, item_times, views_total, sent_items, taken_items, Counted, tagged, home, Kept, sends, Ordered}
-use Rattle.queue_law.specs.Law.{Phase, Queue, QueueLaw, Gone, WholeLaw}
-use Rattle.queue_law.specs.Writes.{SameObjects, FirstSet, SecondSet, BackSet, CellSet, Quiet, Makes, Aside}
-use Rattle.queue_law.specs.Owned.{Keeps, owns}
-use Rattle.queue_law.specs.Nodes.{MakeReady, make_next, made, given, CarryReady, carry_next, BackReady, back_next}
-use Rattle.queue_law.specs.Pushes.{PushReady, carried_item, pushed_view, LinkReady, linked_view, link_next, AdvanceReady, advance_next, ExchangeReady, takes_off, flying_view, exchange_next, LandReady, land_next, HelpReady, helped_view, help_next}
-use Rattle.queue_law.specs.Pops.{TakeReady, popped_item, popped_view, take_next, EmptyReady, empty_next}
-use Rattle.queue_law.specs.Lessons.{Reads, LearnReady, learnt, learn_next, NextReady, next_next, AheadReady, ahead_next, ItemReady, item_next, BeforeReady, before_next, EndedReady, ended_next, SetReady, set_next, AttachReady, attach_next, NothingLinked, NextTells, AheadTells, ItemTells, AttachTells, TellsNothing}
-use Rattle.queue_law.specs.Opening.{LayTailReady, lay_tail_next, LayHeadReady, lay_head_next, item_of, behind, is_end, walk, waiting_in, ShutHeadReady, shut_head_next, ShutTailReady, shut_tail_next}
-use Rattle.queue_law.specs.Promises.{Follows, Far, OnChain, InFlight, OneMore, AllLinked, Waiting, Conserved, InOrder, LeftOver}
+use Rattle.plain_state.specs.Steps.{Does}
+use Rattle.plain_protocol.specs.Owns.{own_part}
+use Rattle.queue_law.specs.Words.{slot_at, cell_at, Live, times}
+use Rattle.queue_law.specs.Views.{Form, Linked, Double, View, Load, no_item, sees_node, no_load, view_at}
+use Rattle.queue_law.specs.Chain.{Ends, Sent, sent, Present, Lags, IsKnown, IsNode, WasLinked}
+use Rattle.queue_law.specs.Notes.{Sees, Emptied, Carries, Flies, Known}
+use Rattle.queue_law.specs.Law.{Queue, QueueLaw}
+use Rattle.queue_law.specs.Writes.{CellSet}
+use Rattle.queue_law.specs.Owned.{Keeps}
+use Rattle.queue_law.specs.Opening.{LayTailReady, lay_tail_next, LayHeadReady, lay_head_next}
 use Rattle.queue_law.proofs.Kit.{held_live, own_life}
 use Rattle.queue_law.proofs.Effects.{put_cell}
-use Rattle.queue_law.proofs.Chain.{longer, same_present, same_tail_at}
+use Rattle.queue_law.proofs.Chain.{same_present, same_tail_at}
 use Rattle.queue_law.proofs.ChainWrites.{same_firsts}
-use Rattle.queue_law.proofs.ChainGrows.{was}
 use Rattle.queue_law.proofs.Notes.{unchanged, LeadsOn, sees_on, view_here, CarryOn, carries_on, carry_same, carries_none, IsNamed, known_set}
 use Rattle.queue_law.proofs.Counts.{counted_same}
 use Rattle.queue_law.proofs.Orders.{ordered_same}
 use Rattle.queue_law.proofs.Seen.{flights_same, seen_here, own_apart}
-use Rattle.queue_law.proofs.Land.{on}
 
 nothing : {A : Type 0} (l : List A) → length l ≡ 0 → l ≡ []
 nothing [] e = refl
@@ -165,30 +148,33 @@ lay_head_deed u cells p q views n v step found lawful law is stays_on r d =
     let on : LeadsOn p q h h = λ i il l at. absurd (omega arith) in
     let carry : (m : Load) → CarryOn p q h h m = λ m. carry_same p q h h m w.objects (λ s e l. l) (λ z e y. w.second z) (λ z e y. w.back z) in
     let is_laid : (view_at (set views n new) 0).stand.laid ≡ 2 =
-    ap (λ z. (view_at (set views n new) z).stand.laid) (sym root) ∙ ap (λ (z : View). z.stand.laid) (view_here views n new o.0) in
-    (h, ts, t,
-    record {
-      chain = same_firsts u p q h (length ts) t (length ts) t law.3.chain w.objects w.first (λ i il at. w.back (sent h i).node)
-          (inr (record {
-            inside = omega arith;
-            holds = w.here ∙ ap (λ z. z + 1) (sym s.1 ∙ ap (λ z. (sent h z).node) first);
-            is = subst (λ z. Present q (sent h z)) first (same_present p q w.objects (sent h s.0.0) s.2);
-            items = λ i after z. absurd (omega arith);
-          }))
-          (⊎_elim (λ z. absurd (f.3 z.0)) (λ b. inr (same_tail_at p q w.objects u h t tail_is b)) law.3.chain.tail)
-          law.3.chain.lag law.3.chain.links;
-      known = known_set u p q h h (length ts) (length ts) t t n views new kn o.0 (unchanged h) (omega arith) (omega arith) on
-          (λ m ne. carry (view_at views m).load)
-          (sees_on p q h h (length ts) (length ts) t t v.eyes (unchanged h) (omega arith) (omega arith) on
-          (subst (λ (z : View). Sees p h (length ts) t z.eyes) o.1 (kn.sees n)))
-          (subst (Emptied h (length ts)) o.1 (kn.emptied n))
-          (carries_on p q h h v.load (carry v.load) (subst (λ (z : View). Carries p h z.load) o.1 (kn.carries n)))
-          (subst (λ (z : View). Flies h z.flight) o.1 (kn.flies n))
-          (own_apart u p h (length ts) t views n v kn o.1)
-          (subst (IsNamed u n) o.1 (kn.number n))
-          (λ a z. let y = w.here in omega arith) (λ a z. let y = w.here in omega arith);
-      flights = flights_same u p q h views n v new o.0 o.1 w.objects w.first refl refl law.3.flights;
-      counted = counted_same h ts views n new law.3.counted o.0 (ap (λ (y : View). y.popped) (sym o.1)) (ap (λ (y : View). y.pushed) (sym o.1));
-      ordered = ordered_same h ts views n new law.3.ordered o.0 (ap (λ (y : View). y.here) (sym o.1)) (ap (λ (y : View). y.popped) (sym o.1)) (ap (λ (y : View). y.pushed) (sym o.1));
-      phase = record { unlaid = λ z. absurd (omega arith); laying = λ z. absurd (omega arith); shut = λ z. absurd (omega arith) };
-    })
+    ap (λ z. (view_at (set views n new) z).stand.laid) (sym root) ∙ ap (λ (z : View). z.stand.laid) (view_here views n new o.0) in (
+      h,
+      ts,
+      t,
+      record {
+        chain = same_firsts u p q h (length ts) t (length ts) t law.3.chain w.objects w.first (λ i il at. w.back (sent h i).node)
+            (inr (record {
+              inside = omega arith;
+              holds = w.here ∙ ap (λ z. z + 1) (sym s.1 ∙ ap (λ z. (sent h z).node) first);
+              is = subst (λ z. Present q (sent h z)) first (same_present p q w.objects (sent h s.0.0) s.2);
+              items = λ i after z. absurd (omega arith);
+            }))
+            (⊎_elim (λ z. absurd (f.3 z.0)) (λ b. inr (same_tail_at p q w.objects u h t tail_is b)) law.3.chain.tail)
+            law.3.chain.lag law.3.chain.links;
+        known = known_set u p q h h (length ts) (length ts) t t n views new kn o.0 (unchanged h) (omega arith) (omega arith) on
+            (λ m ne. carry (view_at views m).load)
+            (sees_on p q h h (length ts) (length ts) t t v.eyes (unchanged h) (omega arith) (omega arith) on
+            (subst (λ (z : View). Sees p h (length ts) t z.eyes) o.1 (kn.sees n)))
+            (subst (Emptied h (length ts)) o.1 (kn.emptied n))
+            (carries_on p q h h v.load (carry v.load) (subst (λ (z : View). Carries p h z.load) o.1 (kn.carries n)))
+            (subst (λ (z : View). Flies h z.flight) o.1 (kn.flies n))
+            (own_apart u p h (length ts) t views n v kn o.1)
+            (subst (IsNamed u n) o.1 (kn.number n))
+            (λ a z. let y = w.here in omega arith) (λ a z. let y = w.here in omega arith);
+        flights = flights_same u p q h views n v new o.0 o.1 w.objects w.first refl refl law.3.flights;
+        counted = counted_same h ts views n new law.3.counted o.0 (ap (λ (y : View). y.popped) (sym o.1)) (ap (λ (y : View). y.pushed) (sym o.1));
+        ordered = ordered_same h ts views n new law.3.ordered o.0 (ap (λ (y : View). y.here) (sym o.1)) (ap (λ (y : View). y.popped) (sym o.1)) (ap (λ (y : View). y.pushed) (sym o.1));
+        phase = record { unlaid = λ z. absurd (omega arith); laying = λ z. absurd (omega arith); shut = λ z. absurd (omega arith) };
+      },
+    )

@@ -1,36 +1,25 @@
 -- Each lesson on the cells, and on the node after one that was seen, keeps the law.
-use Rattle.std.proofs.Common.{◌≡◌, ◌≢◌, ◌⊎◌, inl, inr, ⊎_elim, ℕ, zero, suc, ◌+◌, ◌-◌, ◌<◌, ◌≤◌, Bool, true, false, List, [], ◌∷◌, ◌++◌, length, get_or, set, drop, map, sum_by, replicate, refl, ap, sym, ◌∙◌, subst, arith, append_assoc, Option, Some, None}
-use Rattle.std.specs.Prelude.{cond, ◌==◌, ◌&&◌, nat_lt, if◌then◌else◌}
-use Rattle.std.proofs.lemmas.Bool.{cases_eq, cases_lt, false≢true, eq-eqb, eqb-true, ltb-true, lt-ltb}
-use Rattle.plain_state.specs.State.{Plain, PlainSeat, seat_at, new_seat, new_slot, no_payload}
-use Rattle.plain_state.specs.Lawful.{Lawful}
-use Rattle.plain_state.specs.Steps.{Does, Replaces, word_of}
-use Rattle.plain_state.specs.Places.{content, IsOpen, IsReadable}
-use Rattle.plain_state.specs.declared.slot.SlotId.{SlotId}
-use Rattle.plain_state.specs.declared.slot.PlainSlot.{PlainSlot}
+use Rattle.std.proofs.Common.{◌≡◌, ◌≢◌, inr, ⊎_elim, ℕ, zero, suc, ◌+◌, ◌-◌, ◌<◌, ◌≤◌, Bool, true, false, List, length, set, refl, ap, sym, ◌∙◌, subst, arith}
+use Rattle.std.specs.Prelude.{cond, nat_lt}
+use Rattle.std.proofs.lemmas.Bool.{cases_lt, false≢true, ltb-true}
+use Rattle.plain_state.specs.State.{Plain, seat_at}
+use Rattle.plain_state.specs.Steps.{Does, word_of}
+use Rattle.plain_state.specs.Places.{content, IsReadable}
 use Rattle.plain_state.specs.declared.act.EventPlace.{EventPlace}
-use Rattle.plain_state.specs.declared.act.EventPlace.TheVariants.{Cell, Field, WeakCell, WeakField}
+use Rattle.plain_state.specs.declared.act.EventPlace.TheVariants.{Cell}
 use Rattle.plain_state.specs.declared.act.PlainAct.{PlainAct}
 use Rattle.plain_state.specs.declared.act.PlainAct.TheVariants as act
 use Rattle.plain_protocol.specs.Owns.{OwnPart, own_part}
-use Rattle.plain_protocol.specs.Acts.{IsCalm, IsForeign}
-use Rattle.queue_law.specs.Words.{SlotPart, slot_at, cell_at, code, read_slot, Live, LIVE, BLANK, strong_refs, weak_refs, times, held_times, life_of, payload_of, life_in, payload_in, id, first_of, second_of, back_of, whole_of, no_plain}
-use Rattle.queue_law.specs.Views.{Form, Linked, Double, Item, Taken, View, Stand, Eyes, Load, Flight, no_item, no_taken, no_eyes, sees_node, no_load, no_flight, first_view, view_of, joined, view_at}
-use Rattle.queue_law.specs.Chain.{Ends, Sent, no_sent, sent, Present, Leads, Solid, BacksTo, Missing, Lags, HoldsItem, HasItem, IsKnown, IsNode, WasLinked, HeadAt, TailAt, Chain}
-use Rattle.queue_law.specs.Notes.{Sees, SeesAt, Emptied, Carries, Flies, FliesAt, IsFlight, flown_at, HasFlight, Flights, Known}
-use Rattle.queue_law.specs.Lists.{taken, same_item, item_times, views_total, sent_items, taken_items, Counted, tagged, home, Kept, sends, Ordered}
-use Rattle.queue_law.specs.Law.{Phase, Queue, QueueLaw, Gone, WholeLaw}
-use Rattle.queue_law.specs.Writes.{SameObjects, FirstSet, SecondSet, BackSet, CellSet, Quiet, Makes, Aside}
-use Rattle.queue_law.specs.Owned.{Keeps, owns}
-use Rattle.queue_law.specs.Nodes.{MakeReady, make_next, made, given, CarryReady, carry_next, BackReady, back_next}
-use Rattle.queue_law.specs.Pushes.{PushReady, carried_item, pushed_view, LinkReady, linked_view, link_next, AdvanceReady, advance_next, ExchangeReady, takes_off, flying_view, exchange_next, LandReady, land_next, HelpReady, helped_view, help_next}
-use Rattle.queue_law.specs.Pops.{TakeReady, popped_item, popped_view, take_next, EmptyReady, empty_next}
-use Rattle.queue_law.specs.Lessons.{Reads, LearnReady, learnt, learn_next, NextReady, next_next, AheadReady, ahead_next, ItemReady, item_next, BeforeReady, before_next, EndedReady, ended_next, SetReady, set_next, AttachReady, attach_next, NothingLinked, NextTells, AheadTells, ItemTells, AttachTells, TellsNothing}
-use Rattle.queue_law.specs.Opening.{LayTailReady, lay_tail_next, LayHeadReady, lay_head_next, item_of, behind, is_end, walk, waiting_in, ShutHeadReady, shut_head_next, ShutTailReady, shut_tail_next}
-use Rattle.queue_law.specs.Promises.{Follows, Far, OnChain, InFlight, OneMore, AllLinked, Waiting, Conserved, InOrder, LeftOver}
+use Rattle.plain_protocol.specs.Acts.{IsCalm}
+use Rattle.queue_law.specs.Words.{slot_at, cell_at, held_times, life_in, first_of, second_of}
+use Rattle.queue_law.specs.Views.{Taken, View, first_view, view_at}
+use Rattle.queue_law.specs.Chain.{Ends, Sent, sent, Present, Leads}
+use Rattle.queue_law.specs.Notes.{Sees, Emptied, Carries, Flies}
+use Rattle.queue_law.specs.Law.{Queue, QueueLaw}
+use Rattle.queue_law.specs.Owned.{Keeps}
+use Rattle.queue_law.specs.Lessons.{Reads, LearnReady, learnt, learn_next, NextReady, next_next, AheadReady, ahead_next, ItemReady, item_next, AttachReady, attach_next}
 use Rattle.std.proofs.lemmas.List.{set-get_or}
 use Rattle.std.specs.Prelude.{not}
-use Rattle.queue_law.proofs.Quiet.{stays}
 use Rattle.queue_law.proofs.Kit.{own_life}
 use Rattle.queue_law.proofs.Effects.{calm_quiet}
 use Rattle.queue_law.proofs.Chain.{the_head, leads_some}
@@ -38,7 +27,6 @@ use Rattle.queue_law.proofs.ChainCalm.{quiet_leads}
 use Rattle.queue_law.proofs.Notes.{unchanged, leads_stay, sees_at_on, carry_stay}
 use Rattle.queue_law.proofs.Seen.{rewrite_keeps, flights_same, same_objects, reseen, seen_here}
 use Rattle.queue_law.proofs.Calm.{quiet_on, calm_queue}
-use Rattle.queue_law.proofs.Land.{on}
 
 pub reads_calm : (at : EventPlace) (step : PlainAct) → Reads at step → IsCalm step
 reads_calm at step r = ⊎_elim (λ e. subst IsCalm (sym e) tt) (λ e. subst IsCalm (sym e.1) tt) r
@@ -64,24 +52,30 @@ learn_case u head p views n v s law low at is true e =
     let h = law.0 in let ts = law.1 in let t = law.2 in
     let held : 0 < held_times s (seat_at p n) = ltb-true 0 (held_times s (seat_at p n)) e in
     let i = is h ts t law.3 in
-    let less : suc s - 1 ≡ s = omega arith in
-    (h, ts, t,
-    reseen u p views n v (learnt head (own_part p n) (suc s)) h ts t law.3 low at
-    (λ z. (i.0, record {
-      inside = i.1;
-      node = (let y = i.2 in omega arith);
-      life =
-          sym i.3.1
-          ∙ (ap (λ z. (slot_at p z).life) i.2
-          ∙ (sym (own_life p n s held) ∙ ap (life_in (own_part p n)) (sym less)));
-      was_head = i.4;
-      was_tail = i.5;
-      next = λ f. absurd (f refl);
-      leads = λ f. absurd (f refl);
-      item = λ f. absurd (f refl);
-      before = λ f. absurd (f refl);
-      helped = λ f. absurd (false≢true f);
-    })))
+    let less : suc s - 1 ≡ s = omega arith in (
+      h,
+      ts,
+      t,
+      reseen u p views n v (learnt head (own_part p n) (suc s)) h ts t law.3 low at
+          (λ z. (
+            i.0,
+            record {
+              inside = i.1;
+              node = (let y = i.2 in omega arith);
+              life =
+                  sym i.3.1
+                  ∙ (ap (λ z. (slot_at p z).life) i.2
+                  ∙ (sym (own_life p n s held) ∙ ap (life_in (own_part p n)) (sym less)));
+              was_head = i.4;
+              was_tail = i.5;
+              next = λ f. absurd (f refl);
+              leads = λ f. absurd (f refl);
+              item = λ f. absurd (f refl);
+              before = λ f. absurd (f refl);
+              helped = λ f. absurd (false≢true f);
+            },
+          )),
+    )
 
 learn_at : (u : Ends) (c : ℕ) (head : Bool)
     → ((p : Plain) (views : List View) (s : ℕ) → cell_at p c ≡ suc s → (h : List Sent) (ts : List Taken) (t : ℕ)
@@ -214,14 +208,17 @@ attach_at u p views n v own after step zero law low at e = same_view u p views n
 attach_at u p views n v own after step (suc s) law low at e =
     let h = law.0 in let ts = law.1 in let t = law.2 in
     let o = law.3.known in
-    let now : View = record v { attached = true } in
-    (h, ts, t,
-    rewrite_keeps u p p views n v h ts t t law.3 (omega arith) low at law.3.chain refl (inr refl) (leads_stay p h)
-    (λ m ne. carry_stay p h (view_at views m).load) now
-    (subst (λ (z : View). Sees p h (length ts) t z.eyes) at (o.sees n)) (subst (Emptied h (length ts)) at (o.emptied n))
-    (subst (λ (z : View). Carries p h z.load) at (o.carries n)) (subst (λ (z : View). Flies h z.flight) at (o.flies n))
-    (flights_same u p p h views n v now low at (same_objects p) (λ s. refl) refl refl law.3.flights)
-    refl refl refl refl refl refl (λ x z. let y = e in omega arith) refl refl)
+    let now : View = record v { attached = true } in (
+      h,
+      ts,
+      t,
+      rewrite_keeps u p p views n v h ts t t law.3 (omega arith) low at law.3.chain refl (inr refl) (leads_stay p h)
+          (λ m ne. carry_stay p h (view_at views m).load) now
+          (subst (λ (z : View). Sees p h (length ts) t z.eyes) at (o.sees n)) (subst (Emptied h (length ts)) at (o.emptied n))
+          (subst (λ (z : View). Carries p h z.load) at (o.carries n)) (subst (λ (z : View). Flies h z.flight) at (o.flies n))
+          (flights_same u p p h views n v now low at (same_objects p) (λ s. refl) refl refl law.3.flights)
+          refl refl refl refl refl refl (λ x z. let y = e in omega arith) refl refl,
+    )
 
 pub attach_deed : (u : Ends) → Keeps (QueueLaw u) (AttachReady u) attach_next
 attach_deed u p q views n v step found lawful law is stays_on ready d =

@@ -1,39 +1,24 @@
 -- An object is made: by another part of a client, or a node by the queue.
-use Rattle.std.proofs.Common.{◌≡◌, ◌≢◌, ◌⊎◌, inl, inr, ⊎_elim, ℕ, zero, suc, ◌+◌, ◌-◌, ◌<◌, ◌≤◌, Bool, true, false, List, [], ◌∷◌, ◌++◌, length, get_or, set, drop, map, sum_by, replicate, refl, ap, sym, ◌∙◌, subst, arith, append_assoc, Option, Some, None}
-use Rattle.std.specs.Prelude.{cond, ◌==◌, ◌&&◌, nat_lt, if◌then◌else◌}
-use Rattle.std.proofs.lemmas.Bool.{cases_eq, cases_lt, false≢true, eq-eqb, eqb-true, ltb-true, lt-ltb}
-use Rattle.plain_state.specs.State.{Plain, PlainSeat, seat_at, new_seat, new_slot, no_payload}
+use Rattle.std.proofs.Common.{◌≡◌, ◌≢◌, inl, inr, ⊎_elim, ℕ, ◌+◌, ◌<◌, ◌≤◌, List, length, set, refl, ap, sym, ◌∙◌, subst, arith}
+use Rattle.std.proofs.lemmas.Bool.{cases_eq}
+use Rattle.plain_state.specs.State.{Plain, seat_at}
 use Rattle.plain_state.specs.Lawful.{Lawful}
-use Rattle.plain_state.specs.Steps.{Does, Replaces, word_of}
-use Rattle.plain_state.specs.Places.{content, IsOpen, IsReadable}
-use Rattle.plain_state.specs.declared.slot.SlotId.{SlotId}
-use Rattle.plain_state.specs.declared.slot.PlainSlot.{PlainSlot}
-use Rattle.plain_state.specs.declared.act.EventPlace.{EventPlace}
-use Rattle.plain_state.specs.declared.act.EventPlace.TheVariants.{Cell, Field, WeakCell, WeakField}
-use Rattle.plain_state.specs.declared.act.PlainAct.{PlainAct}
+use Rattle.plain_state.specs.Steps.{Does}
 use Rattle.plain_state.specs.declared.act.PlainAct.TheVariants as act
-use Rattle.plain_protocol.specs.Owns.{OwnPart, own_part}
-use Rattle.plain_protocol.specs.Acts.{IsCalm, IsForeign}
-use Rattle.queue_law.specs.Words.{SlotPart, slot_at, cell_at, code, read_slot, Live, LIVE, BLANK, strong_refs, weak_refs, times, held_times, life_of, payload_of, life_in, payload_in, id, first_of, second_of, back_of, whole_of, no_plain}
-use Rattle.queue_law.specs.Views.{Form, Linked, Double, Item, Taken, View, Stand, Eyes, Load, Flight, no_item, no_taken, no_eyes, sees_node, no_load, no_flight, first_view, view_of, joined, view_at}
-use Rattle.queue_law.specs.Chain.{Ends, Sent, no_sent, sent, Present, Leads, Solid, BacksTo, Missing, Lags, HoldsItem, HasItem, IsKnown, IsNode, WasLinked, HeadAt, TailAt, Chain}
-use Rattle.queue_law.specs.Notes.{Sees, SeesAt, Emptied, Carries, Flies, FliesAt, IsFlight, flown_at, HasFlight, Flights, Known}
-use Rattle.queue_law.specs.Lists.{taken, same_item, item_times, views_total, sent_items, taken_items, Counted, tagged, home, Kept, sends, Ordered}
-use Rattle.queue_law.specs.Law.{Phase, Queue, QueueLaw, Gone, WholeLaw}
-use Rattle.queue_law.specs.Writes.{SameObjects, FirstSet, SecondSet, BackSet, CellSet, Quiet, Makes, Aside}
-use Rattle.queue_law.specs.Owned.{Keeps, owns}
-use Rattle.queue_law.specs.Nodes.{MakeReady, make_next, made, given, CarryReady, carry_next, BackReady, back_next}
-use Rattle.queue_law.specs.Pushes.{PushReady, carried_item, pushed_view, LinkReady, linked_view, link_next, AdvanceReady, advance_next, ExchangeReady, takes_off, flying_view, exchange_next, LandReady, land_next, HelpReady, helped_view, help_next}
-use Rattle.queue_law.specs.Pops.{TakeReady, popped_item, popped_view, take_next, EmptyReady, empty_next}
-use Rattle.queue_law.specs.Lessons.{Reads, LearnReady, learnt, learn_next, NextReady, next_next, AheadReady, ahead_next, ItemReady, item_next, BeforeReady, before_next, EndedReady, ended_next, SetReady, set_next, AttachReady, attach_next, NothingLinked, NextTells, AheadTells, ItemTells, AttachTells, TellsNothing}
-use Rattle.queue_law.specs.Opening.{LayTailReady, lay_tail_next, LayHeadReady, lay_head_next, item_of, behind, is_end, walk, waiting_in, ShutHeadReady, shut_head_next, ShutTailReady, shut_tail_next}
-use Rattle.queue_law.specs.Promises.{Follows, Far, OnChain, InFlight, OneMore, AllLinked, Waiting, Conserved, InOrder, LeftOver}
+use Rattle.plain_protocol.specs.Owns.{own_part}
+use Rattle.queue_law.specs.Words.{SlotPart, slot_at, Live, life_in, payload_in, id}
+use Rattle.queue_law.specs.Views.{Taken, View, view_at}
+use Rattle.queue_law.specs.Chain.{Ends, Sent, sent, Present, Leads, Solid, WasLinked, Chain}
+use Rattle.queue_law.specs.Notes.{Sees, Emptied, Flies}
+use Rattle.queue_law.specs.Law.{Queue, QueueLaw}
+use Rattle.queue_law.specs.Writes.{Makes}
+use Rattle.queue_law.specs.Owned.{Keeps}
+use Rattle.queue_law.specs.Nodes.{MakeReady, make_next, made}
 use Rattle.plain_state.specs.References.{held_in}
 use Rattle.plain_state.proofs.Kit.{held_same}
 use Rattle.queue_law.proofs.Kit.{refs_second, referred, knows_times, knows_life, knows_payload}
 use Rattle.queue_law.proofs.Effects.{makes}
 use Rattle.queue_law.proofs.Chain.{chain_present}
-use Rattle.queue_law.proofs.ChainGrows.{was}
 use Rattle.queue_law.proofs.Notes.{unchanged, LeadsOn, leads_stay, sees_on, carries_on, carry_stay, IsNamed, known_set}
 use Rattle.queue_law.proofs.Counts.{counted_same, laid_set, phase_same}
 use Rattle.queue_law.proofs.Orders.{ordered_same}
@@ -88,9 +73,11 @@ module _ (u : Ends) (p q : Plain) (s : ℕ) (views : List View) (h : List Sent) 
                   let node = same_slot e.node at.0 in
                   let item =
                   same_slot e.item.slot
-                  (referred p lawful e.item.slot (refs_second p e.node e.item.slot x.0)).0 in
-                  (ap (λ (z : SlotPart). z.second) node ∙ x.0, ap (λ (z : SlotPart). z.life) item ∙ x.1,
-                  ap (λ (z : SlotPart). z.payload) item ∙ x.2);
+                  (referred p lawful e.item.slot (refs_second p e.node e.item.slot x.0)).0 in (
+                    ap (λ (z : SlotPart). z.second) node ∙ x.0,
+                    ap (λ (z : SlotPart). z.life) item ∙ x.1,
+                    ap (λ (z : SlotPart). z.payload) item ∙ x.2,
+                  );
             }))
             c.head;
         tail = ⊎_elim
@@ -217,4 +204,3 @@ make_deed u p q views n v step found lawful law is stays_on ready d =
         phase = phase_same u q q h ts (view_at views 0) (view_at (set views n new) 0) refl (inr refl) (laid_set views n new here.0 (ap (λ (y : View). y.stand) (sym here.1))) after.phase;
       },
     )
-

@@ -1,23 +1,12 @@
 -- What each seat pushed and popped stands in order in the lists of all seats.
-use Rattle.std.proofs.Common.{◌≡◌, ◌≢◌, ◌⊎◌, inl, inr, ⊎_elim, ℕ, zero, suc, ◌+◌, ◌-◌, ◌<◌, ◌≤◌, Bool, true, false, List, [], ◌∷◌, ◌++◌, map, drop, length, get_or, set, refl, ap, sym, ◌∙◌, subst, arith, append_assoc}
+use Rattle.std.proofs.Common.{◌≡◌, ◌≢◌, ⊎_elim, ℕ, ◌<◌, ◌≤◌, Bool, true, false, List, [], ◌∷◌, ◌++◌, map, drop, length, set, refl, ap, sym, ◌∙◌, subst}
 use Rattle.std.specs.Prelude.{cond, ◌==◌}
 use Rattle.std.proofs.lemmas.List.{drop-append-le}
-use Rattle.std.proofs.lemmas.Bool.{cases_eq, cases_lt, eqb-true, eq-eqb}
-use Rattle.queue_law.specs.Words.{SlotPart, slot_at, cell_at, code, read_slot, Live, LIVE, BLANK, strong_refs, weak_refs, times, held_times, life_of, payload_of, life_in, payload_in, id, first_of, second_of, back_of, whole_of, no_plain}
-use Rattle.queue_law.specs.Views.{Form, Linked, Double, Item, Taken, View, Stand, Eyes, Load, Flight, no_item, no_taken, no_eyes, sees_node, no_load, no_flight, first_view, view_of, joined, view_at}
-use Rattle.queue_law.specs.Chain.{Ends, Sent, no_sent, sent, Present, Leads, Solid, BacksTo, Missing, Lags, HoldsItem, HasItem, IsKnown, IsNode, WasLinked, HeadAt, TailAt, Chain}
-use Rattle.queue_law.specs.Notes.{Sees, SeesAt, Emptied, Carries, Flies, FliesAt, IsFlight, flown_at, HasFlight, Flights, Known}
-use Rattle.queue_law.specs.Lists.{taken, same_item, item_times, views_total, sent_items, taken_items, Counted, tagged, home, Kept, sends, Ordered}
-use Rattle.queue_law.specs.Law.{Phase, Queue, QueueLaw, Gone, WholeLaw}
-use Rattle.queue_law.specs.Writes.{SameObjects, FirstSet, SecondSet, BackSet, CellSet, Quiet, Makes, Aside}
-use Rattle.queue_law.specs.Owned.{Keeps, owns}
-use Rattle.queue_law.specs.Nodes.{MakeReady, make_next, made, given, CarryReady, carry_next, BackReady, back_next}
-use Rattle.queue_law.specs.Pushes.{PushReady, carried_item, pushed_view, LinkReady, linked_view, link_next, AdvanceReady, advance_next, ExchangeReady, takes_off, flying_view, exchange_next, LandReady, land_next, HelpReady, helped_view, help_next}
-use Rattle.queue_law.specs.Pops.{TakeReady, popped_item, popped_view, take_next, EmptyReady, empty_next}
-use Rattle.queue_law.specs.Lessons.{Reads, LearnReady, learnt, learn_next, NextReady, next_next, ItemReady, item_next, BeforeReady, before_next, EndedReady, ended_next, SetReady, set_next, AttachReady, attach_next}
-use Rattle.queue_law.specs.Opening.{LayTailReady, lay_tail_next, LayHeadReady, lay_head_next, item_of, behind, is_end, walk, waiting_in, ShutHeadReady, shut_head_next, ShutTailReady, shut_tail_next}
-use Rattle.queue_law.specs.Promises.{Follows, Far, OnChain, InFlight, OneMore, AllLinked, Waiting, Conserved, InOrder, LeftOver}
-use Rattle.queue_law.proofs.Notes.{view_here, view_else, each_view}
+use Rattle.std.proofs.lemmas.Bool.{cases_eq, eqb-true}
+use Rattle.queue_law.specs.Views.{Item, Taken, View, view_at}
+use Rattle.queue_law.specs.Chain.{Sent}
+use Rattle.queue_law.specs.Lists.{tagged, home, Kept, sends, Ordered}
+use Rattle.queue_law.proofs.Notes.{view_here, view_else}
 use Rattle.queue_law.proofs.Counts.{map_push}
 
 -- one list's items of seat n

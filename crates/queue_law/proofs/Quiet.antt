@@ -1,6 +1,6 @@
 -- What a calm step of the real plain state leaves beside what `calm_leaves` says: what is referred to stays live, and
 -- what is referred to weakly isn't filled anew.
-use Rattle.std.proofs.Common.{◌≡◌, ◌≢◌, ◌⊎◌, inl, inr, ⊎_elim, ℕ, ◌+◌, ◌<◌, ◌≤◌, Bool, true, false, List, length, get_or, set, refl, sym, ap, subst, ◌∙◌, arith, Option, Some, None}
+use Rattle.std.proofs.Common.{◌≡◌, ◌≢◌, ◌⊎◌, inl, inr, ⊎_elim, ℕ, ◌<◌, Bool, true, false, List, length, get_or, set, refl, sym, ap, subst, ◌∙◌, arith, None}
 use Rattle.std.specs.Prelude.{slice_set}
 use Rattle.std.proofs.lemmas.List.{get_or-set_same, get_or-set_other, set_past}
 use Rattle.std.proofs.lemmas.Bool.{cases_lt, false≢true}
@@ -10,14 +10,12 @@ use Rattle.plain_state.specs.declared.act.PlainAct.{PlainAct}
 use Rattle.plain_state.specs.declared.act.PlainAct.TheVariants as act
 use Rattle.plain_state.specs.declared.slot.PlainSlot.{PlainSlot}
 use Rattle.plain_state.specs.declared.slot.SlotId.{SlotId}
-use Rattle.plain_state.specs.declared.slot.Kind.TheVariants.{Strong, Weak}
-use Rattle.plain_state.specs.declared.slot.Stage.{Stage}
 use Rattle.plain_state.specs.declared.slot.Stage.TheVariants.{Free, Blank, Live, Ended, Husk}
-use Rattle.plain_state.specs.Lists.{times, Loses}
+use Rattle.plain_state.specs.Lists.{times}
 use Rattle.plain_state.specs.References.{strong_refs, weak_refs}
-use Rattle.plain_state.specs.State.{Plain, PlainSeat, new_slot, seat_at, slot_at, stage_at, with_seat, with_slot}
+use Rattle.plain_state.specs.State.{Plain, PlainSeat, new_slot, slot_at, stage_at, with_seat, with_slot}
 use Rattle.plain_state.specs.Lawful.{Lawful}
-use Rattle.plain_state.specs.Places.{with_content, with_field}
+use Rattle.plain_state.specs.Places.{with_content}
 use Rattle.plain_state.specs.Steps.{Does}
 use Rattle.plain_state.proofs.Kit.{cases_slot, seats_at, times_lost}
 use Rattle.plain_protocol.specs.Acts.{IsCalm}

@@ -1,43 +1,30 @@
 -- The queue is shut: the head cell is cleared, and then the tail cell.
-use Rattle.std.proofs.Common.{◌≡◌, ◌≢◌, ◌⊎◌, inl, inr, ⊎_elim, ℕ, zero, suc, ◌+◌, ◌-◌, ◌<◌, ◌≤◌, Bool, true, false, List, [], ◌∷◌, ◌++◌, length, get_or, set, drop, map, sum_by, replicate, refl, ap, sym, ◌∙◌, subst, arith, append_assoc, Option, Some, None}
-use Rattle.std.specs.Prelude.{cond, ◌==◌, ◌&&◌, nat_lt, if◌then◌else◌}
-use Rattle.std.proofs.lemmas.Bool.{cases_eq, cases_lt, false≢true, eq-eqb, eqb-true, ltb-true, lt-ltb}
-use Rattle.plain_state.specs.State.{Plain, PlainSeat, seat_at, new_seat, new_slot, no_payload}
-use Rattle.plain_state.specs.Lawful.{Lawful}
-use Rattle.plain_state.specs.Steps.{Does, Replaces, word_of}
-use Rattle.plain_state.specs.Places.{content, IsOpen, IsReadable}
-use Rattle.plain_state.specs.declared.slot.SlotId.{SlotId}
-use Rattle.plain_state.specs.declared.slot.PlainSlot.{PlainSlot}
-use Rattle.plain_state.specs.declared.act.EventPlace.{EventPlace}
-use Rattle.plain_state.specs.declared.act.EventPlace.TheVariants.{Cell, Field, WeakCell, WeakField}
-use Rattle.plain_state.specs.declared.act.PlainAct.{PlainAct}
+use Rattle.std.proofs.Common.{◌≡◌, ◌≢◌, inl, inr, ⊎_elim, ℕ, zero, suc, ◌+◌, ◌-◌, ◌<◌, ◌≤◌, Bool, true, false, List, ◌∷◌, ◌++◌, length, set, drop, refl, ap, sym, ◌∙◌, subst, arith, None}
+use Rattle.std.specs.Prelude.{cond, ◌==◌}
+use Rattle.std.proofs.lemmas.Bool.{false≢true, eq-eqb, eqb-true}
+use Rattle.plain_state.specs.State.{Plain}
+use Rattle.plain_state.specs.Steps.{Does}
+use Rattle.plain_state.specs.declared.act.EventPlace.TheVariants.{Cell}
 use Rattle.plain_state.specs.declared.act.PlainAct.TheVariants as act
-use Rattle.plain_protocol.specs.Owns.{OwnPart, own_part}
-use Rattle.plain_protocol.specs.Acts.{IsCalm, IsForeign}
-use Rattle.queue_law.specs.Words.{SlotPart, slot_at, cell_at, code, read_slot, Live, LIVE, BLANK, strong_refs, weak_refs, times, held_times, life_of, payload_of, life_in, payload_in, id, first_of, second_of, back_of, whole_of, no_plain}
-use Rattle.queue_law.specs.Views.{Form, Linked, Double, Item, Taken, View, Stand, Eyes, Load, Flight, no_item, no_taken, no_eyes, sees_node, no_load, no_flight, first_view, view_of, joined, view_at}
-use Rattle.queue_law.specs.Chain.{Ends, Sent, no_sent, sent, Present, Leads, Solid, BacksTo, Missing, Lags, HoldsItem, HasItem, IsKnown, IsNode, WasLinked, HeadAt, TailAt, Chain}
-use Rattle.queue_law.specs.Notes.{Sees, SeesAt, Emptied, Carries, Flies, FliesAt, IsFlight, flown_at, HasFlight, Flights, Known}
-use Rattle.queue_law.specs.Lists.{taken, same_item, item_times, views_total, sent_items, taken_items, Counted, tagged, home, Kept, sends, Ordered}
-use Rattle.queue_law.specs.Law.{Phase, Queue, QueueLaw, Gone, WholeLaw}
-use Rattle.queue_law.specs.Writes.{SameObjects, FirstSet, SecondSet, BackSet, CellSet, Quiet, Makes, Aside}
-use Rattle.queue_law.specs.Owned.{Keeps, owns}
-use Rattle.queue_law.specs.Nodes.{MakeReady, make_next, made, given, CarryReady, carry_next, BackReady, back_next}
-use Rattle.queue_law.specs.Pushes.{PushReady, carried_item, pushed_view, LinkReady, linked_view, link_next, AdvanceReady, advance_next, ExchangeReady, takes_off, flying_view, exchange_next, LandReady, land_next, HelpReady, helped_view, help_next}
-use Rattle.queue_law.specs.Pops.{TakeReady, popped_item, popped_view, take_next, EmptyReady, empty_next}
-use Rattle.queue_law.specs.Lessons.{Reads, LearnReady, learnt, learn_next, NextReady, next_next, AheadReady, ahead_next, ItemReady, item_next, BeforeReady, before_next, EndedReady, ended_next, SetReady, set_next, AttachReady, attach_next, NothingLinked, NextTells, AheadTells, ItemTells, AttachTells, TellsNothing}
-use Rattle.queue_law.specs.Opening.{LayTailReady, lay_tail_next, LayHeadReady, lay_head_next, item_of, behind, is_end, walk, waiting_in, ShutHeadReady, shut_head_next, ShutTailReady, shut_tail_next}
-use Rattle.queue_law.specs.Promises.{Follows, Far, OnChain, InFlight, OneMore, AllLinked, Waiting, Conserved, InOrder, LeftOver}
+use Rattle.plain_protocol.specs.Owns.{own_part}
+use Rattle.queue_law.specs.Words.{slot_at, cell_at, whole_of}
+use Rattle.queue_law.specs.Views.{Form, Linked, Double, Item, View, Load, first_view, view_at}
+use Rattle.queue_law.specs.Chain.{Ends, Sent, sent, HeadAt, TailAt, Chain}
+use Rattle.queue_law.specs.Notes.{Sees, Emptied, Carries, Flies, Known}
+use Rattle.queue_law.specs.Lists.{item_times, sent_items, taken_items, sends}
+use Rattle.queue_law.specs.Law.{QueueLaw, WholeLaw}
+use Rattle.queue_law.specs.Writes.{CellSet}
+use Rattle.queue_law.specs.Owned.{Keeps}
+use Rattle.queue_law.specs.Opening.{item_of, behind, is_end, walk, waiting_in, ShutHeadReady, shut_head_next, ShutTailReady, shut_tail_next}
+use Rattle.queue_law.specs.Promises.{LeftOver}
 use Rattle.queue_law.proofs.Effects.{null_cell}
 use Rattle.queue_law.proofs.Chain.{the_tail, the_head, tail_last, leads_linked, chain_present, same_node, same_tail_at}
 use Rattle.queue_law.proofs.ChainWrites.{same_firsts}
-use Rattle.queue_law.proofs.ChainGrows.{was}
 use Rattle.queue_law.proofs.Notes.{unchanged, sees_on, view_here, each_view, CarryOn, carries_on, carry_same, IsNamed, known_set}
 use Rattle.queue_law.proofs.Counts.{counted_same}
-use Rattle.queue_law.proofs.Orders.{only, ordered_same}
+use Rattle.queue_law.proofs.Orders.{ordered_same}
 use Rattle.queue_law.proofs.Seen.{flights_same, firsts_lead, own_apart}
-use Rattle.queue_law.proofs.Land.{on}
-use Rattle.queue_law.proofs.Gives.{seg, seg_all, waits, send_items, all_items, times_append}
+use Rattle.queue_law.proofs.Gives.{seg, seg_all, send_items, all_items, times_append}
 use Rattle.queue_law.proofs.Left.{gone_set}
 use Rattle.queue_law.proofs.Alone.{total_root, alone_at}
 
@@ -176,33 +163,38 @@ shut_head_deed u cells p q views n v step found lawful whole is stays_on r d =
     (subst (λ (z : View). Flies h z.flight) o.1 (ln.flies n))
     (own_apart u p h (length ts) t views n v ln o.1)
     (subst (IsNamed u n) o.1 (ln.number n))
-    (λ e. absurd (false≢true e)) (λ was z. was (sym tail_is ∙ z)) in
-    ((h, ts, t,
-    record {
-      chain = same_firsts u p q h (length ts) t (length ts) t c w.objects w.first (λ i il at. w.back (sent h i).node) (inl w.here)
-          (inr (same_tail_at p q w.objects u h t tail_is b)) c.lag c.links;
-      known = record {
-        sees = kq.sees;
-        emptied = kq.emptied;
-        carries = kq.carries;
-        flies = kq.flies;
-        apart = kq.apart;
-        number = kq.number;
-        attached = each_view (λ v. v.attached ≡ true → cell_at q u.head ≢ 0) views n new o.0 (λ e. absurd (false≢true e))
-            (λ m ne e. absurd (false≢true (sym (ap (λ (z : View). z.attached) (others m ne)) ∙ e)));
-      };
-      flights = flights_same u p q h views n v new o.0 o.1 w.objects w.first refl refl law.3.flights;
-      counted = counted_same h ts views n new law.3.counted o.0 (ap (λ (y : View). y.popped) (sym o.1)) (ap (λ (y : View). y.pushed) (sym o.1));
-      ordered = ordered_same h ts views n new law.3.ordered o.0 (ap (λ (y : View). y.here) (sym o.1)) (ap (λ (y : View). y.popped) (sym o.1)) (ap (λ (y : View). y.pushed) (sym o.1));
-      phase =
-          let is = ap (λ (z : View). z.stand.laid) now in
-          record {
-            unlaid = λ z. absurd (omega arith);
-            laying = λ z. absurd (omega arith);
-            shut = λ z. (w.here, omega arith, ap (λ (z : View). z.stand.left) now ∙ left_is);
+    (λ e. absurd (false≢true e)) (λ was z. was (sym tail_is ∙ z)) in (
+      (
+        h,
+        ts,
+        t,
+        record {
+          chain = same_firsts u p q h (length ts) t (length ts) t c w.objects w.first (λ i il at. w.back (sent h i).node) (inl w.here)
+              (inr (same_tail_at p q w.objects u h t tail_is b)) c.lag c.links;
+          known = record {
+            sees = kq.sees;
+            emptied = kq.emptied;
+            carries = kq.carries;
+            flies = kq.flies;
+            apart = kq.apart;
+            number = kq.number;
+            attached = each_view (λ v. v.attached ≡ true → cell_at q u.head ≢ 0) views n new o.0 (λ e. absurd (false≢true e))
+                (λ m ne e. absurd (false≢true (sym (ap (λ (z : View). z.attached) (others m ne)) ∙ e)));
           };
-    }),
-    gone_set p q n step found views new (λ j e. let z = sym r.act_is ∙ e in absurd cc) d whole.1)
+          flights = flights_same u p q h views n v new o.0 o.1 w.objects w.first refl refl law.3.flights;
+          counted = counted_same h ts views n new law.3.counted o.0 (ap (λ (y : View). y.popped) (sym o.1)) (ap (λ (y : View). y.pushed) (sym o.1));
+          ordered = ordered_same h ts views n new law.3.ordered o.0 (ap (λ (y : View). y.here) (sym o.1)) (ap (λ (y : View). y.popped) (sym o.1)) (ap (λ (y : View). y.pushed) (sym o.1));
+          phase =
+              let is = ap (λ (z : View). z.stand.laid) now in
+              record {
+                unlaid = λ z. absurd (omega arith);
+                laying = λ z. absurd (omega arith);
+                shut = λ z. (w.here, omega arith, ap (λ (z : View). z.stand.left) now ∙ left_is);
+              };
+        },
+      ),
+      gone_set p q n step found views new (λ j e. let z = sym r.act_is ∙ e in absurd cc) d whole.1,
+    )
 
 -- THE TAIL CELL
 pub shut_tail_deed : (u : Ends) → u.head ≢ u.tail → Keeps (WholeLaw u) (ShutTailReady u) shut_tail_next
@@ -220,33 +212,38 @@ shut_tail_deed u cells p q views n v step found lawful whole is stays_on r d =
     let new = shut_tail_next (own_part p n) (own_part q n) v step found in
     let on = firsts_lead p q h w.objects w.first in
     let carry : (m : Load) → CarryOn p q h h m = λ m. carry_same p q h h m w.objects (λ s e l. l) (λ z e y. w.second z) (λ z e y. w.back z) in
-    let now : view_at (set views n new) 0 ≡ new = ap (view_at (set views n new)) (sym al.0) ∙ view_here views n new o.0 in
-    ((h, ts, t,
-    record {
-      chain = same_firsts u p q h (length ts) t (length ts) t c w.objects w.first (λ i il at. w.back (sent h i).node) (inl (head_is ∙ f.0))
-          (inl (w.here, head_is ∙ f.0)) c.lag c.links;
-      known = known_set u p q h h (length ts) (length ts) t t n views new ln o.0 (unchanged h) (omega arith) (omega arith) on
-          (λ m ne. carry (view_at views m).load)
-          (sees_on p q h h (length ts) (length ts) t t v.eyes (unchanged h) (omega arith) (omega arith) on
-          (subst (λ (z : View). Sees p h (length ts) t z.eyes) o.1 (ln.sees n)))
-          (subst (Emptied h (length ts)) o.1 (ln.emptied n))
-          (carries_on p q h h v.load (carry v.load) (subst (λ (z : View). Carries p h z.load) o.1 (ln.carries n)))
-          (subst (λ (z : View). Flies h z.flight) o.1 (ln.flies n))
-          (own_apart u p h (length ts) t views n v ln o.1)
-          (subst (IsNamed u n) o.1 (ln.number n))
-          (λ e. absurd (ln.attached n (ap (λ (y : View). y.attached) o.1 ∙ e) f.0)) (λ was z. was f.0);
-      flights = flights_same u p q h views n v new o.0 o.1 w.objects w.first refl refl law.3.flights;
-      counted = counted_same h ts views n new law.3.counted o.0 (ap (λ (y : View). y.popped) (sym o.1)) (ap (λ (y : View). y.pushed) (sym o.1));
-      ordered = ordered_same h ts views n new law.3.ordered o.0 (ap (λ (y : View). y.here) (sym o.1)) (ap (λ (y : View). y.popped) (sym o.1)) (ap (λ (y : View). y.pushed) (sym o.1));
-      phase =
-          let is = ap (λ (z : View). z.stand.laid) now in
-          record {
-            unlaid = λ z. absurd (omega arith);
-            laying = λ z. absurd (omega arith);
-            shut = λ z. (head_is ∙ f.0, f.1, ap (λ (z : View). z.stand.left) now ∙ (ap (λ (z : View). z.stand.left) (sym root) ∙ f.2));
-          };
-    }),
-    gone_set p q n step found views new (λ j e. let z = sym r.act_is ∙ e in absurd cc) d whole.1)
+    let now : view_at (set views n new) 0 ≡ new = ap (view_at (set views n new)) (sym al.0) ∙ view_here views n new o.0 in (
+      (
+        h,
+        ts,
+        t,
+        record {
+          chain = same_firsts u p q h (length ts) t (length ts) t c w.objects w.first (λ i il at. w.back (sent h i).node) (inl (head_is ∙ f.0))
+              (inl (w.here, head_is ∙ f.0)) c.lag c.links;
+          known = known_set u p q h h (length ts) (length ts) t t n views new ln o.0 (unchanged h) (omega arith) (omega arith) on
+              (λ m ne. carry (view_at views m).load)
+              (sees_on p q h h (length ts) (length ts) t t v.eyes (unchanged h) (omega arith) (omega arith) on
+              (subst (λ (z : View). Sees p h (length ts) t z.eyes) o.1 (ln.sees n)))
+              (subst (Emptied h (length ts)) o.1 (ln.emptied n))
+              (carries_on p q h h v.load (carry v.load) (subst (λ (z : View). Carries p h z.load) o.1 (ln.carries n)))
+              (subst (λ (z : View). Flies h z.flight) o.1 (ln.flies n))
+              (own_apart u p h (length ts) t views n v ln o.1)
+              (subst (IsNamed u n) o.1 (ln.number n))
+              (λ e. absurd (ln.attached n (ap (λ (y : View). y.attached) o.1 ∙ e) f.0)) (λ was z. was f.0);
+          flights = flights_same u p q h views n v new o.0 o.1 w.objects w.first refl refl law.3.flights;
+          counted = counted_same h ts views n new law.3.counted o.0 (ap (λ (y : View). y.popped) (sym o.1)) (ap (λ (y : View). y.pushed) (sym o.1));
+          ordered = ordered_same h ts views n new law.3.ordered o.0 (ap (λ (y : View). y.here) (sym o.1)) (ap (λ (y : View). y.popped) (sym o.1)) (ap (λ (y : View). y.pushed) (sym o.1));
+          phase =
+              let is = ap (λ (z : View). z.stand.laid) now in
+              record {
+                unlaid = λ z. absurd (omega arith);
+                laying = λ z. absurd (omega arith);
+                shut = λ z. (head_is ∙ f.0, f.1, ap (λ (z : View). z.stand.left) now ∙ (ap (λ (z : View). z.stand.left) (sym root) ∙ f.2));
+              };
+        },
+      ),
+      gone_set p q n step found views new (λ j e. let z = sym r.act_is ∙ e in absurd cc) d whole.1,
+    )
 
 -- what shut has noted stands in place of what waits
 pub left_over : (u : Ends) (p : Plain) (views : List View) → QueueLaw u p views → 3 ≤ (view_at views 0).stand.laid → LeftOver views (view_at views 0).stand.left

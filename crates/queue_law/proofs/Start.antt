@@ -1,33 +1,13 @@
 -- The law holds at the start.
-use Rattle.std.proofs.Common.{◌≡◌, ◌≢◌, ◌⊎◌, inl, inr, ⊎_elim, ℕ, zero, suc, ◌+◌, ◌-◌, ◌<◌, ◌≤◌, Bool, true, false, List, [], ◌∷◌, ◌++◌, length, get_or, set, drop, map, sum_by, replicate, refl, ap, sym, ◌∙◌, subst, arith, append_assoc, Option, Some, None}
-use Rattle.std.specs.Prelude.{cond, ◌==◌, ◌&&◌, nat_lt, if◌then◌else◌}
-use Rattle.std.proofs.lemmas.Bool.{cases_eq, cases_lt, false≢true, eq-eqb, eqb-true, ltb-true, lt-ltb}
-use Rattle.plain_state.specs.State.{Plain, PlainSeat, seat_at, new_seat, new_slot, no_payload}
-use Rattle.plain_state.specs.Lawful.{Lawful}
-use Rattle.plain_state.specs.Steps.{Does, Replaces, word_of}
-use Rattle.plain_state.specs.Places.{content, IsOpen, IsReadable}
-use Rattle.plain_state.specs.declared.slot.SlotId.{SlotId}
-use Rattle.plain_state.specs.declared.slot.PlainSlot.{PlainSlot}
-use Rattle.plain_state.specs.declared.act.EventPlace.{EventPlace}
-use Rattle.plain_state.specs.declared.act.EventPlace.TheVariants.{Cell, Field, WeakCell, WeakField}
-use Rattle.plain_state.specs.declared.act.PlainAct.{PlainAct}
-use Rattle.plain_state.specs.declared.act.PlainAct.TheVariants as act
-use Rattle.plain_protocol.specs.Owns.{OwnPart, own_part}
-use Rattle.plain_protocol.specs.Acts.{IsCalm, IsForeign}
-use Rattle.queue_law.specs.Words.{SlotPart, slot_at, cell_at, code, read_slot, Live, LIVE, BLANK, strong_refs, weak_refs, times, held_times, life_of, payload_of, life_in, payload_in, id, first_of, second_of, back_of, whole_of, no_plain}
-use Rattle.queue_law.specs.Views.{Form, Linked, Double, Item, Taken, View, Stand, Eyes, Load, Flight, no_item, no_taken, no_eyes, sees_node, no_load, no_flight, first_view, view_of, joined, view_at}
-use Rattle.queue_law.specs.Chain.{Ends, Sent, no_sent, sent, Present, Leads, Solid, BacksTo, Missing, Lags, HoldsItem, HasItem, IsKnown, IsNode, WasLinked, HeadAt, TailAt, Chain}
-use Rattle.queue_law.specs.Notes.{Sees, SeesAt, Emptied, Carries, Flies, FliesAt, IsFlight, flown_at, HasFlight, Flights, Known}
-use Rattle.queue_law.specs.Lists.{taken, same_item, item_times, views_total, sent_items, taken_items, Counted, tagged, home, Kept, sends, Ordered}
-use Rattle.queue_law.specs.Law.{Phase, Queue, QueueLaw, Gone, WholeLaw}
-use Rattle.queue_law.specs.Writes.{SameObjects, FirstSet, SecondSet, BackSet, CellSet, Quiet, Makes, Aside}
-use Rattle.queue_law.specs.Owned.{Keeps, owns}
-use Rattle.queue_law.specs.Nodes.{MakeReady, make_next, made, given, CarryReady, carry_next, BackReady, back_next}
-use Rattle.queue_law.specs.Pushes.{PushReady, carried_item, pushed_view, LinkReady, linked_view, link_next, AdvanceReady, advance_next, ExchangeReady, takes_off, flying_view, exchange_next, LandReady, land_next, HelpReady, helped_view, help_next}
-use Rattle.queue_law.specs.Pops.{TakeReady, popped_item, popped_view, take_next, EmptyReady, empty_next}
-use Rattle.queue_law.specs.Lessons.{Reads, LearnReady, learnt, learn_next, NextReady, next_next, AheadReady, ahead_next, ItemReady, item_next, BeforeReady, before_next, EndedReady, ended_next, SetReady, set_next, AttachReady, attach_next, NothingLinked, NextTells, AheadTells, ItemTells, AttachTells, TellsNothing}
-use Rattle.queue_law.specs.Opening.{LayTailReady, lay_tail_next, LayHeadReady, lay_head_next, item_of, behind, is_end, walk, waiting_in, ShutHeadReady, shut_head_next, ShutTailReady, shut_tail_next}
-use Rattle.queue_law.specs.Promises.{Follows, Far, OnChain, InFlight, OneMore, AllLinked, Waiting, Conserved, InOrder, LeftOver}
+use Rattle.std.proofs.Common.{◌≡◌, ◌⊎◌, inl, ⊎_elim, ℕ, suc, false, List, [], ◌∷◌, refl, ap, sym, ◌∙◌, subst, arith}
+use Rattle.std.proofs.lemmas.Bool.{false≢true}
+use Rattle.plain_state.specs.State.{Plain}
+use Rattle.queue_law.specs.Words.{cell_at, Live}
+use Rattle.queue_law.specs.Views.{View, no_load, first_view, view_of, view_at}
+use Rattle.queue_law.specs.Chain.{Ends}
+use Rattle.queue_law.specs.Notes.{Sees, Emptied, Carries, Flies}
+use Rattle.queue_law.specs.Lists.{item_times, views_total, taken_items, tagged, home}
+use Rattle.queue_law.specs.Law.{QueueLaw}
 use Rattle.std.proofs.lemmas.List.Sums.{sum_by-cons}
 use Rattle.queue_law.proofs.Notes.{carries_none}
 use Rattle.queue_law.proofs.Orders.{tagged_none}
@@ -48,63 +28,66 @@ pub start : (u : Ends) (p : Plain) (views : List View) → Empty p
     → ((n : ℕ) → (view_at views n ≡ view_of u.form n) ⊎ (view_at views n ≡ first_view)) → QueueLaw u p views
 start u p views empty each =
     let both : (P : View → Type 0) → ((n : ℕ) → P (view_of u.form n)) → P first_view → (n : ℕ) → P (view_at views n) =
-    λ P a b n. ⊎_elim (λ e. subst P (sym e) (a n)) (λ e. subst P (sym e) b) (each n) in
-    ([], [], 0,
-    record {
-      chain = record {
-        head = inl (empty.cells u.head);
-        tail = inl (empty.cells u.tail, empty.cells u.head);
-        lag = λ low. absurd (omega arith);
-        links = λ i low. absurd (omega arith);
-        ends = λ i e. absurd (omega arith);
-        backs = λ double i low. absurd (omega arith);
-        first_back = λ double low. absurd (omega arith);
-        strays = λ s live. absurd (empty.slots s live);
-        apart = λ i j low. absurd (omega arith);
-        known = λ i low. absurd (omega arith);
-        nodes = λ i low. absurd (omega arith);
-      };
-      known = record {
-        sees = both (λ v. Sees p [] 0 0 v.eyes) (λ n z. absurd (z refl)) (λ z. absurd (z refl));
-        emptied = both (Emptied [] 0) (λ n z. absurd (z refl)) (λ z. absurd (z refl));
-        carries = both (λ v. Carries p [] v.load) (λ n. carries_none p [] no_load refl)
-            (carries_none p [] no_load refl);
-        flies = both (λ v. Flies [] v.flight) (λ n z. absurd (z refl)) (λ z. absurd (z refl));
-        apart = λ n m is_some. absurd (is_some (both (λ v. v.load.node ≡ 0) (λ k. refl) refl n));
-        number = λ n is. ⊎_elim
-            (λ e. (ap (λ (z : View). z.number) e, ap (λ (z : View). z.form) e))
-            (λ e. absurd (false≢true (ap (λ (z : View). z.here) (sym e) ∙ is)))
-            (each n);
-        attached = λ n is. absurd (false≢true (sym (both (λ v. v.attached ≡ false) (λ k. refl) refl n) ∙ is));
-      };
-      flights = λ double i e. absurd (omega arith);
-      counted = record {
-        pushed = λ x.
-            zero_total (λ v. item_times x (taken_items v.pushed)) views
-            (both (λ v. item_times x (taken_items v.pushed) ≡ 0) (λ n. items_none x) (items_none x))
-            ∙ sym (items_none x);
-        popped = λ x.
-            zero_total (λ v. item_times x (taken_items v.popped)) views
-            (both (λ v. item_times x (taken_items v.popped) ≡ 0) (λ n. items_none x) (items_none x))
-            ∙ sym (items_none x);
-        many = omega arith;
-        order = λ i low. absurd (omega arith);
-      };
-      ordered = record {
-        pushed = record {
-          own = λ n. ap (tagged n) (both (λ v. v.pushed ≡ []) (λ k. refl) refl (home views n));
-          none = λ n m ne. ap (tagged n) (both (λ v. v.pushed ≡ []) (λ k. refl) refl m) ∙ tagged_none n;
+    λ P a b n. ⊎_elim (λ e. subst P (sym e) (a n)) (λ e. subst P (sym e) b) (each n) in (
+      [],
+      [],
+      0,
+      record {
+        chain = record {
+          head = inl (empty.cells u.head);
+          tail = inl (empty.cells u.tail, empty.cells u.head);
+          lag = λ low. absurd (omega arith);
+          links = λ i low. absurd (omega arith);
+          ends = λ i e. absurd (omega arith);
+          backs = λ double i low. absurd (omega arith);
+          first_back = λ double low. absurd (omega arith);
+          strays = λ s live. absurd (empty.slots s live);
+          apart = λ i j low. absurd (omega arith);
+          known = λ i low. absurd (omega arith);
+          nodes = λ i low. absurd (omega arith);
         };
-        popped = record {
-          own = λ n. ap (tagged n) (both (λ v. v.popped ≡ []) (λ k. refl) refl (home views n));
-          none = λ n m ne. ap (tagged n) (both (λ v. v.popped ≡ []) (λ k. refl) refl m) ∙ tagged_none n;
+        known = record {
+          sees = both (λ v. Sees p [] 0 0 v.eyes) (λ n z. absurd (z refl)) (λ z. absurd (z refl));
+          emptied = both (Emptied [] 0) (λ n z. absurd (z refl)) (λ z. absurd (z refl));
+          carries = both (λ v. Carries p [] v.load) (λ n. carries_none p [] no_load refl)
+              (carries_none p [] no_load refl);
+          flies = both (λ v. Flies [] v.flight) (λ n z. absurd (z refl)) (λ z. absurd (z refl));
+          apart = λ n m is_some. absurd (is_some (both (λ v. v.load.node ≡ 0) (λ k. refl) refl n));
+          number = λ n is. ⊎_elim
+              (λ e. (ap (λ (z : View). z.number) e, ap (λ (z : View). z.form) e))
+              (λ e. absurd (false≢true (ap (λ (z : View). z.here) (sym e) ∙ is)))
+              (each n);
+          attached = λ n is. absurd (false≢true (sym (both (λ v. v.attached ≡ false) (λ k. refl) refl n) ∙ is));
         };
-      };
-      phase =
-          let none = both (λ v. v.stand.laid ≡ 0) (λ k. refl) refl 0 in
-          record {
-            unlaid = λ e. (refl, refl, empty.cells u.head, empty.cells u.tail);
-            laying = λ e. absurd (omega arith);
-            shut = λ e. absurd (omega arith);
+        flights = λ double i e. absurd (omega arith);
+        counted = record {
+          pushed = λ x.
+              zero_total (λ v. item_times x (taken_items v.pushed)) views
+              (both (λ v. item_times x (taken_items v.pushed) ≡ 0) (λ n. items_none x) (items_none x))
+              ∙ sym (items_none x);
+          popped = λ x.
+              zero_total (λ v. item_times x (taken_items v.popped)) views
+              (both (λ v. item_times x (taken_items v.popped) ≡ 0) (λ n. items_none x) (items_none x))
+              ∙ sym (items_none x);
+          many = omega arith;
+          order = λ i low. absurd (omega arith);
+        };
+        ordered = record {
+          pushed = record {
+            own = λ n. ap (tagged n) (both (λ v. v.pushed ≡ []) (λ k. refl) refl (home views n));
+            none = λ n m ne. ap (tagged n) (both (λ v. v.pushed ≡ []) (λ k. refl) refl m) ∙ tagged_none n;
           };
-    })
+          popped = record {
+            own = λ n. ap (tagged n) (both (λ v. v.popped ≡ []) (λ k. refl) refl (home views n));
+            none = λ n m ne. ap (tagged n) (both (λ v. v.popped ≡ []) (λ k. refl) refl m) ∙ tagged_none n;
+          };
+        };
+        phase =
+            let none = both (λ v. v.stand.laid ≡ 0) (λ k. refl) refl 0 in
+            record {
+              unlaid = λ e. (refl, refl, empty.cells u.head, empty.cells u.tail);
+              laying = λ e. absurd (omega arith);
+              shut = λ e. absurd (omega arith);
+            };
+      },
+    )

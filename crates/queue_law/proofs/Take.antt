@@ -1,38 +1,21 @@
 -- The exchange of the head cell: a pop takes an item.
-use Rattle.std.proofs.Common.{◌≡◌, ◌≢◌, ◌⊎◌, inl, inr, ⊎_elim, ℕ, zero, suc, ◌+◌, ◌-◌, ◌<◌, ◌≤◌, Bool, true, false, List, [], ◌∷◌, ◌++◌, length, get_or, set, drop, map, sum_by, replicate, refl, ap, sym, ◌∙◌, subst, arith, append_assoc, Option, Some, None}
-use Rattle.std.specs.Prelude.{cond, ◌==◌, ◌&&◌, nat_lt, if◌then◌else◌}
-use Rattle.std.proofs.lemmas.Bool.{cases_eq, cases_lt, false≢true, eq-eqb, eqb-true, ltb-true, lt-ltb}
-use Rattle.plain_state.specs.State.{Plain, PlainSeat, seat_at, new_seat, new_slot, no_payload}
+use Rattle.std.proofs.Common.{◌≡◌, ◌≢◌, ⊎_elim, ℕ, ◌+◌, ◌-◌, ◌<◌, true, List, [], ◌∷◌, ◌++◌, length, set, refl, ap, sym, ◌∙◌, subst, arith}
+use Rattle.plain_state.specs.State.{Plain, seat_at}
 use Rattle.plain_state.specs.Lawful.{Lawful}
-use Rattle.plain_state.specs.Steps.{Does, Replaces, word_of}
-use Rattle.plain_state.specs.Places.{content, IsOpen, IsReadable}
-use Rattle.plain_state.specs.declared.slot.SlotId.{SlotId}
-use Rattle.plain_state.specs.declared.slot.PlainSlot.{PlainSlot}
-use Rattle.plain_state.specs.declared.act.EventPlace.{EventPlace}
-use Rattle.plain_state.specs.declared.act.EventPlace.TheVariants.{Cell, Field, WeakCell, WeakField}
-use Rattle.plain_state.specs.declared.act.PlainAct.{PlainAct}
-use Rattle.plain_state.specs.declared.act.PlainAct.TheVariants as act
-use Rattle.plain_protocol.specs.Owns.{OwnPart, own_part}
-use Rattle.plain_protocol.specs.Acts.{IsCalm, IsForeign}
-use Rattle.queue_law.specs.Words.{SlotPart, slot_at, cell_at, code, read_slot, Live, LIVE, BLANK, strong_refs, weak_refs, times, held_times, life_of, payload_of, life_in, payload_in, id, first_of, second_of, back_of, whole_of, no_plain}
-use Rattle.queue_law.specs.Views.{Form, Linked, Double, Item, Taken, View, Stand, Eyes, Load, Flight, no_item, no_taken, no_eyes, sees_node, no_load, no_flight, first_view, view_of, joined, view_at}
-use Rattle.queue_law.specs.Chain.{Ends, Sent, no_sent, sent, Present, Leads, Solid, BacksTo, Missing, Lags, HoldsItem, HasItem, IsKnown, IsNode, WasLinked, HeadAt, TailAt, Chain}
-use Rattle.queue_law.specs.Notes.{Sees, SeesAt, Emptied, Carries, Flies, FliesAt, IsFlight, flown_at, HasFlight, Flights, Known}
-use Rattle.queue_law.specs.Lists.{taken, same_item, item_times, views_total, sent_items, taken_items, Counted, tagged, home, Kept, sends, Ordered}
-use Rattle.queue_law.specs.Law.{Phase, Queue, QueueLaw, Gone, WholeLaw}
-use Rattle.queue_law.specs.Writes.{SameObjects, FirstSet, SecondSet, BackSet, CellSet, Quiet, Makes, Aside}
-use Rattle.queue_law.specs.Owned.{Keeps, owns}
-use Rattle.queue_law.specs.Nodes.{MakeReady, make_next, made, given, CarryReady, carry_next, BackReady, back_next}
-use Rattle.queue_law.specs.Pushes.{PushReady, carried_item, pushed_view, LinkReady, linked_view, link_next, AdvanceReady, advance_next, ExchangeReady, takes_off, flying_view, exchange_next, LandReady, land_next, HelpReady, helped_view, help_next}
-use Rattle.queue_law.specs.Pops.{TakeReady, popped_item, popped_view, take_next, EmptyReady, empty_next}
-use Rattle.queue_law.specs.Lessons.{Reads, LearnReady, learnt, learn_next, NextReady, next_next, ItemReady, item_next, BeforeReady, before_next, EndedReady, ended_next, SetReady, set_next, AttachReady, attach_next}
-use Rattle.queue_law.specs.Opening.{LayTailReady, lay_tail_next, LayHeadReady, lay_head_next, item_of, behind, is_end, walk, waiting_in, ShutHeadReady, shut_head_next, ShutTailReady, shut_tail_next}
-use Rattle.queue_law.specs.Promises.{Follows, Far, OnChain, InFlight, OneMore, AllLinked, Waiting, Conserved, InOrder, LeftOver}
+use Rattle.plain_state.specs.Steps.{Does}
+use Rattle.plain_protocol.specs.Owns.{own_part}
+use Rattle.queue_law.specs.Words.{slot_at, cell_at, times, held_times, life_in, payload_in}
+use Rattle.queue_law.specs.Views.{Item, Taken, View, view_at}
+use Rattle.queue_law.specs.Chain.{Ends, Sent, sent, Present, Leads, HeadAt, Chain}
+use Rattle.queue_law.specs.Notes.{Sees, SeesAt, Emptied, Carries, Flies}
+use Rattle.queue_law.specs.Law.{Queue, QueueLaw}
+use Rattle.queue_law.specs.Writes.{CellSet}
+use Rattle.queue_law.specs.Owned.{Keeps}
+use Rattle.queue_law.specs.Pops.{TakeReady, popped_item, popped_view, take_next}
 use Rattle.std.proofs.lemmas.List.{length_push}
 use Rattle.queue_law.proofs.Kit.{own_life, own_payload}
 use Rattle.queue_law.proofs.Effects.{tried_cell}
 use Rattle.queue_law.proofs.ChainWrites.{head_chain}
-use Rattle.queue_law.proofs.ChainGrows.{was}
 use Rattle.queue_law.proofs.Notes.{unchanged, LeadsOn, sees_on, carries_on, carry_same, IsNamed, known_set}
 use Rattle.queue_law.proofs.Counts.{counted_pop, laid_set, phase_over}
 use Rattle.queue_law.proofs.Orders.{ordered_pop}
@@ -139,4 +122,3 @@ take_deed u cells p q views n v step found lawful law is stays_on ready d =
     subst (λ z. QueueLaw u q (set views n z)) (to_true found v.eyes.node v (popped_view (own_part p n) v) (hit.0 ∙ sym r.seen)) (_, _, _, k))
     (λ miss. subst (λ z. QueueLaw u q (set views n z)) (to_false found v.eyes.node v (popped_view (own_part p n) v) (λ e. miss.0 (e ∙ r.seen))) (same_law u p q views n v here.0 here.1 miss.1 law))
     st.1
-

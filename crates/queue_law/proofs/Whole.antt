@@ -1,46 +1,27 @@
 -- The law, with what it says of seats that have left, as a protocol owes it.
-use Rattle.std.proofs.Common.{◌≡◌, ◌≢◌, ◌⊎◌, inl, inr, ⊎_elim, ℕ, zero, suc, ◌+◌, ◌-◌, ◌<◌, ◌≤◌, Bool, true, false, List, [], ◌∷◌, ◌++◌, length, get_or, set, drop, map, sum_by, replicate, refl, ap, sym, ◌∙◌, subst, arith, append_assoc, Option, Some, None}
-use Rattle.std.specs.Prelude.{cond, ◌==◌, ◌&&◌, nat_lt, if◌then◌else◌}
-use Rattle.std.proofs.lemmas.Bool.{cases_eq, cases_lt, false≢true, eq-eqb, eqb-true, ltb-true, lt-ltb}
+use Rattle.std.proofs.Common.{◌≡◌, ◌≢◌, ◌⊎◌, inl, inr, ⊎_elim, ℕ, zero, suc, ◌+◌, ◌≤◌, true, List, length, get_or, set, map, replicate, refl, ap, sym, ◌∙◌, subst, arith, Option, None}
+use Rattle.std.proofs.lemmas.Bool.{cases_eq, cases_lt, false≢true}
 use Rattle.plain_state.specs.State.{Plain, PlainSeat, seat_at, new_seat, new_slot, no_payload}
 use Rattle.plain_state.specs.Lawful.{Lawful}
-use Rattle.plain_state.specs.Steps.{Does, Replaces, word_of}
-use Rattle.plain_state.specs.Places.{content, IsOpen, IsReadable}
+use Rattle.plain_state.specs.Steps.{Does, word_of}
 use Rattle.plain_state.specs.declared.slot.SlotId.{SlotId}
 use Rattle.plain_state.specs.declared.slot.PlainSlot.{PlainSlot}
-use Rattle.plain_state.specs.declared.act.EventPlace.{EventPlace}
-use Rattle.plain_state.specs.declared.act.EventPlace.TheVariants.{Cell, Field, WeakCell, WeakField}
 use Rattle.plain_state.specs.declared.act.PlainAct.{PlainAct}
 use Rattle.plain_state.specs.declared.act.PlainAct.TheVariants as act
 use Rattle.plain_protocol.specs.Owns.{OwnPart, own_part}
 use Rattle.plain_protocol.specs.Acts.{IsCalm, IsForeign}
-use Rattle.queue_law.specs.Words.{SlotPart, slot_at, cell_at, code, read_slot, Live, LIVE, BLANK, strong_refs, weak_refs, times, held_times, life_of, payload_of, life_in, payload_in, id, first_of, second_of, back_of, whole_of, no_plain}
-use Rattle.queue_law.specs.Views.{Form, Linked, Double, Item, Taken, View, Stand, Eyes, Load, Flight, no_item, no_taken, no_eyes, sees_node, no_load, no_flight, first_view, view_of, joined, view_at}
-use Rattle.queue_law.specs.Chain.{Ends, Sent, no_sent, sent, Present, Leads, Solid, BacksTo, Missing, Lags, HoldsItem, HasItem, IsKnown, IsNode, WasLinked, HeadAt, TailAt, Chain}
-use Rattle.queue_law.specs.Notes.{Sees, SeesAt, Emptied, Carries, Flies, FliesAt, IsFlight, flown_at, HasFlight, Flights, Known}
-use Rattle.queue_law.specs.Lists.{taken, same_item, item_times, views_total, sent_items, taken_items, Counted, tagged, home, Kept, sends, Ordered}
-use Rattle.queue_law.specs.Law.{Phase, Queue, QueueLaw, Gone, WholeLaw}
-use Rattle.queue_law.specs.Writes.{SameObjects, FirstSet, SecondSet, BackSet, CellSet, Quiet, Makes, Aside}
+use Rattle.queue_law.specs.Words.{cell_at, code, id}
+use Rattle.queue_law.specs.Views.{Form, View, first_view, view_of, joined, view_at}
+use Rattle.queue_law.specs.Chain.{Ends}
+use Rattle.queue_law.specs.Law.{QueueLaw, WholeLaw}
 use Rattle.queue_law.specs.Owned.{Keeps, owns}
-use Rattle.queue_law.specs.Nodes.{MakeReady, make_next, made, given, CarryReady, carry_next, BackReady, back_next}
-use Rattle.queue_law.specs.Pushes.{PushReady, carried_item, pushed_view, LinkReady, linked_view, link_next, AdvanceReady, advance_next, ExchangeReady, takes_off, flying_view, exchange_next, LandReady, land_next, HelpReady, helped_view, help_next}
-use Rattle.queue_law.specs.Pops.{TakeReady, popped_item, popped_view, take_next, EmptyReady, empty_next}
-use Rattle.queue_law.specs.Lessons.{Reads, LearnReady, learnt, learn_next, NextReady, next_next, AheadReady, ahead_next, ItemReady, item_next, BeforeReady, before_next, EndedReady, ended_next, SetReady, set_next, AttachReady, attach_next, NothingLinked, NextTells, AheadTells, ItemTells, AttachTells, TellsNothing}
-use Rattle.queue_law.specs.Opening.{LayTailReady, lay_tail_next, LayHeadReady, lay_head_next, item_of, behind, is_end, walk, waiting_in, ShutHeadReady, shut_head_next, ShutTailReady, shut_tail_next}
-use Rattle.queue_law.specs.Promises.{Follows, Far, OnChain, InFlight, OneMore, AllLinked, Waiting, Conserved, InOrder, LeftOver}
-use Rattle.std.proofs.lemmas.List.{get_or-set_same, get_or-set_other, set_past, get_or_past, length-set, get_or-replicate, length-replicate}
+use Rattle.queue_law.specs.Lessons.{TellsNothing}
+use Rattle.std.proofs.lemmas.List.{get_or-set_other, get_or_past, length-set, get_or-replicate, length-replicate}
 use Rattle.std.proofs.lemmas.List.FromFn.{get_or-map-range_with_len}
-use Rattle.std.proofs.lemmas.List.Sums.{sum_by-cons}
-use Rattle.std.specs.List.{list_all, range_with_len}
+use Rattle.std.specs.List.{range_with_len}
 use Rattle.plain_state.specs.State.{with_seat, with_slot, empty}
 use Rattle.plain_state.specs.State as state
-use Rattle.plain_state.specs.Places.{with_content, place_kind}
-use Rattle.plain_state.specs.Steps.{GivesUp}
-use Rattle.plain_state.specs.declared.slot.Kind.{Kind}
-use Rattle.plain_state.specs.declared.slot.Kind.TheVariants.{Strong, Weak, Disposal}
-use Rattle.plain_protocol.specs.Owns.{is_alone}
 use Rattle.plain_protocol.specs.Laws as laws
-use Rattle.queue_law.proofs.ChainGrows.{was}
 use Rattle.queue_law.proofs.Notes.{view_here, view_else}
 use Rattle.queue_law.proofs.Foreign.{calm, foreign}
 use Rattle.queue_law.proofs.Leave.{leave}
@@ -64,11 +45,14 @@ pub whole_told : (u : Ends) (ready : OwnPart → View → PlainAct → Type 0)
     → NoLeave ready → Keeps (QueueLaw u) ready next → Tells u ready next allows
     → laws.Keeps (WholeLaw u) first_view ready next allows
 whole_told u ready next allows stay k told p q views n step found meets low r d =
-    let v = view_at views n in
-    ((k p q views n v step found meets.lawful meets.law.0 (low, refl) d.0.1 r d,
-    gone_set p q n step found views (next (own_part p n) (own_part q n) v step found)
-    (stay (own_part p n) v step r) d meets.law.1),
-    told p q views n v step found meets.lawful meets.law.0 refl r d)
+    let v = view_at views n in (
+      (
+        k p q views n v step found meets.lawful meets.law.0 (low, refl) d.0.1 r d,
+        gone_set p q n step found views (next (own_part p n) (own_part q n) v step found)
+            (stay (own_part p n) v step r) d meets.law.1,
+      ),
+      told p q views n v step found meets.lawful meets.law.0 refl r d,
+    )
 
 pub whole_deed : (u : Ends) (ready : OwnPart → View → PlainAct → Type 0)
     (next : OwnPart → OwnPart → View → PlainAct → ℕ → View) → NoLeave ready → Keeps (QueueLaw u) ready next
@@ -145,4 +129,3 @@ whole_start u seats slots cells weak_cells =
           (λ past. let l = length-replicate seats new_seat in get_or_past views m first_view (omega arith))
           (λ left. absurd (false≢true (sym (ap (λ (z : PlainSeat). z.left) (empty_seat seats slots cells weak_cells m)) ∙ left))) e,
     )
-

@@ -10,6 +10,9 @@ pub record Ends : Type 0 where
   pub head : ℕ
   pub tail : ℕ
 
+abbrev pub ends : Form → ℕ → ℕ → Ends
+ends form head tail = record { form = form; head = head; tail = tail }
+
 -- a node that was linked, its item and the seat that pushed it
 pub record Sent : Type 0 where
   pub node : ℕ

@@ -1,5 +1,5 @@
 -- The deeds on a node of the seat's own: it is made, and gets its item and its way back.
-use Rattle.std.specs.Prelude.{◌≡◌, ℕ, ◌+◌, ◌-◌, ◌<◌, Option, Some, None}
+use Rattle.std.specs.Prelude.{◌≡◌, ℕ, ◌+◌, ◌-◌, ◌<◌, Some}
 use Rattle.plain_state.specs.declared.act.PlainAct.{PlainAct}
 use Rattle.plain_state.specs.declared.act.PlainAct.TheVariants as act
 use Rattle.plain_state.specs.State.{no_payload}

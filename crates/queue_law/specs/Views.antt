@@ -1,5 +1,5 @@
 -- The views of seats: with what a seat begins, and what becomes of a view where a seat leaves.
-use Rattle.std.specs.Prelude.{ℕ, ◌≡◌, true, false, List, [], ◌∷◌, ◌++◌, slice_index_or}
+use Rattle.std.specs.Prelude.{ℕ, true, false, List, [], ◌∷◌, ◌++◌, slice_index_or}
 pub use Rattle.queue_law.specs.declared.view.Form.{Form}
 pub use Rattle.queue_law.specs.declared.view.Form.TheVariants.{Linked, Double}
 pub use Rattle.queue_law.specs.declared.view.Item.{Item}
