@@ -35,7 +35,8 @@ module _ (u : Ends) (cells : u.head ≢ u.tail) (p q : Plain) (views : List View
     };
   }
 
-  sees : (s : (i : ℕ) × SeesAt p h (length ts) t v.eyes i) × ((sent h s.0).node ≡ old) × Present p (sent h s.0)
+  sees : (s : (i : ℕ) × SeesAt p h (length ts) t v.eyes i) × ((sent h s.0).node ≡ old)
+      × Present p (sent h s.0)
   sees = seen_here u p views n v old h ts t lawful law at held seen seen_life
 
   more : sees.0.0 + 1 < length h
@@ -77,25 +78,30 @@ module _ (u : Ends) (cells : u.head ≢ u.tail) (p q : Plain) (views : List View
   advance_done tail w =
       let o = w.objects in
       let k = law.known in
-      let b : TailAt u p h t = ⊎_elim (λ z. let y = z.0 in absurd (omega arith)) (λ x. x) law.chain.tail in
+      let b : TailAt u p h t = ⊎_elim (λ z. let y = z.0 in absurd (omega arith))
+      (λ x. x) law.chain.tail in
       let at_t : (sent h t).node ≡ old = let z = b.holds in omega arith in
       let same : sees.0.0 ≡ t =
       same_node u p h (length ts) t law.chain sees.0.0 t sees.0.1.inside b.inside sees.2 b.is
       (sees.1 ∙ sym at_t) in
       let e1 : sees.0.0 + 1 ≡ t + 1 = omega arith in
       let low_t : t + 1 < length h = let x = more in omega arith in
-      let write = subst (λ z. CellSet p q u.tail (z + 1)) (sym next_is ∙ ap (λ z. (sent h z).node) e1) w in
+      let write = subst (λ z. CellSet p q u.tail (z + 1))
+      (sym next_is ∙ ap (λ z. (sent h z).node) e1) w in
       let on = firsts_lead p q h o w.first in
       let carry : (m : Load) → CarryOn p q h h m =
       λ m. carry_same p q h h m o (λ s e l. l) (λ s e z. w.second s) (λ s e z. w.back s) in
       rewrite_keeps u p q views n v h ts t (t + 1) law (omega arith) low at
       (tail_chain u p q h (length ts) t law.chain b linked low_t cells write) (w.other u.head cells)
-      (inl (omega arith, λ y. let x = w.here in omega arith)) on (λ m ne. carry (view_at views m).load) now
+      (inl (omega arith, λ y. let x = w.here in omega arith)) on
+      (λ m ne. carry (view_at views m).load) now
       (sees_now q (t + 1) (omega arith)) (subst (Emptied h (length ts)) at (k.emptied n))
-      (carries_on p q h h v.load (carry v.load) (subst (λ (z : View). Carries p h z.load) at (k.carries n)))
+      (carries_on p q h h v.load (carry v.load)
+      (subst (λ (z : View). Carries p h z.load) at (k.carries n)))
       (subst (λ (z : View). Flies h z.flight) at (k.flies n)) (λ d. absurd (one_form u.form linked d))
       refl refl refl refl refl refl
-      (λ a z. k.attached n (ap (λ (y : View). y.attached) at ∙ a) (sym (w.other u.head cells) ∙ z)) refl refl
+      (λ a z. k.attached n (ap (λ (y : View). y.attached) at ∙ a)
+      (sym (w.other u.head cells) ∙ z)) refl refl
 
   -- somebody else has advanced it
   pub advance_lost : cell_at p u.tail ≢ old + 1 → Queue u p (set views n now) h ts t
@@ -114,7 +120,8 @@ module _ (u : Ends) (cells : u.head ≢ u.tail) (p q : Plain) (views : List View
       (cases_lt sees.0.0 t) in
       rewrite_keeps u p p views n v h ts t t law (omega arith) low at law.chain refl (inr refl)
       (leads_stay p h) (λ m ne. carry_stay p h (view_at views m).load) now (sees_now p t past)
-      (subst (Emptied h (length ts)) at (k.emptied n)) (subst (λ (z : View). Carries p h z.load) at (k.carries n))
+      (subst (Emptied h (length ts)) at (k.emptied n))
+      (subst (λ (z : View). Carries p h z.load) at (k.carries n))
       (subst (λ (z : View). Flies h z.flight) at (k.flies n)) (λ d. absurd (one_form u.form linked d))
       refl refl refl refl refl refl (λ a. k.attached n (ap (λ (y : View). y.attached) at ∙ a)) refl refl
 
@@ -127,14 +134,17 @@ advance_deed u cells p q views n v step found lawful law is stays_on r d =
       _,
       _,
       advance_done u cells p q views n v r.old r.new lawful law.0 law.1 law.2 law.3 is.0 is.1
-          r.form r.held r.held_new r.seen r.seen_life r.following r.was_tail r.attached (sym st.0 ∙ hit.0) hit.2,
+          r.form r.held r.held_new r.seen r.seen_life r.following r.was_tail r.attached
+          (sym st.0 ∙ hit.0) hit.2,
     ))
-    (λ miss. subst (λ z. QueueLaw u z (set views n (advance_next (own_part p n) (own_part q n) v step found)))
+    (λ miss. subst (λ z. QueueLaw u z
+    (set views n (advance_next (own_part p n) (own_part q n) v step found)))
     (sym miss.1) (
       _,
       _,
       _,
       advance_lost u cells p q views n v r.old r.new lawful law.0 law.1 law.2 law.3 is.0 is.1
-          r.form r.held r.held_new r.seen r.seen_life r.following r.was_tail r.attached (λ e. miss.0 (st.0 ∙ e)),
+          r.form r.held r.held_new r.seen r.seen_life r.following r.was_tail r.attached
+          (λ e. miss.0 (st.0 ∙ e)),
     ))
     st.1

@@ -12,7 +12,8 @@ use Rattle.plain_protocol.specs.Owns.{is_alone}
 use Rattle.queue_law.proofs.Start.{zero_total}
 
 -- a sum over views where all but the root's are 0
-pub total_root : (f : View → ℕ) (vs : List View) → f first_view ≡ 0 → ((m : ℕ) → m ≢ 0 → f (view_at vs m) ≡ 0) → views_total f vs ≡ f (view_at vs 0)
+pub total_root : (f : View → ℕ) (vs : List View) → f first_view ≡ 0
+    → ((m : ℕ) → m ≢ 0 → f (view_at vs m) ≡ 0) → views_total f vs ≡ f (view_at vs 0)
 unfolding views_total
 total_root f [] none k = sym none
 total_root f (v ∷ vs) none k =
@@ -32,18 +33,21 @@ drop_long : (vs : List PlainSeat) → length vs ≤ length (drop 1 vs) + 1
 drop_long [] = omega arith
 drop_long (x ∷ vs) = omega arith
 
-all_left_at : (vs : List PlainSeat) → list_all (λ (v : PlainSeat). v.left) vs ≡ true → (i : ℕ) → i < length vs → (get_or vs i new_seat).left ≡ true
+all_left_at : (vs : List PlainSeat) → list_all (λ (v : PlainSeat). v.left) vs ≡ true → (i : ℕ)
+    → i < length vs → (get_or vs i new_seat).left ≡ true
 all_left_at [] e i low = absurd (omega arith)
 all_left_at (v ∷ vs) e zero low = (and_left v.left _ e).0
 all_left_at (v ∷ vs) e (suc i) low = all_left_at vs (and_left v.left _ e).1 i (omega arith)
 
-pub alone_at : (p : Plain) (n : ℕ) (w : Plain) → (own_part p n).whole ≡ Some w → (n ≡ 0) × (w ≡ p) × ((m : ℕ) → m ≢ 0 → (length p.seats ≤ m) ⊎ ((seat_at p m).left ≡ true))
+pub alone_at : (p : Plain) (n : ℕ) (w : Plain) → (own_part p n).whole ≡ Some w → (n ≡ 0) × (w ≡ p)
+    × ((m : ℕ) → m ≢ 0 → (length p.seats ≤ m) ⊎ ((seat_at p m).left ≡ true))
 alone_at p n w e = go (is_alone p n) refl e
   where
     some_is : (a b : Plain) → Some a ≡ Some b → b ≡ a
     some_is a b e = sym (cc e)
 
-    go : (b : Bool) → is_alone p n ≡ b → (if b then Some p else None) ≡ Some w → (n ≡ 0) × (w ≡ p) × ((m : ℕ) → m ≢ 0 → (length p.seats ≤ m) ⊎ ((seat_at p m).left ≡ true))
+    go : (b : Bool) → is_alone p n ≡ b → (if b then Some p else None) ≡ Some w → (n ≡ 0) × (w ≡ p)
+        × ((m : ℕ) → m ≢ 0 → (length p.seats ≤ m) ⊎ ((seat_at p m).left ≡ true))
     go false is e = absurd cc
     go true is e =
         let both = and_left (n == 0) _ is in (
@@ -51,6 +55,8 @@ alone_at p n w e = go (is_alone p n) refl e
           some_is p w e,
           λ m ne. ⊎_elim
               (λ low. let k : m - 1 + 1 ≡ m = omega arith in let l = drop_long p.seats in
-              inr (ap (λ z. (seat_at p z).left) (sym k) ∙ (ap (λ (z : PlainSeat). z.left) (sym (drop_first p.seats (m - 1))) ∙ all_left_at (drop 1 p.seats) both.1 (m - 1) (omega arith))))
+              inr (ap (λ z. (seat_at p z).left) (sym k)
+              ∙ (ap (λ (z : PlainSeat). z.left) (sym (drop_first p.seats (m - 1)))
+              ∙ all_left_at (drop 1 p.seats) both.1 (m - 1) (omega arith))))
               (λ past. inl past) (cases_lt m (length p.seats)),
         )

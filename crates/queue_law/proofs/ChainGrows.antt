@@ -56,7 +56,8 @@ module _ (u : Ends) (p q : Plain) (h : List Sent) (k t : ℕ) (e : Sent) (c : Ch
         is = keep k kl a.is;
         items = λ j after more. ⊎_elim
             (λ inner. subst (HasItem q) (sym (old_node h e j inner))
-            (same_has p q o (sent h j).node (sent h j).item (second (sent h j).node) (a.items j after inner)))
+            (same_has p q o (sent h j).node (sent h j).item (second (sent h j).node)
+            (a.items j after inner)))
             (λ past. subst (HasItem q) (sym (new_node h e j (omega arith)))
             (same_has p q o e.node e.item (second e.node) item))
             (cases_lt j (length h));
@@ -108,7 +109,8 @@ module _ (u : Ends) (p q : Plain) (h : List Sent) (k t : ℕ) (e : Sent) (c : Ch
       ⊎_elim
       (λ inner. subst (IsNode q) (sym (old_node h e j inner))
       (same_is_node p q o (sent h j) (c.nodes j inner)))
-      (λ past. subst (IsNode q) (sym (new_node h e j (omega arith))) (λ live life. o.payload e.node ∙ new.2))
+      (λ past. subst (IsNode q) (sym (new_node h e j (omega arith)))
+      (λ live life. o.payload e.node ∙ new.2))
       (cases_lt j (length h))
 
 -- EXCHANGE: the tail cell gets a node whose weak field leads back to the last one, where the last link isn't missing
@@ -153,7 +155,8 @@ module _ (u : Ends) (cells : u.head ≢ u.tail) (p q : Plain) (h : List Sent) (k
             ∙ (w.back e.node
             ∙ (backs ∙ (ap (λ z. (sent h z).node + 1) is ∙ ap (λ (z : Sent). z.node + 1) (sym a)))),
         subst (λ (z : Sent). Solid q z.node z.life) (sym a)
-            (subst (λ z. Solid q (sent h z).node (sent h z).life) is (same_solid p q w.objects _ _ solid)),
+            (subst (λ z. Solid q (sent h z).node (sent h z).life) is
+            (same_solid p q w.objects _ _ solid)),
       ))
       (cases_lt (j + 1) (length h))
 
@@ -247,7 +250,8 @@ module _ (u : Ends) (p q : Plain) (h : List Sent) (k t i : ℕ) (e : Sent) (c : 
             (λ z. inl (w.cells u.tail ∙ z.0, w.cells u.head ∙ z.1))
             (λ b. let tl = b.inside in inr (record {
               inside = omega arith;
-              holds = w.cells u.tail ∙ (b.holds ∙ ap (λ (z : Sent). z.node + 1) (sym (old_node h e t tl)));
+              holds = w.cells u.tail ∙ (b.holds ∙ ap (λ (z : Sent). z.node + 1)
+                  (sym (old_node h e t tl)));
               is = keep u p q h k t e c o w.second new unlinked item t tl b.is;
             }))
             c.tail;

@@ -27,7 +27,8 @@ use Rattle.queue_law.proofs.Told.{next_tells, ahead_tells, item_tells, attach_te
 use Rattle.queue_law.proofs.Shut.{shut_head_deed, shut_tail_deed}
 
 reads_no_leave : (at : EventPlace) (step : PlainAct) → Reads at step → (j : ℕ) → step ≢ act.Leave j
-reads_no_leave at step r j e = ⊎_elim (λ l. let z = sym l ∙ e in absurd cc) (λ l. let z = sym l.1 ∙ e in absurd cc) r
+reads_no_leave at step r j e = ⊎_elim (λ l. let z = sym l ∙ e in absurd cc)
+    (λ l. let z = sym l.1 ∙ e in absurd cc) r
 
 module _ (u : Ends) (cells : u.head ≢ u.tail) where
   pub make : laws.Keeps (WholeLaw u) first_view MakeReady make_next TellsNothing

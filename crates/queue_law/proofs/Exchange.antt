@@ -40,7 +40,8 @@ module _ (u : Ends) (cells : u.head ≢ u.tail) (p q : Plain) (views : List View
 
   sees : (i : ℕ) × SeesAt p h (length ts) t v.eyes i
   sees =
-      push_sees u p q views n v node lawful h ts t law low at owned r w.objects w.second (λ z. omega arith)
+      push_sees u p q views n v node lawful h ts t law low at owned r w.objects w.second
+      (λ z. omega arith)
 
   at_old : (sent h sees.0).node ≡ old
   at_old = let a = sees.1.node in omega arith
@@ -86,7 +87,8 @@ module _ (u : Ends) (cells : u.head ≢ u.tail) (p q : Plain) (views : List View
   has = push_has u p q views n v node lawful h ts t law low at owned r w.objects w.second
 
   on : LeadsOn p q h (h ++ e ∷ [])
-  on = lead_exchange u cells p q h (length ts) t e law.chain double ends done new unlinked has its_back solid w
+  on = lead_exchange u cells p q h
+      (length ts) t e law.chain double ends done new unlinked has its_back solid w
 
   flies_now : Flies (h ++ e ∷ []) (takes_off v)
   flies_now is_some =
@@ -124,7 +126,8 @@ module _ (u : Ends) (cells : u.head ≢ u.tail) (p q : Plain) (views : List View
       let head = w.other u.head cells in
       let lows = at_tail.inside in
       let kl = (the_head u p h (length ts) t law.chain is_attached).inside in
-      push_keeps u p q views n v node lawful h ts t law low at owned r w.objects w.second (length h) v.eyes
+      push_keeps u p q views n v node lawful h ts t law low at owned r w.objects w.second
+      (length h) v.eyes
       (takes_off v) (omega arith) (omega arith) w.back head
       (exchange_chain u cells p q h (length ts) t e law.chain double ends done new unlinked has its_back
       solid w kl)

@@ -29,9 +29,11 @@ use Rattle.queue_law.proofs.Calm.{calm_queue}
 use Rattle.queue_law.proofs.Make.{make_queue}
 
 -- a write that the queue doesn't read
-module _ (u : Ends) (p q : Plain) (views : List View) (h : List Sent) (ts : List Taken) (t : ℕ) (law : Queue u p views h ts t) (w : Aside u p q) where
+module _ (u : Ends) (p q : Plain) (views : List View) (h : List Sent) (ts : List Taken) (t : ℕ)
+    (law : Queue u p views h ts t) (w : Aside u p q) where
   was_at : (e : Sent) → Present q e → Present p e
-  was_at e at = let o = w.objects in (sym (o.stage e.node) ∙ at.0, sym (o.life e.node) ∙ at.1, sym (o.payload e.node) ∙ at.2)
+  was_at e at = let o = w.objects in
+      (sym (o.stage e.node) ∙ at.0, sym (o.life e.node) ∙ at.1, sym (o.payload e.node) ∙ at.2)
 
   is_at : (e : Sent) → Present p e → Present q e
   is_at e at = let o = w.objects in (o.stage e.node ∙ at.0, o.life e.node ∙ at.1, o.payload e.node ∙ at.2)
@@ -69,7 +71,8 @@ module _ (u : Ends) (p q : Plain) (views : List View) (h : List Sent) (ts : List
               null = w.first (sent h i).node was.2 ∙ m.null;
             }))
             (c.links i low was);
-        ends = λ i low at. let was = was_at (sent h i) at in w.first (sent h i).node was.2 ∙ c.ends i low was;
+        ends = λ i low at. let was = was_at (sent h i) at in w.first (sent h i).node was.2
+            ∙ c.ends i low was;
         backs = λ double i low at.
             let was = was_at (sent h (i + 1)) at in
             let b = c.backs double i low was in
@@ -79,7 +82,8 @@ module _ (u : Ends) (p q : Plain) (views : List View) (h : List Sent) (ts : List
         strays = λ s live node not.
             let nd = sym (ob.payload s) ∙ node in
             w.first s nd
-            ∙ c.strays s (sym (ob.stage s) ∙ live) nd (λ l. not (subst (WasLinked h s) (sym (ob.life s)) l));
+            ∙ c.strays s (sym (ob.stage s) ∙ live) nd
+            (λ l. not (subst (WasLinked h s) (sym (ob.life s)) l));
         apart = c.apart;
         known = λ i low. same_known p q ob (sent h i) (c.known i low);
         nodes = λ i low. same_is_node p q ob (sent h i) (c.nodes i low);
@@ -92,7 +96,8 @@ module _ (u : Ends) (p q : Plain) (views : List View) (h : List Sent) (ts : List
   aside_queue = let o = law.known in let ob = w.objects in record {
     chain = aside_chain;
     known = record {
-      sees = λ m. sees_on p q h h (length ts) (length ts) t t (view_at views m).eyes (unchanged h) (omega arith) (omega arith) on (o.sees m);
+      sees = λ m. sees_on p q h h (length ts) (length ts) t t (view_at views m).eyes (unchanged h)
+          (omega arith) (omega arith) on (o.sees m);
       emptied = o.emptied;
       carries = λ m. let k = o.carries m in carries_on p q h h (view_at views m).load (record {
         unlinked = λ j e l. l;
@@ -100,27 +105,44 @@ module _ (u : Ends) (p q : Plain) (views : List View) (h : List Sent) (ts : List
         payload = λ j e live life. ob.payload j;
         was = λ j e live life. let lv = sym (ob.stage j) ∙ live in let lf = sym (ob.life j) ∙ life in
             (lv, lf, λ x ex at. (w.second j (k.node j e lv lf) ∙ at, ob.life x, ob.payload x));
-        backed = λ j e live life. w.back j (k.node j e (sym (ob.stage j) ∙ live) (sym (ob.life j) ∙ life));
+        backed = λ j e live life. w.back j
+            (k.node j e (sym (ob.stage j) ∙ live) (sym (ob.life j) ∙ life));
       }) k;
       flies = o.flies;
       apart = o.apart;
       number = o.number;
       attached = λ m e z. o.attached m e (sym w.head ∙ z);
     };
-    flights = λ double i e at null. let was = was_at (sent h i) at in law.flights double i e was (sym (w.first (sent h i).node was.2) ∙ null);
+    flights = λ double i e at null. let was = was_at (sent h i) at in
+        law.flights double i e was (sym (w.first (sent h i).node was.2) ∙ null);
     counted = law.counted;
     ordered = law.ordered;
     phase = phase_same u p q h ts (view_at views 0) (view_at views 0) w.head (inr w.tail) refl law.phase;
   }
 
-cell_aside : (u : Ends) (p q : Plain) (c new : ℕ) → CellSet p q c new → c ≢ u.head → c ≢ u.tail → Aside u p q
-cell_aside u p q c new w a b = record { objects = w.objects; first = λ j e. w.first j; second = λ j e. w.second j; back = λ j e. w.back j; head = w.other u.head (λ e. a (sym e)); tail = w.other u.tail (λ e. b (sym e)) }
+cell_aside : (u : Ends) (p q : Plain) (c new : ℕ) → CellSet p q c new → c ≢ u.head → c ≢ u.tail
+    → Aside u p q
+cell_aside u p q c new w a b =
+    record {
+      objects = w.objects;
+      first = λ j e. w.first j;
+      second = λ j e. w.second j;
+      back = λ j e. w.back j;
+      head = w.other u.head (λ e. a (sym e));
+      tail = w.other u.tail (λ e. b (sym e));
+    }
 
 pub none_aside : (u : Ends) (p q : Plain) → q.slots ≡ p.slots → q.cells ≡ p.cells → Aside u p q
 none_aside u p q slots cells =
-    let at : (j : ℕ) → state.slot_at q (id j) ≡ state.slot_at p (id j) = λ j. ap (λ l. get_or l j state.new_slot) slots in
+    let at : (j : ℕ) → state.slot_at q (id j) ≡ state.slot_at p (id j) =
+    λ j. ap (λ l. get_or l j state.new_slot) slots in
     record {
-      objects = record { stage = λ j. ap (λ (z : PlainSlot). code z.stage) (at j); life = λ j. ap (λ (z : PlainSlot). z.life) (at j); payload = λ j. ap (λ (z : PlainSlot). z.payload) (at j) };
+      objects = record {
+        stage = λ j. ap (λ (z : PlainSlot). code z.stage) (at j);
+        life = λ j. ap (λ (z : PlainSlot). z.life) (at j);
+        payload = λ j. ap (λ (z : PlainSlot). z.payload)
+            (at j);
+      };
       first = λ j e. ap (λ (z : PlainSlot). word_of z.first) (at j);
       second = λ j e. ap (λ (z : PlainSlot). word_of z.second) (at j);
       back = λ j e. ap (λ (z : PlainSlot). word_of z.weak_field) (at j);
@@ -129,9 +151,12 @@ none_aside u p q slots cells =
     }
 
 -- another part's object
-slot_aside : (u : Ends) (p q : Plain) (t : ℕ) (x : PlainSlot) → Wrote p q t x → x.stage ≡ (state.slot_at p (id t)).stage → x.life ≡ (state.slot_at p (id t)).life → x.payload ≡ (state.slot_at p (id t)).payload → (slot_at p t).payload ≢ no_payload → Aside u p q
+slot_aside : (u : Ends) (p q : Plain) (t : ℕ) (x : PlainSlot) → Wrote p q t x
+    → x.stage ≡ (state.slot_at p (id t)).stage → x.life ≡ (state.slot_at p (id t)).life
+    → x.payload ≡ (state.slot_at p (id t)).payload → (slot_at p t).payload ≢ no_payload → Aside u p q
 slot_aside u p q t x w a b c not =
-    let else_at : (j : ℕ) → (slot_at p j).payload ≡ no_payload → state.slot_at q (id j) ≡ state.slot_at p (id j) = λ j e. w.other j (λ is. not (ap (λ z. (slot_at p z).payload) (sym is) ∙ e)) in
+    let else_at : (j : ℕ) → (slot_at p j).payload ≡ no_payload → state.slot_at q (id j) ≡ state.slot_at p
+    (id j) = λ j e. w.other j (λ is. not (ap (λ z. (slot_at p z).payload) (sym is) ∙ e)) in
     record {
       objects = wrote_objects p q t x w a b c;
       first = λ j e. ap (λ (z : PlainSlot). word_of z.first) (else_at j e);
@@ -141,33 +166,57 @@ slot_aside u p q t x w a b c not =
       tail = w.cells u.tail;
     }
 
-with_field_same : {A : Type 0} (f : PlainSlot → A) (i : ℕ) (new : Option SlotId) (x : PlainSlot) → ((y : Option SlotId) → f (record x { first = y }) ≡ f x) → ((y : Option SlotId) → f (record x { second = y }) ≡ f x) → f (with_field i new x) ≡ f x
+with_field_same : {A : Type 0} (f : PlainSlot → A) (i : ℕ) (new : Option SlotId) (x : PlainSlot)
+    → ((y : Option SlotId) → f (record x { first = y }) ≡ f x)
+    → ((y : Option SlotId) → f (record x { second = y }) ≡ f x) → f (with_field i new x) ≡ f x
 with_field_same {A} f i new x a b = go (i == 0)
   where
-    go : (z : Bool) → f (Rattle.std.specs.Prelude.if◌then◌else◌ z (record x { first = new }) (record x { second = new })) ≡ f x
+    go : (z : Bool) → f (Rattle.std.specs.Prelude.if◌then◌else◌ z (record x { first = new })
+        (record x { second = new })) ≡ f x
     go true = a new
     go false = b new
 
-foreign_write : (u : Ends) (p q : Plain) (n : ℕ) (at : EventPlace) (new : Option SlotId) → Lawful p → IsForeign (owns u) p (act.Replace at new) → Rattle.plain_state.specs.Places.IsOpen p n at → Replaces p n at new q → Aside u p q
-foreign_write u p q n (Cell c) new lawful f o r = cell_aside u p q c (word_of new) (replaced_cell p q n c new o r) (λ e. f (inl e)) (λ e. f (inr e))
-foreign_write u p q n (Field s i) new lawful f o r = slot_aside u p q s.0 (with_field i new (state.slot_at p s)) (wrote p q s.0 _ (live_range p s.0 (held_live p n s.0 lawful o.1)) (slots_of _ q r.2) (cells_of _ q r.2))
-    (with_field_same (λ z. z.stage) i new (state.slot_at p s) (λ y. refl) (λ y. refl)) (with_field_same (λ z. z.life) i new (state.slot_at p s) (λ y. refl) (λ y. refl)) (with_field_same (λ z. z.payload) i new (state.slot_at p s) (λ y. refl) (λ y. refl)) f
-foreign_write u p q n (WeakCell c) new lawful f o r = none_aside u p q (slots_of _ q r.2) (cells_of _ q r.2)
-foreign_write u p q n (WeakField s) new lawful f o r = slot_aside u p q s.0 _ (wrote p q s.0 _ (live_range p s.0 (held_live p n s.0 lawful o)) (slots_of _ q r.2) (cells_of _ q r.2)) refl refl refl f
+foreign_write : (u : Ends) (p q : Plain) (n : ℕ) (at : EventPlace) (new : Option SlotId) → Lawful p
+    → IsForeign (owns u) p (act.Replace at new) → Rattle.plain_state.specs.Places.IsOpen p n at
+    → Replaces p n at new q → Aside u p q
+foreign_write u p q n (Cell c) new lawful f o r = cell_aside u p q c (word_of new)
+    (replaced_cell p q n c new o r) (λ e. f (inl e)) (λ e. f (inr e))
+foreign_write u p q n (Field s i) new lawful f o r = slot_aside u p q s.0
+    (with_field i new (state.slot_at p s))
+    (wrote p q s.0 _ (live_range p s.0 (held_live p n s.0 lawful o.1)) (slots_of _ q r.2)
+    (cells_of _ q r.2))
+    (with_field_same (λ z. z.stage) i new (state.slot_at p s) (λ y. refl) (λ y. refl))
+    (with_field_same (λ z. z.life) i new (state.slot_at p s) (λ y. refl) (λ y. refl))
+    (with_field_same (λ z. z.payload) i new (state.slot_at p s) (λ y. refl) (λ y. refl)) f
+foreign_write u p q n (WeakCell c) new lawful f o r = none_aside u p q (slots_of _ q r.2)
+    (cells_of _ q r.2)
+foreign_write u p q n (WeakField s) new lawful f o r = slot_aside u p q s.0 _
+    (wrote p q s.0 _ (live_range p s.0 (held_live p n s.0 lawful o)) (slots_of _ q r.2)
+    (cells_of _ q r.2)) refl refl refl f
 
-pub aside_law : (u : Ends) (p q : Plain) (views : List View) → QueueLaw u p views → Aside u p q → QueueLaw u q views
+pub aside_law : (u : Ends) (p q : Plain) (views : List View) → QueueLaw u p views → Aside u p q
+    → QueueLaw u q views
 aside_law u p q views law w = (law.0, law.1, law.2, aside_queue u p q views law.0 law.1 law.2 law.3 w)
 
-quiet_law : (u : Ends) (p q : Plain) (views : List View) → QueueLaw u p views → Quiet p q → QueueLaw u q views
+quiet_law : (u : Ends) (p q : Plain) (views : List View) → QueueLaw u p views → Quiet p q
+    → QueueLaw u q views
 quiet_law u p q views law w = (law.0, law.1, law.2, calm_queue u p q views law.0 law.1 law.2 w law.3)
 
-module _ (u : Ends) (p q : Plain) (n : ℕ) (found : ℕ) (views : List View) (lawful : Lawful p) (law : QueueLaw u p views) where
+module _ (u : Ends) (p q : Plain) (n : ℕ) (found : ℕ) (views : List View) (lawful : Lawful p)
+    (law : QueueLaw u p views) where
   pub calm : (step : PlainAct) → IsCalm step → Does p n step found q → QueueLaw u q views
   calm step is d = quiet_law u p q views law (calm_quiet p q n step found lawful is d)
 
   pub foreign : (step : PlainAct) → IsForeign (owns u) p step → Does p n step found q → QueueLaw u q views
-  foreign (act.Make s) f d = (law.0, law.1, law.2, make_queue u p q s.0 views law.0 law.1 law.2 lawful law.3 (makes p q n s found lawful d))
-  foreign (act.Replace at new) f d = aside_law u p q views law (foreign_write u p q n at new lawful f d.1.0 d.1.2)
+  foreign (act.Make s) f d = (
+    law.0,
+    law.1,
+    law.2,
+    make_queue u p q s.0 views law.0 law.1 law.2 lawful law.3
+        (makes p q n s found lawful d),
+  )
+  foreign (act.Replace at new) f d = aside_law u p q views law
+      (foreign_write u p q n at new lawful f d.1.0 d.1.2)
   foreign (act.TryReplace at a b) f d = ⊎_elim
       (λ hit. aside_law u p q views law (foreign_write u p q n at b lawful f d.1.0 hit.1))
       (λ miss. subst (λ z. QueueLaw u z views) (sym miss.1) law) d.1.2
@@ -192,5 +241,6 @@ module _ (u : Ends) (p q : Plain) (n : ℕ) (found : ℕ) (views : List View) (l
   foreign (act.Give s) f d = calm (act.Give s) tt d
   foreign (act.Leave j) f d = absurd f
   foreign act.Split f d = calm act.Split tt d
-  foreign act.Ticket f d = aside_law u p q views law (none_aside u p q (slots_of _ q d.1.1) (cells_of _ q d.1.1))
+  foreign act.Ticket f d = aside_law u p q views law
+      (none_aside u p q (slots_of _ q d.1.1) (cells_of _ q d.1.1))
   foreign act.Still f d = calm act.Still tt d

@@ -27,27 +27,43 @@ seg i (suc m) h = (sent h (i + 1)).item ∷ seg (i + 1) m h
 
 pub seg_all : (i m : ℕ) (h : List Sent) → i + 1 + m ≡ length h → sent_items (drop (i + 1) h) ≡ seg i m h
 seg_all i zero h e = ap sent_items (past_all (i + 1) h (omega arith))
-seg_all i (suc m) h e = ap sent_items (drop_more h (i + 1) no_sent (omega arith)) ∙ ap (λ z. (sent h (i + 1)).item ∷ z) (seg_all (i + 1) m h (omega arith))
+seg_all i (suc m) h e = ap sent_items (drop_more h (i + 1) no_sent (omega arith))
+    ∙ ap (λ z. (sent h (i + 1)).item ∷ z) (seg_all (i + 1) m h (omega arith))
 
 seg_last : (i m : ℕ) (h : List Sent) → seg i (suc m) h ≡ seg i m h ++ (sent h (i + m + 1)).item ∷ []
 seg_last i zero h = let e : i + zero + 1 ≡ i + 1 = omega arith in ap (λ z. (sent h z).item ∷ []) (sym e)
 seg_last i (suc m) h = let e : i + 1 + m + 1 ≡ i + suc m + 1 = omega arith in
-    ap (λ z. (sent h (i + 1)).item ∷ z) (seg_last (i + 1) m h ∙ ap (λ z. seg (i + 1) m h ++ (sent h z).item ∷ []) e)
+    ap (λ z. (sent h (i + 1)).item ∷ z)
+    (seg_last (i + 1) m h ∙ ap (λ z. seg (i + 1) m h ++ (sent h z).item ∷ []) e)
 
 module _ (u : Ends) (p : Plain) (h : List Sent) (k t : ℕ) (c : Chain u p h k t) (a : HeadAt u p h k) where
   -- the chain from node i to node i + m, where all but the last lead on
-  follows_from : (m i : ℕ) → i + m < length h → k ≤ i → ((j : ℕ) → i ≤ j → j < i + m → Leads p h j) → (slot_at p (sent h (i + m)).node).first ≡ 0 → Follows p (sent h i).node (seg i m h)
-  follows_from zero i low le leads null = let e : i + zero ≡ i = omega arith in subst (λ z. (slot_at p (sent h z).node).first ≡ 0) e null
+  follows_from : (m i : ℕ) → i + m < length h → k ≤ i → ((j : ℕ) → i ≤ j → j < i + m → Leads p h j)
+      → (slot_at p (sent h (i + m)).node).first ≡ 0 → Follows p (sent h i).node (seg i m h)
+  follows_from zero i low le leads null = let e : i + zero ≡ i = omega arith in
+      subst (λ z. (slot_at p (sent h z).node).first ≡ 0) e null
   follows_from (suc m) i low le leads null =
       let l = (leads i (omega arith) (omega arith)).0 in
       let x = a.items (i + 1) (omega arith) (omega arith) in
-      let e : i + suc m ≡ i + 1 + m = omega arith in
-      ((sent h (i + 1)).node, l, x, follows_from m (i + 1) (omega arith) (omega arith) (λ j ij jm. leads j (omega arith) (omega arith)) (subst (λ z. (slot_at p (sent h z).node).first ≡ 0) e null))
+      let e : i + suc m ≡ i + 1 + m = omega arith in (
+        (sent h (i + 1)).node,
+        l,
+        x,
+        follows_from m (i + 1) (omega arith) (omega arith)
+            (λ j ij jm. leads j (omega arith) (omega arith))
+            (subst (λ z. (slot_at p (sent h z).node).first ≡ 0) e null),
+      )
 
-  far_from : (m i : ℕ) → ((j : ℕ) → i ≤ j → j < i + m → Leads p h j) → Far p m (sent h i).node (sent h (i + m)).node
+  far_from : (m i : ℕ) → ((j : ℕ) → i ≤ j → j < i + m → Leads p h j)
+      → Far p m (sent h i).node (sent h (i + m)).node
   far_from zero i leads = let e : i ≡ i + zero = omega arith in ap (λ z. (sent h z).node) e
-  far_from (suc m) i leads = let e : i + 1 + m ≡ i + suc m = omega arith in
-      ((sent h (i + 1)).node, (leads i (omega arith) (omega arith)).0, subst (λ z. Far p m (sent h (i + 1)).node (sent h z).node) e (far_from m (i + 1) (λ j ij jm. leads j (omega arith) (omega arith))))
+  far_from (suc m) i leads = let e : i + 1 + m ≡ i + suc m = omega arith in (
+    (sent h (i + 1)).node,
+    (leads i (omega arith) (omega arith)).0,
+    subst
+        (λ z. Far p m (sent h (i + 1)).node (sent h z).node) e
+        (far_from m (i + 1) (λ j ij jm. leads j (omega arith) (omega arith))),
+  )
 
   -- where the last link is missing, the walk ends before the last node
   far_short : (d i : ℕ) (b : ℕ) → k ≤ i → i + 1 < length h
@@ -72,7 +88,8 @@ module _ (u : Ends) (p : Plain) (h : List Sent) (k t : ℕ) (c : Chain u p h k t
         let low = a.inside in
         let m = length h - 1 - k in
         let e : k + (length h - 1 - k) + 1 ≡ length h = omega arith in
-        let all : (j : ℕ) → k ≤ j → j < k + (length h - 1 - k) → Leads p h j = λ j le l. leads j le (omega arith) in
+        let all : (j : ℕ) → k ≤ j → j < k + (length h - 1 - k) → Leads p h j = λ j le l. leads j le
+        (omega arith) in
         let at = chain_present u p h k t c a (k + (length h - 1 - k)) (omega arith) (omega arith) in
         record {
           first = (sent h k).node;
@@ -115,7 +132,8 @@ module _ (u : Ends) (p : Plain) (h : List Sent) (k t : ℕ) (c : Chain u p h k t
             tail = b.holds;
             off = λ on.
                 let f = far_short on.0 k (sent h t).node (omega arith) (omega arith)
-                (λ j je. let ji : j ≡ i = omega arith in ap (λ z. (slot_at p (sent h z).node).first) ji ∙ m.null)
+                (λ j je. let ji : j ≡ i = omega arith in ap (λ z. (slot_at p (sent h z).node).first) ji
+                ∙ m.null)
                 on.1 in
                 let at = chain_present u p h k t c a f.0 f.1 (let z = f.2 in omega arith) in
                 let low = f.2 in
@@ -129,9 +147,19 @@ module _ (u : Ends) (p : Plain) (h : List Sent) (k t : ℕ) (c : Chain u p h k t
             flies =
                 let g = flights m.double i ie pr m.null in (
                   g.0,
-                  subst (λ z. HasFlight (record { node = (sent h t).node; life = z; item = no_item; sender = 0 }) (view_at views g.0))
+                  subst (λ z. HasFlight (record {
+                    node = (sent h t).node;
+                    life = z;
+                    item = no_item;
+                    sender = 0;
+                  }) (view_at views g.0))
                       (sym b.is.1)
-                      (subst (λ z. HasFlight (record { node = (sent h z).node; life = (sent h z).life; item = no_item; sender = 0 }) (view_at views g.0))
+                      (subst (λ z. HasFlight (record {
+                        node = (sent h z).node;
+                        life = (sent h z).life;
+                        item = no_item;
+                        sender = 0;
+                      }) (view_at views g.0))
                       it g.1),
                 );
           });
@@ -156,12 +184,15 @@ module _ (u : Ends) (p : Plain) (h : List Sent) (k t : ℕ) (c : Chain u p h k t
         (cases_lt (k + 1) (length h))
 
 -- the pops are the first of the pushes
-pops_first : (ts : List Taken) (l : List Sent) → ((i : ℕ) → i < length ts → (i < length l) × ((taken ts i).item ≡ (sent l i).item)) → sent_items l ≡ taken_items ts ++ sent_items (drop (length ts) l)
+pops_first : (ts : List Taken) (l : List Sent)
+    → ((i : ℕ) → i < length ts → (i < length l) × ((taken ts i).item ≡ (sent l i).item))
+    → sent_items l ≡ taken_items ts ++ sent_items (drop (length ts) l)
 pops_first [] l e = refl
 pops_first (t ∷ ts) [] e = let z = (e 0 (omega arith)).0 in absurd (omega arith)
 pops_first (t ∷ ts) (x ∷ l) e =
     let here : x.item ≡ t.item = sym (e 0 (omega arith)).1 in
-    let rest = pops_first ts l (λ i low. let z = e (suc i) (omega arith) in ((let y = z.0 in omega arith), z.1)) in
+    let rest = pops_first ts l (λ i low. let z = e (suc i) (omega arith) in
+    ((let y = z.0 in omega arith), z.1)) in
     λ i. here i ∷ rest i
 
 drop_one : (h : List Sent) (i : ℕ) → sent (drop 1 h) i ≡ sent h (i + 1)
@@ -176,14 +207,20 @@ less_one : (h : List Sent) → 0 < length h → length (drop 1 h) + 1 ≡ length
 less_one [] low = absurd (omega arith)
 less_one (x ∷ h) low = omega arith
 
-pub send_items : (l : List Sent) → taken_items (map (λ (e : Sent). record { item = e.item; taker = e.sender }) l) ≡ sent_items l
+pub send_items : (l : List Sent)
+    → taken_items (map (λ (e : Sent). record { item = e.item; taker = e.sender }) l) ≡ sent_items l
 send_items [] = refl
 send_items (x ∷ l) = ap (λ z. x.item ∷ z) (send_items l)
 
-pub all_items : (h : List Sent) (ts : List Taken) → 0 < length h → ((i : ℕ) → i < length ts → (i + 1 < length h) × ((taken ts i).item ≡ (sent h (i + 1)).item)) → sent_items (drop 1 h) ≡ taken_items ts ++ sent_items (drop (length ts + 1) h)
-all_items h ts low o = pops_first ts (drop 1 h) (λ i l. let z = o i l in let y = less_one h low in (omega (arith, z.0), z.1 ∙ ap (λ (w : Sent). w.item) (sym (drop_one h i)))) ∙ ap (λ l. taken_items ts ++ sent_items l) (drop_both (length ts) h)
+pub all_items : (h : List Sent) (ts : List Taken) → 0 < length h
+    → ((i : ℕ) → i < length ts → (i + 1 < length h) × ((taken ts i).item ≡ (sent h (i + 1)).item))
+    → sent_items (drop 1 h) ≡ taken_items ts ++ sent_items (drop (length ts + 1) h)
+all_items h ts low o = pops_first ts (drop 1 h) (λ i l. let z = o i l in let y = less_one h low in
+    (omega (arith, z.0), z.1 ∙ ap (λ (w : Sent). w.item) (sym (drop_one h i))))
+    ∙ ap (λ l. taken_items ts ++ sent_items l) (drop_both (length ts) h)
 
-pub times_append : (x : Item) (a : List Taken) (b : List Item) → item_times x (taken_items a ++ b) ≡ item_times x (taken_items a) + item_times x b
+pub times_append : (x : Item) (a : List Taken) (b : List Item)
+    → item_times x (taken_items a ++ b) ≡ item_times x (taken_items a) + item_times x b
 unfolding item_times
 times_append x [] b = omega arith
 times_append x (t ∷ a) b =
@@ -191,7 +228,8 @@ times_append x (t ∷ a) b =
     let d = sum_by-cons (λ (z : Item). cond (same_item x z) 1 0) t.item (taken_items a) in
     let e = times_append x a b in omega arith
 
-pub conserved : (u : Ends) (p : Plain) (views : List View) → QueueLaw u p views → cell_at p u.head ≢ 0 → Conserved u p views
+pub conserved : (u : Ends) (p : Plain) (views : List View) → QueueLaw u p views → cell_at p u.head ≢ 0
+    → Conserved u p views
 conserved u p views law is_some =
     let h = law.0 in let ts = law.1 in let t = law.2 in let c = law.3.chain in
     let a = the_head u p h (length ts) t c is_some in
@@ -200,12 +238,14 @@ conserved u p views law is_some =
       waiting = sent_items (drop (length ts + 1) h);
       waits = waits u p h (length ts) t c a views (the_tail u p h (length ts) t c is_some) law.3.flights;
       even = λ x.
-          let all = ap (item_times x) (all_items h ts (omega arith) law.3.counted.order) ∙ times_append x ts (sent_items (drop (length ts + 1) h)) in
+          let all = ap (item_times x) (all_items h ts (omega arith) law.3.counted.order)
+          ∙ times_append x ts (sent_items (drop (length ts + 1) h)) in
           let b = law.3.counted.pushed x in
           let d = law.3.counted.popped x in omega arith;
     }
 
-pub in_order : (u : Ends) (p : Plain) (views : List View) → QueueLaw u p views → cell_at p u.head ≢ 0 → InOrder u p views
+pub in_order : (u : Ends) (p : Plain) (views : List View) → QueueLaw u p views → cell_at p u.head ≢ 0
+    → InOrder u p views
 in_order u p views law is_some =
     let h = law.0 in let ts = law.1 in let t = law.2 in let c = law.3.chain in
     let a = the_head u p h (length ts) t c is_some in

@@ -34,25 +34,34 @@ holds_one o s e = subst (λ z. held_in (id s) z ≡ 1) (sym (word_some o s e)) (
 
 pub refs_cell : (p : Plain) (c s : ℕ) → cell_at p c ≡ s + 1 → 0 < strong_refs p s
 refs_cell p c s e = ⊎_elim
-    (λ low. let a = cells_at (id s) p.cells c low in let b = holds_one (get_or p.cells c None) s e in omega arith)
-    (λ past. let a = ap word_of (get_or_past p.cells c None past) in absurd (omega arith)) (cases_lt c (length p.cells))
+    (λ low. let a = cells_at (id s) p.cells c low in let b = holds_one (get_or p.cells c None) s e in
+    omega arith)
+    (λ past. let a = ap word_of (get_or_past p.cells c None past) in absurd (omega arith))
+    (cases_lt c (length p.cells))
 
 pub refs_first : (p : Plain) (x s : ℕ) → (slot_at p x).first ≡ s + 1 → 0 < strong_refs p s
 refs_first p x s e = ⊎_elim
-    (λ low. let a = slots_at (strong_fields (id s)) p.slots x low in let b = holds_one (state.slot_at p (id x)).first s e in omega arith)
-    (λ past. let a = ap (λ (z : PlainSlot). word_of z.first) (get_or_past p.slots x new_slot past) in absurd (omega arith)) (cases_lt x (length p.slots))
+    (λ low. let a = slots_at (strong_fields (id s)) p.slots x low in
+    let b = holds_one (state.slot_at p (id x)).first s e in omega arith)
+    (λ past. let a = ap (λ (z : PlainSlot). word_of z.first) (get_or_past p.slots x new_slot past) in
+    absurd (omega arith)) (cases_lt x (length p.slots))
 
 pub refs_second : (p : Plain) (x s : ℕ) → (slot_at p x).second ≡ s + 1 → 0 < strong_refs p s
 refs_second p x s e = ⊎_elim
-    (λ low. let a = slots_at (strong_fields (id s)) p.slots x low in let b = holds_one (state.slot_at p (id x)).second s e in omega arith)
-    (λ past. let a = ap (λ (z : PlainSlot). word_of z.second) (get_or_past p.slots x new_slot past) in absurd (omega arith)) (cases_lt x (length p.slots))
+    (λ low. let a = slots_at (strong_fields (id s)) p.slots x low in
+    let b = holds_one (state.slot_at p (id x)).second s e in omega arith)
+    (λ past. let a = ap (λ (z : PlainSlot). word_of z.second) (get_or_past p.slots x new_slot past) in
+    absurd (omega arith)) (cases_lt x (length p.slots))
 
 pub refs_back : (p : Plain) (x s : ℕ) → (slot_at p x).back ≡ s + 1 → 0 < weak_refs p s
 refs_back p x s e = ⊎_elim
-    (λ low. let a = slots_at (weak_fields (id s)) p.slots x low in let b = holds_one (state.slot_at p (id x)).weak_field s e in omega arith)
-    (λ past. let a = ap (λ (z : PlainSlot). word_of z.weak_field) (get_or_past p.slots x new_slot past) in absurd (omega arith)) (cases_lt x (length p.slots))
+    (λ low. let a = slots_at (weak_fields (id s)) p.slots x low in
+    let b = holds_one (state.slot_at p (id x)).weak_field s e in omega arith)
+    (λ past. let a = ap (λ (z : PlainSlot). word_of z.weak_field) (get_or_past p.slots x new_slot past) in
+    absurd (omega arith)) (cases_lt x (length p.slots))
 
-pub referred : (p : Plain) → Lawful p → (s : ℕ) → 0 < strong_refs p s → Live p s × ((slot_at p s).marked ≡ false)
+pub referred : (p : Plain) → Lawful p → (s : ℕ) → 0 < strong_refs p s
+    → Live p s × ((slot_at p s).marked ≡ false)
 referred p lawful s refs = let l = lawful.strong (id s) refs in (ap code l.0, l.1)
 
 pub refs_held : (p : Plain) (n s : ℕ) → Lawful p → 0 < held_times s (seat_at p n) → 0 < strong_refs p s
@@ -64,7 +73,9 @@ refs_held p n s lawful held = ⊎_elim
     let a = lawful.covered Strong (id s) (omega arith) in omega arith)
     (cases_lt 0 (times s (seat_at p n).owned)))
     (λ past. let e = get_or_past p.seats n new_seat past in
-    let a : held_times s (seat_at p n) ≡ 0 = ap (held_times s) e ∙ (let z = times_none (id s) in let y = entry_none Strong (id s) in omega arith) in absurd (omega arith))
+    let a : held_times s (seat_at p n) ≡ 0 = ap (held_times s) e
+    ∙ (let z = times_none (id s) in let y = entry_none Strong (id s) in omega arith) in
+    absurd (omega arith))
     (cases_lt n (length p.seats))
 
 pub held_live : (p : Plain) (n s : ℕ) → Lawful p → 0 < held_times s (seat_at p n) → Live p s
@@ -73,16 +84,23 @@ held_live p n s lawful held = (referred p lawful s (refs_held p n s lawful held)
 abbrev pub knows_times : ℕ → PlainSeat → ℕ
 knows_times s v = places.held_times (id s) v + lists.times (id s) v.dying + held_in (id s) v.filling
 
-pub knows_life : (p : Plain) (n s : ℕ) → 0 < knows_times s (seat_at p n) → life_in (own_part p n) s ≡ (slot_at p s).life
-knows_life p n s knows = ap (λ b. life_of (if b then Some (object_of (state.slot_at p (id s))) else None)) (lt-ltb 0 (knows_times s (seat_at p n)) knows)
+pub knows_life : (p : Plain) (n s : ℕ) → 0 < knows_times s (seat_at p n)
+    → life_in (own_part p n) s ≡ (slot_at p s).life
+knows_life p n s knows = ap (λ b. life_of (if b then Some (object_of (state.slot_at p (id s))) else None))
+    (lt-ltb 0 (knows_times s (seat_at p n)) knows)
 
-pub knows_payload : (p : Plain) (n s : ℕ) → 0 < knows_times s (seat_at p n) → payload_in (own_part p n) s ≡ (slot_at p s).payload
-knows_payload p n s knows = ap (λ b. payload_of (if b then Some (object_of (state.slot_at p (id s))) else None)) (lt-ltb 0 (knows_times s (seat_at p n)) knows)
+pub knows_payload : (p : Plain) (n s : ℕ) → 0 < knows_times s (seat_at p n)
+    → payload_in (own_part p n) s ≡ (slot_at p s).payload
+knows_payload p n s knows =
+    ap (λ b. payload_of (if b then Some (object_of (state.slot_at p (id s))) else None))
+    (lt-ltb 0 (knows_times s (seat_at p n)) knows)
 
-pub own_life : (p : Plain) (n s : ℕ) → 0 < held_times s (seat_at p n) → life_in (own_part p n) s ≡ (slot_at p s).life
+pub own_life : (p : Plain) (n s : ℕ) → 0 < held_times s (seat_at p n)
+    → life_in (own_part p n) s ≡ (slot_at p s).life
 own_life p n s held = knows_life p n s (omega arith)
 
-pub own_payload : (p : Plain) (n s : ℕ) → 0 < held_times s (seat_at p n) → payload_in (own_part p n) s ≡ (slot_at p s).payload
+pub own_payload : (p : Plain) (n s : ℕ) → 0 < held_times s (seat_at p n)
+    → payload_in (own_part p n) s ≡ (slot_at p s).payload
 own_payload p n s held = knows_payload p n s (omega arith)
 
 pub live_code : (x : Stage) → code x ≡ LIVE → x ≡ stage.Live

@@ -31,19 +31,25 @@ use Rattle.queue_law.proofs.Calm.{quiet_on, calm_queue}
 pub reads_calm : (at : EventPlace) (step : PlainAct) → Reads at step → IsCalm step
 reads_calm at step r = ⊎_elim (λ e. subst IsCalm (sym e) tt) (λ e. subst IsCalm (sym e.1) tt) r
 
-pub reads_found : (p q : Plain) (n found : ℕ) (at : EventPlace) (step : PlainAct) → Reads at step → Does p n step found q → (found ≡ word_of (content p at)) × IsReadable p n at
+pub reads_found : (p q : Plain) (n found : ℕ) (at : EventPlace) (step : PlainAct) → Reads at step
+    → Does p n step found q → (found ≡ word_of (content p at)) × IsReadable p n at
 reads_found p q n found at step r d = ⊎_elim
-    (λ e. let st : Does p n (act.Look at) found q = subst (λ a. Does p n a found q) e d in (st.1.1, st.1.0))
-    (λ e. let st : Does p n (act.Check e.0 at) found q = subst (λ a. Does p n a found q) e.1 d in (st.1.1, st.1.0)) r
+    (λ e. let st : Does p n (act.Look at) found q = subst (λ a. Does p n a found q) e d in
+    (st.1.1, st.1.0))
+    (λ e. let st : Does p n (act.Check e.0 at) found q = subst (λ a. Does p n a found q) e.1 d in
+    (st.1.1, st.1.0)) r
 
-pub same_view : (u : Ends) (q : Plain) (views : List View) (n : ℕ) (v : View) → view_at views n ≡ v → QueueLaw u q views → QueueLaw u q (set views n v)
-same_view u q views n v at law = subst (QueueLaw u q) (sym (ap (set views n) (sym at) ∙ set-get_or views n first_view)) law
+pub same_view : (u : Ends) (q : Plain) (views : List View) (n : ℕ) (v : View) → view_at views n ≡ v
+    → QueueLaw u q views → QueueLaw u q (set views n v)
+same_view u q views n v at law = subst (QueueLaw u q)
+    (sym (ap (set views n) (sym at) ∙ set-get_or views n first_view)) law
 
 -- what a cell of the queue holds, if the seat holds it
 learn_case : (u : Ends) (head : Bool) (p : Plain) (views : List View) (n : ℕ) (v : View) (s : ℕ)
     → QueueLaw u p views → n < length views → view_at views n ≡ v
     → ((h : List Sent) (ts : List Taken) (t : ℕ) → Queue u p views h ts t
-    → (i : ℕ) × (i < length h) × ((sent h i).node ≡ s) × Present p (sent h i) × (head ≡ true → i ≤ length ts)
+    → (i : ℕ) × (i < length h) × ((sent h i).node ≡ s) × Present p (sent h i)
+    × (head ≡ true → i ≤ length ts)
     × (not head ≡ true → i ≤ t))
     → (b : Bool) → nat_lt 0 (held_times s (seat_at p n)) ≡ b
     → QueueLaw u p (set views n (cond b (record v { eyes = learnt head (own_part p n) (suc s) }) v))
@@ -78,16 +84,19 @@ learn_case u head p views n v s law low at is true e =
     )
 
 learn_at : (u : Ends) (c : ℕ) (head : Bool)
-    → ((p : Plain) (views : List View) (s : ℕ) → cell_at p c ≡ suc s → (h : List Sent) (ts : List Taken) (t : ℕ)
+    → ((p : Plain) (views : List View) (s : ℕ) → cell_at p c ≡ suc s → (h : List Sent) (ts : List Taken)
+    (t : ℕ)
     → Queue u p views h ts t
-    → (i : ℕ) × (i < length h) × ((sent h i).node ≡ s) × Present p (sent h i) × (head ≡ true → i ≤ length ts)
+    → (i : ℕ) × (i < length h) × ((sent h i).node ≡ s) × Present p (sent h i)
+    × (head ≡ true → i ≤ length ts)
     × (not head ≡ true → i ≤ t))
     → (p : Plain) (views : List View) (n : ℕ) (v : View) (own : OwnPart) (step : PlainAct) (found : ℕ)
     → QueueLaw u p views → n < length views → view_at views n ≡ v → found ≡ cell_at p c
     → QueueLaw u p (set views n (learn_next head own (own_part p n) v step found))
 learn_at u c head is p views n v own step zero law low at e = same_view u p views n v at law
 learn_at u c head is p views n v own step (suc s) law low at e =
-    learn_case u head p views n v s law low at (is p views s (sym e)) (nat_lt 0 (held_times s (seat_at p n))) refl
+    learn_case u head p views n v s law low at (is p views s (sym e))
+    (nat_lt 0 (held_times s (seat_at p n))) refl
 
 -- LEARN: what the head cell or the tail cell held
 pub learn_head_deed : (u : Ends) → Keeps (QueueLaw u) (LearnReady u.head) (learn_next true)
@@ -97,7 +106,15 @@ learn_head_deed u p q views n v step found lawful law is stays_on r d =
     learn_at u u.head true
     (λ p' views' s e h ts t o. ⊎_elim
     (λ z. absurd (omega arith))
-    (λ a. (length ts, a.inside, (let z = a.holds in omega arith), a.is, λ y. omega arith, λ y. absurd (false≢true y)))
+    (λ a. (
+      length ts,
+      a.inside,
+      (let z = a.holds in omega arith),
+      a.is,
+      λ y. omega arith,
+      λ y. absurd
+          (false≢true y),
+    ))
     o.chain.head)
     q views n v (own_part p n) step found
     (law.0, law.1, law.2, calm_queue u p q views law.0 law.1 law.2 w law.3) is.0 is.1
@@ -110,7 +127,14 @@ learn_tail_deed u p q views n v step found lawful law is stays_on r d =
     learn_at u u.tail false
     (λ p' views' s e h ts t o. ⊎_elim
     (λ z. let y = z.0 in absurd (omega arith))
-    (λ b. (t, b.inside, (let z = b.holds in omega arith), b.is, λ y. absurd (false≢true y), λ y. omega arith))
+    (λ b. (
+      t,
+      b.inside,
+      (let z = b.holds in omega arith),
+      b.is,
+      λ y. absurd (false≢true y),
+      λ y. omega arith,
+    ))
     o.chain.tail)
     q views n v (own_part p n) step found
     (law.0, law.1, law.2, calm_queue u p q views law.0 law.1 law.2 w law.3) is.0 is.1
@@ -129,11 +153,14 @@ next_deed u p q views n v step found lawful law is stays_on ready d =
     let a0 = s.0.1 in
     let i = s.0.0 in
     let on = quiet_on u p q h (length ts) t c w in
-    let a = sees_at_on p q h h (length ts) (length ts) t t v.eyes i (unchanged h) (omega arith) (omega arith) on a0 in
+    let a = sees_at_on p q h h (length ts) (length ts) t t v.eyes i (unchanged h) (omega arith)
+    (omega arith) on a0 in
     let field : (slot_at p (sent h i).node).first ≡ found = ap (λ z. (slot_at p z).first) s.1 ∙ sym f.0 in
     let more : found ≢ 0 → i + 1 < length h = λ is_some. ⊎_elim (λ z. z)
-    (λ past. let low = a0.inside in let e = c.ends i (omega arith) s.2 in absurd (is_some (sym field ∙ e))) (cases_lt (i + 1) (length h)) in
-    let leads : found ≢ 0 → Leads p h i = λ is_some. leads_some u p h (length ts) t c i (more is_some) s.2 (λ z. is_some (sym field ∙ z)) in (
+    (λ past. let low = a0.inside in let e = c.ends i (omega arith) s.2 in
+    absurd (is_some (sym field ∙ e))) (cases_lt (i + 1) (length h)) in
+    let leads : found ≢ 0 → Leads p h i = λ is_some. leads_some u p h (length ts) t c i (more is_some) s.2
+    (λ z. is_some (sym field ∙ z)) in (
       h,
       ts,
       t,
@@ -170,11 +197,14 @@ item_deed u p q views n v step found lawful law is stays_on ready d =
     let h = law.0 in let ts = law.1 in let t = law.2 in let c = law.3.chain in
     let w = calm_quiet p q n step found lawful (reads_calm (second_of r.node) step r.reads) d in
     let after = calm_queue u p q views h ts t w law.3 in
-    let at_head = the_head u p h (length ts) t c (law.3.known.attached n (ap (λ (y : View). y.attached) here.1 ∙ r.attached)) in
-    let s = subst (λ (z : View). Sees p h (length ts) t z.eyes) here.1 (law.3.known.sees n) (λ z. let e = r.seen in omega arith) in
+    let at_head = the_head u p h (length ts) t c
+    (law.3.known.attached n (ap (λ (y : View). y.attached) here.1 ∙ r.attached)) in
+    let s = subst (λ (z : View). Sees p h (length ts) t z.eyes) here.1 (law.3.known.sees n)
+    (λ z. let e = r.seen in omega arith) in
     let i = s.0 in
     let on = quiet_on u p q h (length ts) t c w in
-    let a = sees_at_on p q h h (length ts) (length ts) t t v.eyes i (unchanged h) (omega arith) (omega arith) on s.1 in (
+    let a = sees_at_on p q h h (length ts) (length ts) t t v.eyes i (unchanged h) (omega arith)
+    (omega arith) on s.1 in (
       h,
       ts,
       t,
@@ -191,8 +221,10 @@ item_deed u p q views n v step found lawful law is stays_on ready d =
               leads = a.leads;
               item = λ follows is_some below.
                   let u = a.next follows in
-                  let node : (sent h (i + 1)).node ≡ r.node = let y = r.following in let x = u.1 in omega arith in
-                  sym (at_head.items (i + 1) (omega arith) u.0).0 ∙ (ap (λ z. (slot_at p z).second) node ∙ sym f.0);
+                  let node : (sent h (i + 1)).node ≡ r.node = let y = r.following in let x = u.1 in
+                  omega arith in
+                  sym (at_head.items (i + 1) (omega arith) u.0).0
+                  ∙ (ap (λ z. (slot_at p z).second) node ∙ sym f.0);
               before = a.before;
               helped = a.helped;
             },
@@ -200,7 +232,8 @@ item_deed u p q views n v step found lawful law is stays_on ready d =
     )
 
 -- ATTACH: the head cell isn't null
-attach_at : (u : Ends) (p : Plain) (views : List View) (n : ℕ) (v : View) (own after : OwnPart) (step : PlainAct)
+attach_at : (u : Ends) (p : Plain) (views : List View) (n : ℕ) (v : View) (own after : OwnPart)
+    (step : PlainAct)
     (found : ℕ)
     → QueueLaw u p views → n < length views → view_at views n ≡ v → found ≡ cell_at p u.head
     → QueueLaw u p (set views n (attach_next own after v step found))
@@ -212,10 +245,13 @@ attach_at u p views n v own after step (suc s) law low at e =
       h,
       ts,
       t,
-      rewrite_keeps u p p views n v h ts t t law.3 (omega arith) low at law.3.chain refl (inr refl) (leads_stay p h)
+      rewrite_keeps u p p views n v h ts t t law.3 (omega arith) low at law.3.chain refl (inr refl)
+          (leads_stay p h)
           (λ m ne. carry_stay p h (view_at views m).load) now
-          (subst (λ (z : View). Sees p h (length ts) t z.eyes) at (o.sees n)) (subst (Emptied h (length ts)) at (o.emptied n))
-          (subst (λ (z : View). Carries p h z.load) at (o.carries n)) (subst (λ (z : View). Flies h z.flight) at (o.flies n))
+          (subst (λ (z : View). Sees p h (length ts) t z.eyes) at (o.sees n))
+          (subst (Emptied h (length ts)) at (o.emptied n))
+          (subst (λ (z : View). Carries p h z.load) at (o.carries n))
+          (subst (λ (z : View). Flies h z.flight) at (o.flies n))
           (flights_same u p p h views n v now low at (same_objects p) (λ s. refl) refl refl law.3.flights)
           refl refl refl refl refl refl (λ x z. let y = e in omega arith) refl refl,
     )
@@ -223,5 +259,6 @@ attach_at u p views n v own after step (suc s) law low at e =
 pub attach_deed : (u : Ends) → Keeps (QueueLaw u) (AttachReady u) attach_next
 attach_deed u p q views n v step found lawful law is stays_on ready d =
     let s0 : Does p n (act.Look (Cell u.head)) found q = subst (λ a. Does p n a found q) ready d in
-    subst (λ z. QueueLaw u z (set views n (attach_next (own_part p n) (own_part q n) v step found))) (sym s0.1.2)
+    subst (λ z. QueueLaw u z (set views n (attach_next (own_part p n) (own_part q n) v step found)))
+    (sym s0.1.2)
     (attach_at u p views n v (own_part p n) (own_part q n) step found law is.0 is.1 s0.1.1)

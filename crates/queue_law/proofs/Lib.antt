@@ -30,5 +30,6 @@ pub mod Left
 pub mod Whole
 pub mod Alone
 pub mod Told
+pub mod Walks
 pub mod Shut
 pub mod Deeds

@@ -34,7 +34,8 @@ module _ (u : Ends) (p q : Plain) (views : List View) (n : ℕ) (v : View) (last
 
   sees : (i : ℕ) × SeesAt p h (length ts) t v.eyes i
   sees =
-      push_sees u p q views n v node lawful h ts t law low at owned r w.objects w.second (λ z. omega arith)
+      push_sees u p q views n v node lawful h ts t law low at owned r w.objects w.second
+      (λ z. omega arith)
 
   at_last : (sent h sees.0).node ≡ last
   at_last = let a = sees.1.node in omega arith
@@ -86,8 +87,13 @@ module _ (u : Ends) (p q : Plain) (views : List View) (n : ℕ) (v : View) (last
           life = ap (λ (z : Sent). z.life) a ∙ s.life;
           was_head = λ f. absurd (false≢true f);
           was_tail = λ f. near;
-          next = λ f. (omega arith, ap (λ (z : Sent). z.node + 1) (new_node h e (i + 1) (omega arith)) ∙ sym r.fresh);
-          leads = λ f x. lead_new u p q h (length ts) t i e law.chain linked s.inside here is_null near new
+          next = λ f. (
+            omega arith,
+            ap (λ (z : Sent). z.node + 1) (new_node h e (i + 1) (omega arith))
+                ∙ sym r.fresh,
+          );
+          leads = λ f x. lead_new u p q h
+              (length ts) t i e law.chain linked s.inside here is_null near new
               unlinked has write i l;
           item = λ f found. absurd (found refl);
           before = λ f. absurd (f refl);

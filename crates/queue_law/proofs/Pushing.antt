@@ -94,11 +94,13 @@ module _ (u : Ends) (p q : Plain) (views : List View) (n : ℕ) (v : View) (node
             named (λ is z. push_attached (sym head ∙ z)) (λ was z. was (sym head ∙ z));
         flights = flights;
         counted = counted_push h ts views n w entry v.number law.counted low (omega arith)
-            (ap (λ (z : View). z.pushed ++ record { item = carried_item v; taker = v.number } ∷ []) (sym at))
+            (ap (λ (z : View). z.pushed ++ record { item = carried_item v; taker = v.number } ∷ [])
+            (sym at))
             (ap (λ (z : View). z.popped) (sym at));
         ordered = ordered_push h ts views n w entry v.number law.ordered low (omega arith) here r.here
             (named r.here).0 refl
-            (ap (λ (z : View). z.pushed ++ record { item = carried_item v; taker = v.number } ∷ []) (sym at))
+            (ap (λ (z : View). z.pushed ++ record { item = carried_item v; taker = v.number } ∷ [])
+            (sym at))
             (ap (λ (z : View). z.popped) (sym at));
         phase = phase_over u p q h (h ++ entry ∷ []) ts ts (view_at views 0) (view_at (set views n w) 0)
             push_attached (laid_set views n w low (ap (λ (z : View). z.stand) (sym at))) law.phase;

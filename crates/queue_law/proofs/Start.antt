@@ -17,7 +17,8 @@ use Rattle.queue_law.proofs.Leave.{items_none}
 pub zero_total : (f : View → ℕ) (vs : List View) → ((n : ℕ) → f (view_at vs n) ≡ 0) → views_total f vs ≡ 0
 unfolding views_total
 zero_total f [] k = refl
-zero_total f (v ∷ vs) k = let a = sum_by-cons f v vs in let b = k 0 in let c = zero_total f vs (λ n. k (suc n)) in omega arith
+zero_total f (v ∷ vs) k = let a = sum_by-cons f v vs in let b = k 0 in
+    let c = zero_total f vs (λ n. k (suc n)) in omega arith
 
 -- the state with nothing in it
 pub record Empty (p : Plain) : Type 0 where
@@ -25,9 +26,11 @@ pub record Empty (p : Plain) : Type 0 where
   pub slots : (s : ℕ) → ¬ (Live p s)
 
 pub start : (u : Ends) (p : Plain) (views : List View) → Empty p
-    → ((n : ℕ) → (view_at views n ≡ view_of u.form n) ⊎ (view_at views n ≡ first_view)) → QueueLaw u p views
+    → ((n : ℕ) → (view_at views n ≡ view_of u.form n) ⊎ (view_at views n ≡ first_view))
+    → QueueLaw u p views
 start u p views empty each =
-    let both : (P : View → Type 0) → ((n : ℕ) → P (view_of u.form n)) → P first_view → (n : ℕ) → P (view_at views n) =
+    let both : (P : View → Type 0) → ((n : ℕ) → P (view_of u.form n)) → P first_view → (n : ℕ)
+    → P (view_at views n) =
     λ P a b n. ⊎_elim (λ e. subst P (sym e) (a n)) (λ e. subst P (sym e) b) (each n) in (
       [],
       [],
@@ -57,7 +60,8 @@ start u p views empty each =
               (λ e. (ap (λ (z : View). z.number) e, ap (λ (z : View). z.form) e))
               (λ e. absurd (false≢true (ap (λ (z : View). z.here) (sym e) ∙ is)))
               (each n);
-          attached = λ n is. absurd (false≢true (sym (both (λ v. v.attached ≡ false) (λ k. refl) refl n) ∙ is));
+          attached = λ n is. absurd
+              (false≢true (sym (both (λ v. v.attached ≡ false) (λ k. refl) refl n) ∙ is));
         };
         flights = λ double i e. absurd (omega arith);
         counted = record {

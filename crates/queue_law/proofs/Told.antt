@@ -98,7 +98,8 @@ module _ (u : Ends) (p q : Plain) (views : List View) (n : ℕ) (v : View) (lawf
       let is_cell : cell_at p u.head ≡ v.eyes.node = sym (w.cells u.head) ∙ cell in
       let x = a.holds in
       let y = s.1 in
-      let same = same_node u p h (length ts) t c i (length ts) s.0.1.inside a.inside s.2 a.is (omega arith) in
+      let same = same_node u p h (length ts) t c i (length ts) s.0.1.inside a.inside s.2 a.is
+      (omega arith) in
       let item = (a.items (i + 1) (omega arith) next.0).0 in
       let slot : (sent h (i + 1)).node ≡ node = let z = next.1 in omega arith in
       let field = ap (λ z. (slot_at p z).second) slot in

@@ -51,7 +51,8 @@ IsKnown p e = e.life ≤ (slot_at p e.node).life
 
 -- while the slot is live in this life, it is a node
 abbrev pub IsNode : Plain → Sent → Type 0
-IsNode p e = Live p e.node → (slot_at p e.node).life ≡ e.life → (slot_at p e.node).payload ≡ no_payload
+IsNode p e = Live p e.node → (slot_at p e.node).life ≡ e.life
+    → (slot_at p e.node).payload ≡ no_payload
 
 -- slot s was linked in life l
 abbrev pub WasLinked : List Sent → ℕ → ℕ → Type 0
@@ -101,8 +102,10 @@ pub record Chain (u : Ends) (p : Plain) (h : List Sent) (k t : ℕ) : Type 0 whe
   pub lag : 0 < length h → Lags u.form (length h) t
   -- every node that is there leads on, on the chain or not
   pub links : (i : ℕ) → i + 1 < length h → Present p (sent h i) → Leads p h i ⊎ Missing u p h k i
-  pub ends : (i : ℕ) → i + 1 ≡ length h → Present p (sent h i) → (slot_at p (sent h i).node).first ≡ 0
-  pub backs : u.form ≡ Double → (i : ℕ) → i + 1 < length h → Present p (sent h (i + 1)) → BacksTo p h i
+  pub ends : (i : ℕ) → i + 1 ≡ length h → Present p (sent h i)
+      → (slot_at p (sent h i).node).first ≡ 0
+  pub backs : u.form ≡ Double → (i : ℕ) → i + 1 < length h → Present p (sent h (i + 1))
+      → BacksTo p h i
   pub first_back :
       u.form ≡ Double → 0 < length h → Present p (sent h 0) → (slot_at p (sent h 0).node).back ≡ 0
   -- a node that wasn't linked leads nowhere

@@ -38,7 +38,8 @@ pub record NextReady (own : OwnPart) (v : View) (step : PlainAct) : Type 0 where
   pub seen_life : life_in own node ≡ v.eyes.life
 
 abbrev pub next_next : OwnPart → OwnPart → View → PlainAct → ℕ → View
-next_next own after v step found = record v { eyes = record v.eyes { following = found; found = 0 } }
+next_next own after v step found =
+    record v { eyes = record v.eyes { following = found; found = 0 } }
 
 -- AHEAD, in a linked queue. Field 0 of the node after one that was seen
 pub record AheadReady (u : Ends) (own : OwnPart) (v : View) (step : PlainAct) : Type 0 where

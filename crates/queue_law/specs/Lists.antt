@@ -42,7 +42,8 @@ pub record Counted (h : List Sent) (ts : List Taken) (views : List View) : Type 
   pub pushed : (x : Item) → pushed_times x views ≡ item_times x (sent_items (drop 1 h))
   pub popped : (x : Item) → popped_times x views ≡ item_times x (taken_items ts)
   pub many : length h ≤ views_total (λ v. length v.pushed) views + 1
-  pub order : (i : ℕ) → i < length ts → (i + 1 < length h) × ((taken ts i).item ≡ (sent h (i + 1)).item)
+  pub order : (i : ℕ) → i < length ts → (i + 1 < length h)
+      × ((taken ts i).item ≡ (sent h (i + 1)).item)
 
 -- the items of seat n in a list of all seats
 unfoldable pub tagged : ℕ → List Taken → List Item

@@ -26,7 +26,8 @@ Sees p h k t v = v.node ≢ 0 → (i : ℕ) × SeesAt p h k t v i
 abbrev pub Emptied : List Sent → ℕ → View → Type 0
 Emptied h k v =
     v.dummy ≢ 0
-    → (i : ℕ) × (i < length h) × (i ≤ k) × ((sent h i).node + 1 ≡ v.dummy) × ((sent h i).life ≡ v.dummy_life)
+    → (i : ℕ) × (i < length h) × (i ≤ k) × ((sent h i).node + 1 ≡ v.dummy)
+    × ((sent h i).life ≡ v.dummy_life)
 
 -- slot s is the seat's own node, in its life
 abbrev pub IsOwn : Plain → Load → ℕ → Type 0
@@ -36,11 +37,14 @@ IsOwn p v s = Live p s × ((slot_at p s).life ≡ v.life)
 pub record Carries (p : Plain) (h : List Sent) (v : Load) : Type 0 where
   pub unlinked : (s : ℕ) → v.node ≡ s + 1 → ¬ (WasLinked h s v.life)
   pub known : (s : ℕ) → v.node ≡ s + 1 → v.life ≤ (slot_at p s).life
-  pub node : (s : ℕ) → v.node ≡ s + 1 → Live p s → (slot_at p s).life ≡ v.life → (slot_at p s).payload ≡ no_payload
+  pub node : (s : ℕ) → v.node ≡ s + 1 → Live p s → (slot_at p s).life ≡ v.life
+      → (slot_at p s).payload ≡ no_payload
   pub carried :
       (s : ℕ) → v.node ≡ s + 1 → Live p s → (slot_at p s).life ≡ v.life → (x : ℕ) → v.item ≡ x + 1
-      → ((slot_at p s).second ≡ x + 1) × ((slot_at p x).life ≡ v.item_life) × ((slot_at p x).payload ≡ v.item_payload)
-  pub backed : (s : ℕ) → v.node ≡ s + 1 → Live p s → (slot_at p s).life ≡ v.life → (slot_at p s).back ≡ v.back
+      → ((slot_at p s).second ≡ x + 1) × ((slot_at p x).life ≡ v.item_life)
+      × ((slot_at p x).payload ≡ v.item_payload)
+  pub backed : (s : ℕ) → v.node ≡ s + 1 → Live p s → (slot_at p s).life ≡ v.life
+      → (slot_at p s).back ≡ v.back
 
 -- the push in flight is that of node i + 1
 pub record FliesAt (h : List Sent) (f : Flight) (i : ℕ) : Type 0 where
@@ -61,7 +65,8 @@ flown_at fs j = slice_index_or fs j no_flight
 
 -- a push of this node is in flight, by the seat or by one that left
 abbrev pub HasFlight : Sent → View → Type 0
-HasFlight e v = IsFlight e v.flight ⊎ ((j : ℕ) × (j < length v.flown) × IsFlight e (flown_at v.flown j))
+HasFlight e v = IsFlight e v.flight
+    ⊎ ((j : ℕ) × (j < length v.flown) × IsFlight e (flown_at v.flown j))
 
 -- where the last link is missing, a push of the last node is in flight
 abbrev pub Flights : Ends → Plain → List Sent → List View → Type 0

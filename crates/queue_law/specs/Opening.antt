@@ -38,7 +38,8 @@ pub record LayHeadReady (u : Ends) (own : OwnPart) (v : View) (step : PlainAct) 
   pub seen_life : life_in own node ≡ v.eyes.life
 
 abbrev pub lay_head_next : OwnPart → OwnPart → View → PlainAct → ℕ → View
-lay_head_next own after v step found = record v { stand = record { laid = 2; left = [] }; attached = true }
+lay_head_next own after v step found =
+    record v { stand = record { laid = 2; left = [] }; attached = true }
 
 -- the item that field 1 of a slot holds
 abbrev pub item_of : Plain → ℕ → Item

@@ -19,9 +19,11 @@ owns u = record {
 }
 
 -- the seat's view is v, and a step that the deed is ready for keeps the law with the next view
-abbrev pub Keeps : (Plain → List View → Type 0) → (OwnPart → View → PlainAct → Type 0) → (OwnPart → OwnPart → View → PlainAct → ℕ → View) → Type 0
+abbrev pub Keeps : (Plain → List View → Type 0) → (OwnPart → View → PlainAct → Type 0)
+    → (OwnPart → OwnPart → View → PlainAct → ℕ → View) → Type 0
 Keeps law ready next =
     (p q : Plain) (views : List View) (n : ℕ) (v : View) (step : PlainAct) (found : ℕ)
-    → Lawful p → law p views → (n < length views) × (view_at views n ≡ v) → (seat_at p n).left ≡ false
+    → Lawful p → law p views → (n < length views) × (view_at views n ≡ v)
+    → (seat_at p n).left ≡ false
     → ready (own_part p n) v step → Does p n step found q
     → law q (slice_set views n (next (own_part p n) (own_part q n) v step found))

@@ -24,10 +24,12 @@ OnChain p a b = (d : ℕ) × Far p d a b
 abbrev pub InFlight : Plain → List View → ℕ → Type 0
 InFlight p views s =
     (n : ℕ)
-    × HasFlight (record { node = s; life = (slot_at p s).life; item = no_item; sender = 0 }) (view_at views n)
+    × HasFlight (record { node = s; life = (slot_at p s).life; item = no_item; sender = 0 })
+    (view_at views n)
 
 -- one item more waits than is linked: that of the tail's slot, which isn't on the chain, while its push is in flight
-pub record OneMore (u : Ends) (p : Plain) (views : List View) (first : ℕ) (linked waiting : List Item)
+pub record OneMore (u : Ends) (p : Plain) (views : List View) (first : ℕ)
+    (linked waiting : List Item)
     : Type 0 where
   pub double : u.form ≡ Double
   pub last : ℕ

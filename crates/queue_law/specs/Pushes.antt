@@ -20,7 +20,11 @@ pub record PushReady (own : OwnPart) (v : View) (node : ℕ) : Type 0 where
   pub attached : v.attached ≡ true
 
 abbrev pub carried_item : View → Item
-carried_item v = record { slot = v.load.item - 1; life = v.load.item_life; payload = v.load.item_payload }
+carried_item v = record {
+  slot = v.load.item - 1;
+  life = v.load.item_life;
+  payload = v.load.item_payload;
+}
 
 -- the seat has pushed the item of its own node, which is no longer its own
 abbrev pub pushed_view : View → View
@@ -65,7 +69,9 @@ pub record AdvanceReady (u : Ends) (own : OwnPart) (v : View) (step : PlainAct) 
 -- afterwards the tail cell has held that node, whoever advanced it
 abbrev pub advance_next : OwnPart → OwnPart → View → PlainAct → ℕ → View
 advance_next own after v step found = record v {
-  eyes = record (sees_node v.eyes.following (life_in own (v.eyes.following - 1))) { was_tail = true };
+  eyes = record (sees_node v.eyes.following (life_in own (v.eyes.following - 1))) {
+    was_tail = true;
+  };
 }
 
 -- EXCHANGE, in a doubly linked queue. The tail cell gets the seat's own node, whose weak field leads back to the node
@@ -83,7 +89,12 @@ pub record ExchangeReady (u : Ends) (own : OwnPart) (v : View) (step : PlainAct)
   pub backed : v.load.back ≡ v.eyes.node
 
 abbrev pub takes_off : View → Flight
-takes_off v = record { prev = v.eyes.node; prev_life = v.eyes.life; node = v.load.node; life = v.load.life }
+takes_off v = record {
+  prev = v.eyes.node;
+  prev_life = v.eyes.life;
+  node = v.load.node;
+  life = v.load.life;
+}
 
 abbrev pub flying_view : View → View
 flying_view v = record (pushed_view v) { flight = takes_off v }

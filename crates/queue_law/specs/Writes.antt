@@ -52,7 +52,8 @@ pub record Quiet (p q : Plain) : Type 0 where
   pub first : (s : ℕ) → Live q s → (slot_at q s).first ≡ (slot_at p s).first
   pub second : (s : ℕ) → Live q s → (slot_at q s).second ≡ (slot_at p s).second
   pub back : (s : ℕ) → Live q s → (slot_at q s).back ≡ (slot_at p s).back
-  pub solid : (s : ℕ) → 0 < weak_refs p s → (slot_at p s).stage ≢ BLANK → (slot_at q s).stage ≢ BLANK
+  pub solid : (s : ℕ) → 0 < weak_refs p s → (slot_at p s).stage ≢ BLANK
+      → (slot_at q s).stage ≢ BLANK
   pub cells : (c : ℕ) → cell_at q c ≡ cell_at p c
 
 -- a blank slot comes to life
@@ -69,8 +70,10 @@ pub record Makes (p q : Plain) (s : ℕ) : Type 0 where
 -- nothing changes that a queue reads
 pub record Aside (u : Ends) (p q : Plain) : Type 0 where
   pub objects : SameObjects p q
-  pub first : (s : ℕ) → (slot_at p s).payload ≡ no_payload → (slot_at q s).first ≡ (slot_at p s).first
-  pub second : (s : ℕ) → (slot_at p s).payload ≡ no_payload → (slot_at q s).second ≡ (slot_at p s).second
+  pub first : (s : ℕ) → (slot_at p s).payload ≡ no_payload
+      → (slot_at q s).first ≡ (slot_at p s).first
+  pub second : (s : ℕ) → (slot_at p s).payload ≡ no_payload
+      → (slot_at q s).second ≡ (slot_at p s).second
   pub back : (s : ℕ) → (slot_at p s).payload ≡ no_payload → (slot_at q s).back ≡ (slot_at p s).back
   pub head : cell_at q u.head ≡ cell_at p u.head
   pub tail : cell_at q u.tail ≡ cell_at p u.tail
