@@ -9,7 +9,7 @@ use Rattle.queue_law.specs.Law.{WholeLaw}
 use Rattle.queue_law.specs.Nodes.{MakeReady, make_next, CarryReady, carry_next, BackReady, back_next}
 use Rattle.queue_law.specs.Pushes.{LinkReady, link_next, AdvanceReady, advance_next, ExchangeReady, exchange_next, LandReady, land_next, HelpReady, help_next}
 use Rattle.queue_law.specs.Pops.{TakeReady, take_next, EmptyReady, empty_next}
-use Rattle.queue_law.specs.Lessons.{Reads, LearnReady, learn_next, NextReady, next_next, AheadReady, ahead_next, ItemReady, item_next, BeforeReady, before_next, EndedReady, ended_next, SetReady, set_next, AttachReady, attach_next, NextTells, AheadTells, ItemTells, AttachTells, TellsNothing}
+use Rattle.queue_law.specs.Lessons.{Reads, LearnReady, learn_next, NextReady, next_next, AheadReady, ahead_next, ItemReady, item_next, BeforeReady, before_next, EndedReady, ended_next, SetReady, set_next, AttachReady, attach_next, CellTells, NextTells, EndedTells, AheadTells, ItemTells, AttachTells, TellsNothing}
 use Rattle.queue_law.specs.Opening.{LayTailReady, lay_tail_next, LayHeadReady, lay_head_next, ShutHeadReady, shut_head_next, ShutTailReady, shut_tail_next}
 use Rattle.plain_protocol.specs.Laws as laws
 use Rattle.queue_law.proofs.Exchange.{exchange_deed}
@@ -23,7 +23,7 @@ use Rattle.queue_law.proofs.Before.{before_deed, ended_deed, set_deed}
 use Rattle.queue_law.proofs.Make.{make_deed}
 use Rattle.queue_law.proofs.Lays.{lay_tail_deed, lay_head_deed}
 use Rattle.queue_law.proofs.Whole.{whole_told, whole_deed, whole_shut}
-use Rattle.queue_law.proofs.Told.{next_tells, ahead_tells, item_tells, attach_tells}
+use Rattle.queue_law.proofs.Told.{learn_head_tells, learn_tail_tells, next_tells, ended_tells, ahead_tells, item_tells, attach_tells}
 use Rattle.queue_law.proofs.Shut.{shut_head_deed, shut_tail_deed}
 
 reads_no_leave : (at : EventPlace) (step : PlainAct) → Reads at step → (j : ℕ) → step ≢ act.Leave j
@@ -91,11 +91,10 @@ module _ (u : Ends) (cells : u.head ≢ u.tail) where
       (λ own v step r j e. let z = sym r.act_is ∙ e in absurd cc)
       (empty_deed u)
 
-  pub ended : laws.Keeps (WholeLaw u) first_view (EndedReady u) ended_next TellsNothing
+  pub ended : laws.Keeps (WholeLaw u) first_view (EndedReady u) ended_next EndedTells
   ended =
-      whole_deed u (EndedReady u) ended_next
-      (λ own v step r j e. let z = sym r.act_is ∙ e in absurd cc)
-      (ended_deed u)
+      whole_told u (EndedReady u) ended_next EndedTells
+      (λ own v step r j e. let z = sym r.act_is ∙ e in absurd cc) (ended_deed u) (ended_tells u)
 
   pub lay_tail : laws.Keeps (WholeLaw u) first_view (LayTailReady u) lay_tail_next TellsNothing
   lay_tail =
@@ -109,17 +108,15 @@ module _ (u : Ends) (cells : u.head ≢ u.tail) where
       (λ own v step r j e. let z = sym r.act_is ∙ e in absurd cc)
       (lay_head_deed u cells)
 
-  pub learn_head : laws.Keeps (WholeLaw u) first_view (LearnReady u.head) (learn_next true) TellsNothing
+  pub learn_head : laws.Keeps (WholeLaw u) first_view (LearnReady u.head) (learn_next true) (CellTells u.head)
   learn_head =
-      whole_deed u (LearnReady u.head) (learn_next true)
-      (λ own v step r j e. reads_no_leave _ step r j e)
-      (learn_head_deed u)
+      whole_told u (LearnReady u.head) (learn_next true) (CellTells u.head)
+      (λ own v step r j e. reads_no_leave _ step r j e) (learn_head_deed u) (learn_head_tells u)
 
-  pub learn_tail : laws.Keeps (WholeLaw u) first_view (LearnReady u.tail) (learn_next false) TellsNothing
+  pub learn_tail : laws.Keeps (WholeLaw u) first_view (LearnReady u.tail) (learn_next false) (CellTells u.tail)
   learn_tail =
-      whole_deed u (LearnReady u.tail) (learn_next false)
-      (λ own v step r j e. reads_no_leave _ step r j e)
-      (learn_tail_deed u)
+      whole_told u (LearnReady u.tail) (learn_next false) (CellTells u.tail)
+      (λ own v step r j e. reads_no_leave _ step r j e) (learn_tail_deed u) (learn_tail_tells u)
 
   pub next : laws.Keeps (WholeLaw u) first_view NextReady next_next (NextTells u)
   next =

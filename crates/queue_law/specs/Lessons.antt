@@ -4,9 +4,9 @@ use Rattle.plain_state.specs.declared.act.EventPlace.{EventPlace}
 use Rattle.plain_state.specs.declared.act.EventPlace.TheVariants.{Cell}
 use Rattle.plain_state.specs.declared.act.PlainAct.{PlainAct}
 use Rattle.plain_state.specs.declared.act.PlainAct.TheVariants as act
-use Rattle.plain_state.specs.State.{Plain}
+use Rattle.plain_state.specs.State.{Plain, no_payload}
 use Rattle.plain_protocol.specs.Owns.{OwnPart}
-use Rattle.queue_law.specs.Words.{id, slot_at, cell_at, first_of, second_of, back_of, held_times, life_in}
+use Rattle.queue_law.specs.Words.{id, slot_at, cell_at, Live, first_of, second_of, back_of, held_times, life_in}
 use Rattle.queue_law.specs.Views.{Linked, Double, View, Eyes, sees_node}
 use Rattle.queue_law.specs.Chain.{Ends}
 use Rattle.queue_law.specs.Pushes.{helped_view}
@@ -126,10 +126,20 @@ attach_next own after v step (suc s) = record v { attached = true }
 abbrev pub NothingLinked : Ends → Plain → Type 0
 NothingLinked u p = (s : ℕ) × (cell_at p u.head ≡ s + 1) × ((slot_at p s).first ≡ 0)
 
--- where the node after one that the head cell held is null, nothing is linked
-abbrev pub NextTells : Ends → Plain → Plain → ℕ → View → View → Type 0
-NextTells u p q n v w =
-    v.eyes.was_head ≡ true → v.attached ≡ true → w.eyes.following ≡ 0 → NothingLinked u q
+-- what the cell held is a node
+abbrev pub CellTells : ℕ → Plain → Plain → ℕ → View → View → Type 0
+CellTells c p q n v w = (s : ℕ) → cell_at p c ≡ s + 1 → (slot_at q s).payload ≡ no_payload
+
+-- where the node after one that the head cell held is null, nothing is linked; else what follows is a node
+pub record NextTells (u : Ends) (p q : Plain) (n : ℕ) (v w : View) : Type 0 where
+  pub none :
+      v.eyes.was_head ≡ true → v.attached ≡ true → w.eyes.following ≡ 0 → NothingLinked u q
+  pub node : (s : ℕ) → w.eyes.following ≡ s + 1 → (slot_at q s).payload ≡ no_payload
+
+-- where the slot before the node that was seen is live, it is a node
+abbrev pub EndedTells : Plain → Plain → ℕ → View → View → Type 0
+EndedTells p q n v w =
+    (s : ℕ) → v.eyes.before ≡ s + 1 → Live p s → (slot_at q s).payload ≡ no_payload
 
 -- where the node after the next one isn't null, the tail cell doesn't hold the node that was seen
 abbrev pub AheadTells : Ends → Plain → Plain → ℕ → View → View → Type 0

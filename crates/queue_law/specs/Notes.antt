@@ -29,10 +29,6 @@ Emptied h k v =
     → (i : ℕ) × (i < length h) × (i ≤ k) × ((sent h i).node + 1 ≡ v.dummy)
     × ((sent h i).life ≡ v.dummy_life)
 
--- slot s is the seat's own node, in its life
-abbrev pub IsOwn : Plain → Load → ℕ → Type 0
-IsOwn p v s = Live p s × ((slot_at p s).life ≡ v.life)
-
 -- the seat's own node isn't linked, and has what was put into it
 pub record Carries (p : Plain) (h : List Sent) (v : Load) : Type 0 where
   pub unlinked : (s : ℕ) → v.node ≡ s + 1 → ¬ (WasLinked h s v.life)

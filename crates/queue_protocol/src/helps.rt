@@ -1,7 +1,7 @@
 //! The deeds by which a seat of a doubly linked queue learns whether there is a link to help.
 ghost use Rattle.queue_law.specs.Chain.{ends};
 ghost use Rattle.queue_law.specs.Lessons.{BeforeReady, EndedReady, SetReady, before_next, ended_next, set_next};
-ghost use Rattle.queue_law.specs.Lessons.{TellsNothing};
+ghost use Rattle.queue_law.specs.Lessons.{EndedTells, TellsNothing};
 ghost use Rattle.queue_law.proofs.Deeds as deeds;
 
 use crate::law::QueueLaw;
@@ -21,7 +21,8 @@ impl Deed<QueueLaw> for LearnBefore {
     ghost keeps = { λ it of. deeds.before (ends of.form of.head of.tail) of.apart };
 }
 
-/// An upgrade of the node before one that was seen: where it has ended, there is nothing to help.
+/// An upgrade of the node before one that was seen: where it has ended, there is nothing to help; where it is live, it is a
+/// node.
 #[derive(Clone, Copy, Drop)]
 pub struct FindEnded;
 
@@ -30,7 +31,7 @@ impl Deed<QueueLaw> for FindEnded {
 
     ghost next = { λ it of. ended_next };
 
-    ghost allows = { λ it of. TellsNothing };
+    ghost allows = { λ it of. EndedTells };
 
     ghost keeps = { λ it of. deeds.ended (ends of.form of.head of.tail) of.apart };
 }

@@ -27,7 +27,11 @@ impl QueueLaw {
         ensures cells { (result.head ≡ head) × (result.tail ≡ tail) }
         ensures form { result.form ≡ Linked }
     {
-        QueueLaw { head, tail, form: Form::Linked }
+        QueueLaw {
+            head,
+            tail,
+            form: Form::Linked,
+        }
     }
 
     /// A doubly linked queue over these cells.
@@ -36,7 +40,11 @@ impl QueueLaw {
         ensures cells { (result.head ≡ head) × (result.tail ≡ tail) }
         ensures form { result.form ≡ Double }
     {
-        QueueLaw { head, tail, form: Form::Double }
+        QueueLaw {
+            head,
+            tail,
+            form: Form::Double,
+        }
     }
 }
 

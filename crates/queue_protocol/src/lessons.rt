@@ -2,13 +2,13 @@
 ghost use Rattle.std.specs.Prelude.{true, false};
 ghost use Rattle.queue_law.specs.Chain.{ends};
 ghost use Rattle.queue_law.specs.Lessons.{AheadReady, AttachReady, ItemReady, LearnReady, NextReady, ahead_next, attach_next, item_next, learn_next, next_next};
-ghost use Rattle.queue_law.specs.Lessons.{AheadTells, AttachTells, ItemTells, NextTells, TellsNothing};
+ghost use Rattle.queue_law.specs.Lessons.{AheadTells, AttachTells, CellTells, ItemTells, NextTells};
 ghost use Rattle.queue_law.proofs.Deeds as deeds;
 
 use crate::law::QueueLaw;
 use plain_protocol::Deed;
 
-/// What the head cell held, if the seat then holds it.
+/// What the head cell held, if the seat then holds it. It is a node.
 #[derive(Clone, Copy, Drop)]
 pub struct LearnHead;
 
@@ -17,12 +17,12 @@ impl Deed<QueueLaw> for LearnHead {
 
     ghost next = { λ it of. learn_next true };
 
-    ghost allows = { λ it of. TellsNothing };
+    ghost allows = { λ it of. CellTells of.head };
 
     ghost keeps = { λ it of. deeds.learn_head (ends of.form of.head of.tail) of.apart };
 }
 
-/// What the tail cell held, if the seat then holds it.
+/// What the tail cell held, if the seat then holds it. It is a node.
 #[derive(Clone, Copy, Drop)]
 pub struct LearnTail;
 
@@ -31,12 +31,13 @@ impl Deed<QueueLaw> for LearnTail {
 
     ghost next = { λ it of. learn_next false };
 
-    ghost allows = { λ it of. TellsNothing };
+    ghost allows = { λ it of. CellTells of.tail };
 
     ghost keeps = { λ it of. deeds.learn_tail (ends of.form of.head of.tail) of.apart };
 }
 
-/// The node after one that was seen. Where the head cell held that one and there is none, nothing is linked.
+/// The node after one that was seen. Where the head cell held that one and there is none, nothing is linked; else what
+/// follows is a node.
 #[derive(Clone, Copy, Drop)]
 pub struct LearnNext;
 

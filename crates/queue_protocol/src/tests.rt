@@ -1,6 +1,10 @@
 ghost use Rattle.plain_protocol.specs.Laws.{Starts, KeptByCalm, KeptByLeave, KeptByForeign, Keeps};
 
-use crate::{AdvanceTail, AttachSeat, CarryItem, EmptyDummy, ExchangeTail, FindEnded, FindSet, HelpLink, LandPush, LayHead, LayTail, LearnBefore, LearnHead, LearnItem, LearnNext, LearnTail, LinkBack, LinkNode, LookAhead, MakeNode, ShutHead, ShutTail, TakeItem, NodeKind, QueueLaw};
+use crate::{
+    AdvanceTail, AttachSeat, CarryItem, EmptyDummy, ExchangeTail, FindEnded, FindSet, HelpLink,
+    LandPush, LayHead, LayTail, LearnBefore, LearnHead, LearnItem, LearnNext, LearnTail, LinkBack,
+    LinkNode, LookAhead, MakeNode, NodeKind, QueueLaw, ShutHead, ShutTail, TakeItem,
+};
 use plain_protocol::{Deed, Protocol, Still, fits_stay};
 
 /// What a domain cites of a protocol and a deed, by their bounds alone.
