@@ -1,0 +1,14 @@
+pub mod Words
+pub mod Views
+pub mod Chain
+pub mod Notes
+pub mod Lists
+pub mod Law
+pub mod Promises
+pub mod Nodes
+pub mod Pushes
+pub mod Pops
+pub mod Lessons
+pub mod Opening
+pub mod Owned
+pub mod Writes
