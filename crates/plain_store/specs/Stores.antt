@@ -1,8 +1,10 @@
 -- The plain state that a store stands for, and what a store keeps.
 use Rattle.std.specs.Prelude.{ℕ, ◌≡◌, ◌<◌, ◌≤◌, ◌+◌, ◌^◌, false, List, [], ◌∷◌, length, slice_index, None}
+use Rattle.plain_state.specs.declared.slot.Kind.TheVariants.{Disposal}
 use Rattle.plain_state.specs.declared.slot.SlotId.{SlotId}
 use Rattle.plain_store.specs.declared.store.Store.{Store}
-use Rattle.plain_state.specs.State.{Plain}
+use Rattle.plain_state.specs.Lists.{entry_times}
+use Rattle.plain_state.specs.State.{Plain, seat_at}
 use Rattle.plain_state.specs.References.{strong_refs, weak_refs}
 use Rattle.plain_state.specs.Sound.{Sound}
 
@@ -22,7 +24,13 @@ plain_of h = record {
   cells = h.cells.items;
   weak_cells = h.weak_cells.items;
   slots = h.slots.items;
+  tickets = 0;
 }
+
+-- its seat is under no weak snapshot, and none is deferred
+pub record NoDisposals (p : Plain) : Type 0 where
+  pub snapshots : (s : SlotId) → entry_times Disposal s (seat_at p 0).snapshots ≡ 0
+  pub deferred : (s : SlotId) → entry_times Disposal s (seat_at p 0).deferred ≡ 0
 
 -- two lists have the strong and the weak references to each slot
 pub record Tallied (p : Plain) (strongs weaks : List ℕ) : Type 0 where
@@ -34,6 +42,7 @@ pub record Tallied (p : Plain) (strongs weaks : List ℕ) : Type 0 where
 -- what holds of a store between any two calls
 pub record Kept (h : Store) : Type 0 where
   pub sound : Sound (plain_of h)
+  pub disposals : NoDisposals (plain_of h)
   pub tallied : Tallied (plain_of h) h.strong.items h.weak.items
   -- so no count reaches the zero flag of its word
   pub adds : h.adds + 1 < 2 ^ 63
