@@ -13,8 +13,8 @@ use Rattle.plain_state.specs.Places.{place_kind, content, with_content}
 use Rattle.plain_state.specs.Steps.{joined, Does}
 use Rattle.plain_state.proofs.Kit.{entry_loses}
 use Rattle.plain_state.proofs.PlaceRows.{joined_times}
+use Rattle.plain_store.specs.Heaps.{NoDisposals}
 use Rattle.plain_store.specs.Settling.{Settles, SettlesBy}
-use Rattle.plain_store.specs.Stores.{NoDisposals}
 
 -- no entry of the list is one
 abbrev pub NoneIn : List Entry → Type 0

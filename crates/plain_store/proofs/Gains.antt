@@ -13,8 +13,8 @@ use Rattle.plain_state.specs.declared.slot.Kind.TheVariants.{Strong}
 use Rattle.plain_state.specs.Places.{Holds, HoldsStrongly}
 use Rattle.plain_state.specs.Steps.{Does}
 use Rattle.plain_state.specs.Fits.{AllFit}
-use Rattle.plain_store.specs.Heaps.{OwnsWeakly, IsHeap}
-use Rattle.plain_store.specs.Stores.{plain_of, NoDisposals, Tallied, Kept}
+use Rattle.plain_store.specs.Heaps.{OwnsWeakly, IsHeap, NoDisposals}
+use Rattle.plain_store.specs.Stores.{plain_of, Tallied, Kept}
 use Rattle.plain_store.specs.Calls.{gained, weakly_gained, spent}
 use Rattle.plain_state.proofs.Kit.{times_push, times_loses, none_by, none_or_some}
 use Rattle.plain_state.proofs.Changes.{seat_change, seat_part}
@@ -187,4 +187,7 @@ kept_heap fits h k all = record {
   slots = k.slots;
   adds = omega (arith, one_seat h, k.adds);
   payloads = all;
+  tickets = refl;
+  filling = refl;
+  disposals = k.disposals;
 }

@@ -5,10 +5,11 @@ use Rattle.plain_state.specs.declared.slot.Kind.TheVariants.{Disposal}
 use Rattle.plain_state.specs.declared.slot.PlainSlot.{PlainSlot}
 use Rattle.plain_state.specs.declared.slot.SlotId.{SlotId}
 use Rattle.plain_state.specs.declared.slot.Stage.TheVariants.{Free}
+use Rattle.plain_store.specs.Heaps.{NoDisposals}
 use Rattle.plain_store.specs.declared.store.Store.{Store}
 use Rattle.plain_state.specs.State.{Plain, new_slot, stage_at, empty}
 use Rattle.plain_state.specs.Sound.{Sound}
-use Rattle.plain_store.specs.Stores.{plain_of, NoDisposals, Tallied, Kept}
+use Rattle.plain_store.specs.Stores.{plain_of, Tallied, Kept}
 use Rattle.plain_state.proofs.Kit.{entry_none}
 use Rattle.plain_state.proofs.Start.{every_slot_new, empty_sound}
 use Rattle.plain_store.proofs.Stores.{free_strong, free_weak}

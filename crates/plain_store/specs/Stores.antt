@@ -1,12 +1,11 @@
 -- The plain state that a store stands for, and what a store keeps.
 use Rattle.std.specs.Prelude.{ℕ, ◌≡◌, ◌<◌, ◌≤◌, ◌+◌, ◌^◌, false, List, [], ◌∷◌, length, slice_index, None}
-use Rattle.plain_state.specs.declared.slot.Kind.TheVariants.{Disposal}
 use Rattle.plain_state.specs.declared.slot.SlotId.{SlotId}
 use Rattle.plain_store.specs.declared.store.Store.{Store}
-use Rattle.plain_state.specs.Lists.{entry_times}
-use Rattle.plain_state.specs.State.{Plain, seat_at}
+use Rattle.plain_state.specs.State.{Plain}
 use Rattle.plain_state.specs.References.{strong_refs, weak_refs}
 use Rattle.plain_state.specs.Sound.{Sound}
+use Rattle.plain_store.specs.Heaps.{NoDisposals}
 
 -- the plain state of its one seat
 abbrev pub plain_of : Store → Plain
@@ -26,11 +25,6 @@ plain_of h = record {
   slots = h.slots.items;
   tickets = 0;
 }
-
--- its seat is under no weak snapshot, and none is deferred
-pub record NoDisposals (p : Plain) : Type 0 where
-  pub snapshots : (s : SlotId) → entry_times Disposal s (seat_at p 0).snapshots ≡ 0
-  pub deferred : (s : SlotId) → entry_times Disposal s (seat_at p 0).deferred ≡ 0
 
 -- two lists have the strong and the weak references to each slot
 pub record Tallied (p : Plain) (strongs weaks : List ℕ) : Type 0 where

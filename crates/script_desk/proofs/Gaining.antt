@@ -162,7 +162,7 @@ fills_more m q s i (word ∷ words) (x, found, (here, (blank, filling, few, z, e
     more_after m x q (Strong s) (slot_alone m x s _ e) (fills_more x q s (i + 1) words r)
 
 pub makes_more : (p q : Plain) (s : SlotId) (words : List ℕ) → Makes p s words q → HasMore p (Strong s) q
-makes_more p q s words (x, found, (here, (there, free, z, e)), r) =
+makes_more p q s words (x, found, (here, (there, free, empty, z, e)), r) =
     more_after p x q (Strong s)
     (slot_written p x (record (seat_at p 0) { filling = Some s }) s _ here.0 e refl refl refl)
     (fills_more x q s 0 words r)
@@ -184,10 +184,11 @@ gives_fewer p q (Snapshot (s, false)) (here, (es, l, z, e)) =
 
 -- ---- what is put into a place
 
--- the handle of a reference of this kind
+-- the handle of a reference of this kind; there is none of kind Disposal
 abbrev pub handle_of : Kind → SlotId → Handle
 handle_of kind.Strong s = Strong s
 handle_of kind.Weak s = Weak s
+handle_of kind.Disposal s = Weak s
 
 given_fewer : (k : Kind) (p q : Plain) (w x : PlainSeat) (s : SlotId) → GivesUp k (Some s) (seat_at p 0) w → SameSizes p q → seat_at q 0 ≡ x
     → x.owned ≡ w.owned → x.weaks ≡ w.weaks → x.snapshots ≡ w.snapshots → HasMore q (handle_of k s) p
@@ -197,6 +198,7 @@ given_fewer kind.Strong p q w x s (xs, l, e) sizes is owned weaks snapshots =
 given_fewer kind.Weak p q w x s (xs, l, e) sizes is owned weaks snapshots =
     weaks_fewer p q x s sizes is (owned ∙ ap (λ (v : PlainSeat). v.owned) e)
     (subst (Loses (seat_at p 0).weaks s) (sym (weaks ∙ ap (λ (v : PlainSeat). v.weaks) e)) l) (snapshots ∙ ap (λ (v : PlainSeat). v.snapshots) e)
+given_fewer kind.Disposal p q w x s g sizes is owned weaks snapshots = absurd g
 
 -- the seat after a replacement, whose other lists are those of w
 abbrev after_put : Plain → EventPlace → PlainSeat → PlainSeat
