@@ -13,7 +13,7 @@ use plain_state::{PayloadKind, SlotId};
 use plain_store::{Hand, WeakHand};
 
 /// Each call that gains a reference uses an add. It answers OutOfMemory where its list can't grow,
-/// and where the heap's adds would pass 2^64 - 2; the heap is then as it was.
+/// and where the heap's adds would pass 2^63 - 2; the heap is then as it was.
 impl<W: PayloadKind> PlainHeap<W> {
     /// One more owned reference to the object. Constant but for the growth of a list.
     pub fn copy(&mut self, h: &Hand) -> Result<Hand, OutOfMemory>

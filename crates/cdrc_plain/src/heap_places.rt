@@ -69,7 +69,7 @@ impl<W: PayloadKind> PlainHeap<W> {
     }
 
     /// An owned reference to what the place holds, or None exactly where it holds null. It uses an
-    /// add, and answers OutOfMemory too where the heap's adds would pass 2^64 - 2. Constant but for
+    /// add, and answers OutOfMemory too where the heap's adds would pass 2^63 - 2. Constant but for
     /// the growth of a list.
     pub fn load(&mut self, place: PlainPlace) -> Result<Option<Hand>, OutOfMemory>
         requires { IsOpen self.old 0 (strong_place place) }

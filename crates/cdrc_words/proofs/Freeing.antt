@@ -108,9 +108,9 @@ settle_step p q (act.End s) found o may (here, (live, dead, z, e)) =
     slot_written p q (record (seat_at p 0) { dying = (seat_at p 0).dying ++ s ∷ [] }) s (record (slot_at p s) { stage = Ended; marked = true }) o
     (step_sound p q 0 (act.End s) found o.sound (here, (live, dead, z, e))) e refl o.snapshots o.deferred (null_at p s o.fields)
 settle_step p q (act.Clear place) found o may d = clear_step p q place found o (step_sound p q 0 (act.Clear place) found o.sound d) d
-settle_step p q (act.Destroy s) found o may (here, (nulls, z, (xs, l, e))) =
+settle_step p q (act.Destroy s) found o may (here, (nulls, under, z, (xs, l, e))) =
     slot_written p q (record (seat_at p 0) { dying = xs }) s (record (slot_at p s) { stage = Husk }) o
-    (step_sound p q 0 (act.Destroy s) found o.sound (here, (nulls, z, (xs, l, e)))) e refl o.snapshots o.deferred nulls
+    (step_sound p q 0 (act.Destroy s) found o.sound (here, (nulls, under, z, (xs, l, e)))) e refl o.snapshots o.deferred nulls
 settle_step p q (act.Give s) found o may (here, (husk, none, z, e)) =
     slot_alone p q s (record (slot_at p s) { stage = Free }) o (step_sound p q 0 (act.Give s) found o.sound (here, (husk, none, z, e))) e (null_at p s o.fields)
 settle_step p q act.Split found o may (here, (z, (es, same, e))) =

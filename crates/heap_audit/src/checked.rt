@@ -131,6 +131,6 @@ fn is_strong(kind: Kind) -> bool
 {
     match kind {
         Kind::Strong => true,
-        Kind::Weak => false,
+        Kind::Weak | Kind::Disposal => false,
     }
 }

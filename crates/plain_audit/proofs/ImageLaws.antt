@@ -27,16 +27,16 @@ module _ (p : Plain) (image : Heap) (is : IsImage p image) (fits : List ℕ → 
   fields_within : (k : ℕ) → k < slots → HasFieldsWithin slots (image_of image (slot k))
   fields_within k lt =
       subst (HasFieldsWithin slots) (sym (is.slots (slot k) lt)) (record {
-        first = place_within p heap.sound (Field (slot k) 0) (slot_at p (slot k)).first lt refl;
-        second = place_within p heap.sound (Field (slot k) 1) (slot_at p (slot k)).second lt refl;
-        weak = place_within p heap.sound (WeakField (slot k)) (slot_at p (slot k)).weak_field lt refl;
+        first = place_within p heap.sound heap.seats heap.disposals (Field (slot k) 0) (slot_at p (slot k)).first lt refl;
+        second = place_within p heap.sound heap.seats heap.disposals (Field (slot k) 1) (slot_at p (slot k)).second lt refl;
+        weak = place_within p heap.sound heap.seats heap.disposals (WeakField (slot k)) (slot_at p (slot k)).weak_field lt refl;
       })
 
   cells_within : All (λ o. word_of o ≤ slots) p.cells
-  cells_within = All-from_get_or (λ o. word_of o ≤ slots) p.cells None (λ k lt. place_within p heap.sound (Cell k) (get_or p.cells k None) lt refl)
+  cells_within = All-from_get_or (λ o. word_of o ≤ slots) p.cells None (λ k lt. place_within p heap.sound heap.seats heap.disposals (Cell k) (get_or p.cells k None) lt refl)
 
   weak_cells_within : All (λ o. word_of o ≤ slots) p.weak_cells
-  weak_cells_within = All-from_get_or (λ o. word_of o ≤ slots) p.weak_cells None (λ k lt. place_within p heap.sound (WeakCell k) (get_or p.weak_cells k None) lt refl)
+  weak_cells_within = All-from_get_or (λ o. word_of o ≤ slots) p.weak_cells None (λ k lt. place_within p heap.sound heap.seats heap.disposals (WeakCell k) (get_or p.weak_cells k None) lt refl)
 
   in_range : (n : ℕ) → length image.slots.items ≡ n → n ≡ slots → IsInRange image
   in_range n e f =
@@ -49,7 +49,7 @@ module _ (p : Plain) (image : Heap) (is : IsImage p image) (fits : List ℕ → 
             (subst (All (Within slots)) (sym is.weak_cells) (All-map (Within slots) word_of p.weak_cells weak_cells_within));
         deferred = subst (λ (m : ℕ). All (λ (e : Entry). e.1.0 < m) image.deferred.items) (sym many)
             (subst (All (λ (e : Entry). e.1.0 < slots)) (sym is.deferred)
-            (λ k d lt. entry_within p heap.sound k d (omega (arith, heap.seats)) lt));
+            (λ k d lt. entry_within p heap.sound heap.seats heap.disposals k d lt));
       }
 
   pub image_in_range : IsInRange image

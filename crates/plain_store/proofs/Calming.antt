@@ -118,7 +118,7 @@ pub step_calm : (p q : Plain) (a : PlainAct) (found : ℕ) → Sound p → Gives
 step_calm p q (act.Claim s) found so gives d =
     let v = seat_at p 0 in
     let w : PlainSeat = record v { filling = Some s } in
-    subst (StaysCalm p) (sym d.1.3)
+    subst (StaysCalm p) (sym d.1.4)
     (calm_then p (with_seat p 0 w) _ (seat_calm p 0 w d.0.0 (λ t. (omega arith, omega arith)))
     (blank_calm (with_seat p 0 w) s (record (slot_at p s) { stage = Blank }) d.1.0 (λ t. refl) (λ t. refl) refl))
 step_calm p q (act.Fill s i word) found so gives d =
@@ -173,6 +173,18 @@ step_calm p q act.Split found so gives d =
     let same = d.1.1 in
     subst (StaysCalm p) (sym same.2)
     (seat_calm p 0 (record (seat_at p 0) { deferred = same.0 }) d.0.0 (λ t. (omega (arith, same.1 Strong t), omega (arith, same.1 Weak t))))
+step_calm p q act.Ticket found so gives d =
+    let v = seat_at p 0 in
+    let c = seat_calm p 0 (record v { adds = v.adds + 1 }) d.0.0 (λ t. (omega arith, omega arith)) in
+    subst (StaysCalm p) (sym d.1.1) (record { slots = c.slots; calm = c.calm })
+step_calm p q (act.Alive j) found so gives d =
+    ⊎_elim
+    (λ ended. calm_still p q ended.1)
+    (λ taken.
+    let gain = taken.2 in
+    subst (StaysCalm p) (sym gain.2)
+    (seat_calm p 0 (record (seat_at p 0) { snapshots = gain.0 }) d.0.0 (λ t. (omega arith, omega arith))))
+    d.1.3
 step_calm p q act.Still found so gives d = calm_still p q d.1.1
 step_calm p q _ found so gives d = absurd gives
 

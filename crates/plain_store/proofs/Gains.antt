@@ -13,7 +13,7 @@ use Rattle.plain_state.specs.declared.slot.Kind.TheVariants.{Strong}
 use Rattle.plain_state.specs.Places.{Holds, HoldsStrongly}
 use Rattle.plain_state.specs.Steps.{Does}
 use Rattle.plain_state.specs.Fits.{AllFit}
-use Rattle.plain_store.specs.Heaps.{OwnsWeakly, IsHeap}
+use Rattle.plain_store.specs.Heaps.{OwnsWeakly, IsHeap, NoDisposals}
 use Rattle.plain_store.specs.Stores.{plain_of, Tallied, Kept}
 use Rattle.plain_store.specs.Calls.{gained, weakly_gained, spent}
 use Rattle.plain_state.proofs.Kit.{times_push, times_loses, none_by, none_or_some}
@@ -21,6 +21,7 @@ use Rattle.plain_state.proofs.Changes.{seat_change, seat_part}
 use Rattle.plain_state.proofs.EveryStep.{step_sound}
 use Rattle.plain_store.proofs.Stores.{held_slot}
 use Rattle.plain_state.proofs.SeatRows.{add_refused_sound, add_sound, weak_gain_sound}
+use Rattle.plain_store.proofs.Disposals.{same_disposals}
 use Rattle.plain_store.proofs.Tallies.{one_less, one_more}
 
 -- the adds of all seats are those of the one
@@ -78,11 +79,12 @@ module _ (p q : Plain) (ss ws : List ℕ) (t : Tallied p ss ws) (size : length q
 
 -- a store in a state that is sound, with its sums, and with room for adds
 pub kept_by : (h h' : Store) (q : Plain) → Kept h → plain_of h' ≡ q → Sound q → length q.slots ≡ length h.slots.items → Tallied q h'.strong.items h'.weak.items
-    → h'.adds + 1 < 2 ^ 63 → h'.next ≡ h.next → Kept h'
-kept_by h h' q k e so size t adds next =
+    → NoDisposals q → h'.adds + 1 < 2 ^ 63 → h'.next ≡ h.next → Kept h'
+kept_by h h' q k e so size t none adds next =
     let size' : length h'.slots.items ≡ length h.slots.items = ap (λ (r : Plain). length r.slots) e ∙ size in
     record {
       sound = subst Sound (sym e) so;
+      disposals = subst NoDisposals (sym e) none;
       tallied = subst (λ (r : Plain). Tallied r h'.strong.items h'.weak.items) (sym e) t;
       adds = adds;
       slots = omega (arith, size', k.slots);
@@ -99,7 +101,7 @@ kept_own h h' x k at so e adds f g next =
     kept_by h h' (gained p x) k e so refl
     (rw (f, g) (tallied_more p (gained p x) h.strong.items h.weak.items k.tallied refl x at
     (λ s. omega (arith, (c s).strong, u s)) (λ s. omega (arith, (c s).weak))))
-    (omega (arith, adds')) next
+    (same_disposals p _ refl refl k.disposals) (omega (arith, adds')) next
 
 pub kept_own_weakly : (h h' : Store) (x : SlotId) → Kept h → x.0 < length h.slots.items → Sound (weakly_gained (plain_of h) x) → plain_of h' ≡ weakly_gained (plain_of h) x → h.adds + 2 < 2 ^ 63
     → h'.strong.items ≡ h.strong.items → h'.weak.items ≡ slice_set h.weak.items x.0 (slice_index h.weak.items x.0 + 1) → h'.next ≡ h.next → Kept h'
@@ -111,7 +113,7 @@ kept_own_weakly h h' x k at so e adds f g next =
     kept_by h h' (weakly_gained p x) k e so refl
     (rw (f, g) (tallied_weak_more p (weakly_gained p x) h.strong.items h.weak.items k.tallied refl x at
     (λ s. omega (arith, (c s).strong)) (λ s. omega (arith, (c s).weak, u s))))
-    (omega (arith, adds')) next
+    (same_disposals p _ refl refl k.disposals) (omega (arith, adds')) next
 
 pub kept_spend : (h h' : Store) → Kept h → plain_of h' ≡ spent (plain_of h) → h.adds + 2 < 2 ^ 63 → h'.strong.items ≡ h.strong.items → h'.weak.items ≡ h.weak.items → h'.next ≡ h.next → Kept h'
 kept_spend h h' k e adds f g next =
@@ -121,7 +123,7 @@ kept_spend h h' k e adds f g next =
     kept_by h h' (spent p) k e (add_refused_sound p 0 k.sound (lit< tt)) refl
     (rw (f, g) (tallied_same p (spent p) h.strong.items h.weak.items k.tallied refl
     (λ s. omega (arith, (c s).strong)) (λ s. omega (arith, (c s).weak))))
-    (omega (arith, adds')) next
+    (same_disposals p _ refl refl k.disposals) (omega (arith, adds')) next
 
 -- what the seat holds strongly is alive
 module _ (h : Store) (s : SlotId) (k : Kept h) (held : HoldsStrongly (seat_at (plain_of h) 0) s) where
@@ -175,7 +177,7 @@ kept_weak_drop h h' x k o d adds f g next =
     kept_by h h' q k d.1.3 (subst Sound d.1.3 (step_sound p (plain_of h') 0 (act.WeakDrop x) 0 k.sound d)) refl
     (rw (f, g) (tallied_weak_less p q h.strong.items h.weak.items k.tallied refl x (weak_owned_there h x k o)
     (λ s. omega (arith, (c s).strong)) (λ s. omega (arith, (c s).weak, u s))))
-    (omega (arith, adds, k.adds)) next
+    (same_disposals p q refl refl k.disposals) (omega (arith, adds, k.adds)) next
 
 -- a store that is kept stands for a heap
 pub kept_heap : (fits : List ℕ → Type 0) (h : Store) → Kept h → AllFit fits (plain_of h) → IsHeap fits (plain_of h)
@@ -185,4 +187,7 @@ kept_heap fits h k all = record {
   slots = k.slots;
   adds = omega (arith, one_seat h, k.adds);
   payloads = all;
+  tickets = refl;
+  filling = refl;
+  disposals = k.disposals;
 }

@@ -7,13 +7,14 @@ use Rattle.plain_state.specs.declared.slot.SlotId.{SlotId}
 use Rattle.plain_store.specs.declared.store.Store.{Store}
 use Rattle.plain_state.specs.declared.act.PlainAct.{PlainAct}
 use Rattle.plain_state.specs.declared.slot.Stage.TheVariants.{Free}
-use Rattle.plain_state.specs.State.{Plain, slot_at, stage_at}
+use Rattle.plain_state.specs.State.{Plain, seat_at, slot_at, stage_at}
 use Rattle.plain_state.specs.Runs.{Runs}
 use Rattle.plain_state.specs.Sound.{Sound}
 use Rattle.plain_store.specs.Heaps.{Owns, made_slot, fills, Makes}
 use Rattle.plain_state.specs.Steps.{Does}
 use Rattle.plain_store.specs.Stores.{plain_of, Tallied, Kept}
 use Rattle.plain_store.proofs.Stores.{owned_there, free_strong, free_weak, payload_words}
+use Rattle.plain_store.proofs.Disposals.{same_disposals}
 use Rattle.plain_store.proofs.Tallies.{tallied_drop, tallied_make}
 use Rattle.plain_state.proofs.EveryStep.{step_sound}
 use Rattle.plain_store.proofs.Making.{made, makes}
@@ -36,6 +37,9 @@ pub kept_drop : (h h' : Store) (x : SlotId) → Kept h → Owns (plain_of h) x �
     → IsSameRest h h' → h'.strong.items ≡ slice_set h.strong.items x.0 (slice_index h.strong.items x.0 - 1) → h'.weak.items ≡ h.weak.items → Kept h'
 kept_drop h h' x k o d same e f = record {
   sound = step_sound (plain_of h) (plain_of h') 0 (act.Drop x) 0 k.sound d;
+  disposals =
+      let e = d.1.3 in
+      same_disposals (plain_of h) (plain_of h') (ap (λ (r : Plain). (seat_at r 0).snapshots) e) (ap (λ (r : Plain). (seat_at r 0).deferred) e) k.disposals;
   tallied = rw (e, f) (tallied_drop (plain_of h) (plain_of h') 0 0 x h.strong.items h.weak.items k.tallied (owned_there h x k o) d);
   adds = omega (arith, same.adds, k.adds);
   slots = omega (arith, same.slots, k.slots);
@@ -74,11 +78,12 @@ pub record MayMake (h : Store) (s : SlotId) (payload : List ℕ) : Type 0 where
 pub made_makes : (h h' : Store) (s : SlotId) (payload : List ℕ) → MayMake h s payload → IsMade h h' s payload → Makes (plain_of h) s payload (plain_of h')
 made_makes h h' s payload may m =
     subst (λ (q : Plain). Makes (plain_of h) s payload q) (sym (made_is h h' s payload m))
-    (makes (plain_of h) s (lit< tt, refl) may.there payload may.free may.words (payload_words (plain_of h) s may.kept.sound may.there))
+    (makes (plain_of h) s (lit< tt, refl) may.there payload may.free refl may.words (payload_words (plain_of h) s may.kept.sound may.there))
 
 pub kept_make : (h h' : Store) (s : SlotId) (payload : List ℕ) → MayMake h s payload → IsMade h h' s payload → Kept h'
 kept_make h h' s payload may m = record {
   sound = run_sound (plain_of h) (plain_of h') 0 (act.Claim s ∷ fills s 0 payload ++ act.Make s ∷ []) may.kept.sound (made_makes h h' s payload may m);
+  disposals = same_disposals (plain_of h) (plain_of h') m.snapshots m.deferred may.kept.disposals;
   tallied = subst (λ (q : Plain). Tallied q h'.strong.items h'.weak.items) (sym (made_is h h' s payload m)) (
       rw (m.strong, m.weak) (tallied_make (plain_of h) s payload (lit< tt) may.there may.free h.strong.items h.weak.items may.kept.tallied
       (free_strong (plain_of h) s may.kept.sound may.free) (free_weak (plain_of h) s may.kept.sound may.free)));

@@ -20,3 +20,4 @@ pub mod EntryPlaces
 pub mod Listed
 pub mod Calming
 pub mod CallsCalm
+mod Disposals

@@ -1,23 +1,25 @@
 -- What a place holds, loaded or under a snapshot.
-use Rattle.std.proofs.Common.{◌≡◌, ◌+◌, ◌<◌, List, [], ◌∷◌, ◌++◌, length, refl, ap, sym, subst, arith, lit<, inl, inr, false, Some, append-nil}
+use Rattle.std.proofs.Common.{◌≡◌, ℕ, ◌+◌, ◌<◌, List, [], ◌∷◌, ◌++◌, length, refl, ap, sym, subst, arith, lit<, inl, inr, false, Some, append-nil}
 use Rattle.plain_state.specs.declared.act.EventPlace.{EventPlace}
+use Rattle.plain_state.specs.declared.act.EventPlace.TheVariants.{Cell, Field, WeakCell, WeakField}
 use Rattle.plain_state.specs.declared.act.PlainAct.TheVariants as act
 use Rattle.plain_state.specs.declared.slot.Kind.{Kind}
-use Rattle.plain_state.specs.declared.slot.Kind.TheVariants.{Strong, Weak}
+use Rattle.plain_state.specs.declared.slot.Kind.TheVariants.{Strong, Weak, Disposal}
 use Rattle.plain_state.specs.declared.slot.SlotId.{SlotId}
 use Rattle.plain_store.specs.declared.store.Store.{Store}
 use Rattle.plain_state.specs.Lists.{Loses, entry_times}
 use Rattle.plain_state.specs.State.{Plain, PlainSeat, seat_at, slot_at}
-use Rattle.plain_state.specs.Places.{IsOpen, Holds, place_kind, content}
+use Rattle.plain_state.specs.Places.{IsOpen, IsReadable, Holds, place_kind, content}
 use Rattle.plain_state.specs.References.{held_in, places}
 use Rattle.plain_state.specs.Steps.{Does, word_of}
 use Rattle.plain_state.specs.Runs.{Runs}
 use Rattle.plain_state.specs.Sound.{Sound}
 use Rattle.plain_store.specs.Calls.{gained, weakly_gained, snapped, Loads, WeaklyLoads}
 use Rattle.plain_store.specs.Stores.{plain_of, Kept}
-use Rattle.plain_state.proofs.Kit.{held_self, entry_self, entry_push}
+use Rattle.plain_state.proofs.Kit.{held_self, entry_in, entry_self, entry_push}
 use Rattle.plain_state.proofs.Changes.{seat_change, place_part}
 use Rattle.plain_state.proofs.EveryStep.{step_sound}
+use Rattle.plain_store.proofs.Disposals.{end_disposals}
 use Rattle.plain_store.proofs.Kepts.{run_sound}
 use Rattle.plain_state.proofs.SeatRows.{is_there, held_there}
 use Rattle.plain_store.proofs.Gains.{kept_by, tallied_same}
@@ -27,6 +29,21 @@ use Rattle.plain_store.proofs.Placing.{opened_there}
 entry_held : (k : Kind) (s : SlotId) (v : PlainSeat) → 0 < entry_times k s v.snapshots → Holds v s
 entry_held Strong s v h = omega arith
 entry_held Weak s v h = omega arith
+entry_held Disposal s v h = omega arith
+
+-- an open place may be read
+pub open_readable : (p : Plain) (n : ℕ) (place : EventPlace) → IsOpen p n place → IsReadable p n place
+open_readable p n (Cell i) opened = opened
+open_readable p n (Field s i) opened = (opened.0, omega (arith, opened.1))
+open_readable p n (WeakCell i) opened = opened
+open_readable p n (WeakField s) opened = omega (arith, opened)
+
+-- no place is held by a weak snapshot
+no_snapshot : (place : EventPlace) (t s : SlotId) → entry_in Disposal t (place_kind place, s) ≡ 0
+no_snapshot (Cell i) t s = refl
+no_snapshot (Field x i) t s = refl
+no_snapshot (WeakCell i) t s = refl
+no_snapshot (WeakField x) t s = refl
 
 last_lost : {A : Type 0} (xs : List A) (x : A) → Loses (xs ++ x ∷ []) x xs
 last_lost xs x = (xs, [], refl, sym (append-nil xs))
@@ -35,7 +52,7 @@ module _ (h : Store) (place : EventPlace) (s : SlotId) (k : Kept h) (opened : Is
   pub check_does : Does (plain_of h) 0 (act.Check 0 place) (s.0 + 1) (snapped (plain_of h) place s)
   check_does = (
     (lit< tt, refl),
-    (opened, sym (ap word_of holds), inr (s, holds, (_, last_lost h.snapshots.items (place_kind place, s), refl))),
+    (open_readable (plain_of h) 0 place opened, sym (ap word_of holds), inr (s, holds, (_, last_lost h.snapshots.items (place_kind place, s), refl))),
   )
 
   pub snapped_sound : Sound (snapped (plain_of h) place s)
@@ -107,6 +124,10 @@ module _ (h : Store) (place : EventPlace) (s : SlotId) (k : Kept h) (opened : Is
       let c = λ (t : SlotId). seat_change (plain_of h) 0 (seat_at q 0) t (lit< tt) in
       kept_by h h' q k e snapped_sound refl
       (rw (f, g) (tallied_same (plain_of h) q h.strong.items h.weak.items k.tallied refl (λ t. omega (arith, (c t).strong)) (λ t. omega (arith, (c t).weak))))
+      (record {
+        snapshots = λ t. (let more = entry_push Disposal t (place_kind place, s) h.snapshots.items in omega (arith, k.disposals.snapshots t, no_snapshot place t s));
+        deferred = k.disposals.deferred;
+      })
       (omega (arith, adds, k.adds)) next
 
 -- the end of a snapshot leaves the sums too
@@ -118,4 +139,4 @@ kept_end h h' s k d adds f g next =
     let c = λ (t : SlotId). seat_change p 0 (seat_at q 0) t (lit< tt) in
     kept_by h h' q k d.1.3 (subst Sound d.1.3 (step_sound p (plain_of h') 0 (act.EndSnapshot Strong s) 0 k.sound d)) refl
     (rw (f, g) (tallied_same p q h.strong.items h.weak.items k.tallied refl (λ t. omega (arith, (c t).strong)) (λ t. omega (arith, (c t).weak))))
-    (omega (arith, adds, k.adds)) next
+    (end_disposals p q 0 s k.disposals (subst (λ (r : Plain). Does p 0 (act.EndSnapshot Strong s) 0 r) d.1.3 d)) (omega (arith, adds, k.adds)) next

@@ -99,11 +99,11 @@ module _ (p : Plain) (s : SlotId) (here : IsSeat p 0) (at : s.0 < length p.slots
     (ap (λ (x : PlainSlot). x.stage) (slot_then pl), ap (λ (v : PlainSeat). v.filling) (seat_then pl), refl, sym (starts_made pl)),
   )
 
-  pub makes : (payload : List ℕ) → (slot_at p s).stage ≡ Free → length payload ≡ 16 → length (slot_at p s).payload ≡ 16 → Makes p s payload (made p s payload)
-  makes payload free len old = (
+  pub makes : (payload : List ℕ) → (slot_at p s).stage ≡ Free → (seat_at p 0).filling ≡ None → length payload ≡ 16 → length (slot_at p s).payload ≡ 16 → Makes p s payload (made p s payload)
+  makes payload free empty len old = (
     filling p s (slot_at p s).payload,
     0,
-    (here, (at, free, refl, refl)),
+    (here, (at, free, empty, refl, refl)),
     fill_all payload (slot_at p s).payload 0 (act.Make s ∷ []) (made p s payload) (omega (arith, len))
         (made p s payload, 0, subst (λ (pl : List ℕ). Does (filling p s pl) 0 (act.Make s) 0 (made p s payload)) (sym (written_is (slot_at p s).payload payload 0 (omega (arith, len, old)))) (make_last payload), refl),
   )
@@ -128,7 +128,7 @@ pub record IsMake (p : Plain) (s : SlotId) (payload : List ℕ) (q : Plain) : Ty
 
 pub make_is : (p q : Plain) (s : SlotId) (payload : List ℕ) → length payload ≡ 16
     → ((t : SlotId) → t.0 < length p.slots → length (slot_at p t).payload ≡ 16) → Makes p s payload q → IsMake p s payload q
-make_is p q s payload len old (m, found, (here, (at, free, _, e)), r) = record {
+make_is p q s payload len old (m, found, (here, (at, free, _, _, e)), r) = record {
   there = at;
   free = free;
   state =

@@ -1,13 +1,16 @@
 -- A new store is kept.
 use Rattle.std.proofs.Common.{◌≡◌, ℕ, ◌^◌, ◌≤◌, length, replicate, ap, sym, ◌∙◌, subst, arith, lit<}
 use Rattle.std.proofs.lemmas.List.{length-replicate, get_or-replicate}
+use Rattle.plain_state.specs.declared.slot.Kind.TheVariants.{Disposal}
 use Rattle.plain_state.specs.declared.slot.PlainSlot.{PlainSlot}
 use Rattle.plain_state.specs.declared.slot.SlotId.{SlotId}
 use Rattle.plain_state.specs.declared.slot.Stage.TheVariants.{Free}
+use Rattle.plain_store.specs.Heaps.{NoDisposals}
 use Rattle.plain_store.specs.declared.store.Store.{Store}
 use Rattle.plain_state.specs.State.{Plain, new_slot, stage_at, empty}
 use Rattle.plain_state.specs.Sound.{Sound}
 use Rattle.plain_store.specs.Stores.{plain_of, Tallied, Kept}
+use Rattle.plain_state.proofs.Kit.{entry_none}
 use Rattle.plain_state.proofs.Start.{every_slot_new, empty_sound}
 use Rattle.plain_store.proofs.Stores.{free_strong, free_weak}
 
@@ -35,6 +38,7 @@ module _ (slots cells weak_cells : ℕ) where
       let size : length h.slots.items ≡ slots = ap (λ (p : Plain). length p.slots) e ∙ length-replicate slots new_slot in
       record {
         sound = subst Sound (sym e) (empty_sound 1 slots cells weak_cells);
+        disposals = subst NoDisposals (sym e) (record { snapshots = λ s. entry_none Disposal s; deferred = λ s. entry_none Disposal s });
         tallied = subst (λ (p : Plain). Tallied p h.strong.items h.weak.items) (sym e) (rw (f, g) tallied_new);
         adds = rw adds (lit< tt);
         slots = omega arith;

@@ -6,7 +6,7 @@ use Rattle.plain_state.specs.declared.act.EventPlace.{EventPlace}
 use Rattle.plain_state.specs.declared.act.EventPlace.TheVariants.{Cell, Field, WeakCell, WeakField}
 use Rattle.plain_state.specs.declared.act.PlainAct.TheVariants as act
 use Rattle.plain_state.specs.declared.slot.Kind.{Kind}
-use Rattle.plain_state.specs.declared.slot.Kind.TheVariants.{Strong, Weak}
+use Rattle.plain_state.specs.declared.slot.Kind.TheVariants.{Strong, Weak, Disposal}
 use Rattle.plain_state.specs.declared.slot.SlotId.{SlotId}
 use Rattle.plain_store.specs.declared.store.Store.{Store}
 use Rattle.plain_state.specs.Lists.{Loses, entry_times}
@@ -21,12 +21,14 @@ use Rattle.plain_state.proofs.Changes.{IsThere, place_holds, content_object, sea
 use Rattle.plain_state.proofs.SeatRows.{open_there}
 use Rattle.plain_state.proofs.PlaceRows.{joined_times, gave}
 use Rattle.plain_state.proofs.EveryStep.{step_sound}
+use Rattle.plain_store.proofs.Disposals.{NoneIn, none_joined, seat_disposals}
 use Rattle.plain_store.proofs.Gains.{kept_by, tallied_same}
 
 -- what a seat gives up
 nothing_given : (k : Kind) (v : PlainSeat) → GivesUp k None v v
 nothing_given Strong v = refl
 nothing_given Weak v = refl
+nothing_given Disposal v = refl
 
 pub gives_null : (k : Kind) (new : Option SlotId) (v : PlainSeat) → new ≡ None → GivesUp k new v v
 gives_null k new v e = subst (λ (o : Option SlotId). GivesUp k o v v) (sym e) (nothing_given k v)
@@ -127,14 +129,18 @@ kept_replace h h' place new k opened (w, gives, e) f g next =
     let q = replaced p place new w in
     let there = opened_there h place k opened in
     let refs = replaced_refs p place new w (lit< tt) there gives in
+    let given = gave (place_kind place) new (seat_at p 0) w (record { 0 = 0 }) gives in
     let mid : Plain = with_seat p 0 (record w { deferred = joined (place_kind place) (content p place) w.deferred }) in
     let seats = (place_change mid place new (record { 0 = 0 }) (there_still p (seat_at mid 0) place there)).seats in
     let adds : h'.adds ≡ h.adds =
     ap (λ (r : Plain). (seat_at r 0).adds) e ∙ ap (λ (vs : List PlainSeat). (slice_index_or vs 0 new_seat).adds) seats
-    ∙ (gave (place_kind place) new (seat_at p 0) w (record { 0 = 0 }) gives).adds in
+    ∙ given.adds in
     kept_by h h' q k e (subst Sound e (step_sound p (plain_of h') 0 (act.Replace place new) (word_of (content p place)) k.sound ((lit< tt, refl), (opened, refl, (w, gives, e)))))
     (replaced_size p place new w)
     (rw (f, g) (tallied_same p q h.strong.items h.weak.items k.tallied (replaced_size p place new w) (λ s. (refs s).0) (λ s. (refs s).1)))
+    (seat_disposals p q (seat_at mid 0) (lit< tt) seats
+    (subst NoneIn (sym given.snapshots) k.disposals.snapshots)
+    (none_joined place (content p place) w.deferred (subst NoneIn (sym given.deferred) k.disposals.deferred)))
     (omega (arith, adds, k.adds)) next
 
 pub objects_replace : (h h' : Store) (place : EventPlace) (new : Option SlotId) → Kept h → IsOpen (plain_of h) 0 place → Replaces (plain_of h) 0 place new (plain_of h')

@@ -5,7 +5,7 @@ use Rattle.std.specs.List.{swap_remove}
 use Rattle.std.proofs.lemmas.List.{length-set, take-take, take-set-le, length-take-le}
 use Rattle.std.proofs.lemmas.List.Sums.{sum_by-swap_remove, sum_by-take-le, sum_by_more, count_by_more_yes, count_by_more_no, count_by-le-length}
 use Rattle.plain_state.specs.declared.slot.Kind.{Kind}
-use Rattle.plain_state.specs.declared.slot.Kind.TheVariants.{Strong, Weak}
+use Rattle.plain_state.specs.declared.slot.Kind.TheVariants.{Strong, Weak, Disposal}
 use Rattle.plain_state.specs.declared.slot.SlotId.{SlotId}
 use Rattle.plain_store.specs.declared.store.Store.{Store}
 use Rattle.plain_state.specs.Lists.{Entry, is_entry, entry_times, Loses}
@@ -14,7 +14,7 @@ use Rattle.plain_state.specs.References.{held_in, strong_refs, weak_refs}
 use Rattle.plain_store.specs.Stores.{plain_of, Tallied, Kept}
 use Rattle.plain_store.specs.Settling.{IsSurplus}
 use Rattle.plain_store.specs.Draining.{SettlesFreely, IsCalm, fewer, AllNeeded}
-use Rattle.plain_state.proofs.Kit.{slot_is, cases_slot, held_other, entry_in, entry_self, entry_none, entry_loses}
+use Rattle.plain_state.proofs.Kit.{none_or_some, slot_is, held_other, entry_in, entry_self, entry_is, entry_none, entry_loses}
 use Rattle.plain_state.proofs.Changes.{seat_part}
 use Rattle.plain_state.proofs.SeatRows.{is_there}
 use Rattle.plain_store.proofs.Losing.{loses_at}
@@ -26,8 +26,13 @@ counts_entry : (k : Kind) (s : SlotId) (e : Entry) → (if is_entry k s e then 1
 unfolding held_in
 counts_entry Strong s (Strong, x) = refl
 counts_entry Strong s (Weak, x) = refl
+counts_entry Strong s (Disposal, x) = refl
 counts_entry Weak s (Strong, x) = refl
 counts_entry Weak s (Weak, x) = refl
+counts_entry Weak s (Disposal, x) = refl
+counts_entry Disposal s (Strong, x) = refl
+counts_entry Disposal s (Weak, x) = refl
+counts_entry Disposal s (Disposal, x) = refl
 
 -- 1 where e is (k, s)
 abbrev one_at : Kind → SlotId → Entry → ℕ
@@ -67,6 +72,7 @@ entry_part j t es i = sum_by-take-le (λ (f : Entry). if is_entry j t f then 1 e
 -- of an entry of another kind or slot there is none in e
 pub other_refs : (k : Kind) (x : SlotId) (p q : Plain) (s : SlotId) → s.0 ≢ x.0 → LosesRef k x p q s → SameRefs p q s
 other_refs Strong x p q s ne l = let o = held_other s x (λ r. ne (sym r)) in let a = l.0 in let b = l.1 in (omega arith, omega arith)
+other_refs Disposal x p q s ne l = let a = l.0 in let b = l.1 in (omega arith, omega arith)
 other_refs Weak x p q s ne l = let o = held_other s x (λ r. ne (sym r)) in let a = l.0 in let b = l.1 in (omega arith, omega arith)
 
 -- a slot with references is there, and is counted
@@ -92,6 +98,7 @@ deferred_weak h s some = let part = seat_part (plain_of h) 0 s (lit< tt) in omeg
 deferred_there : (h : Store) (k : Kind) (s : SlotId) → Kept h → 0 < entry_times k s h.deferred.items → s.0 < length h.slots.items
 deferred_there h Strong s kept some = (strong_counted h s kept (deferred_strong h s some)).0
 deferred_there h Weak s kept some = (weak_counted h s kept (deferred_weak h s some)).0
+deferred_there h Disposal s kept some = absurd (omega (arith, kept.disposals.deferred s))
 
 module _ (h : Store) (at : ℕ) (e : Entry) (kept : Kept h) (lt : at < length h.deferred.items) (is : get_or h.deferred.items at e ≡ e) where
   abbrev left : List Entry
@@ -149,32 +156,16 @@ swap_length es at e lt =
 pub one_more_needed : (es snapshots : List Entry) (i : ℕ) (e : Entry) → i < length es → get_or es i e ≡ e
     → AllNeeded (take i es) snapshots → entry_times e.0 e.1 (take i es) < entry_times e.0 e.1 snapshots
     → AllNeeded (take (i + 1) es) snapshots
-one_more_needed es snapshots i (k, x) lt is needed under j t = by_kind k j lt is under
-  where
-    same_kind_more : (m : Kind) → i < length es → get_or es i (m, x) ≡ (m, x) → entry_times m x (take i es) < entry_times m x snapshots
-        → entry_in m x (m, x) ≡ 1 → entry_times m x (take (i + 1) es) ≤ entry_times m x snapshots
-    same_kind_more m lt is under o = let a = entry_more m x es i (m, x) lt is in omega arith
-
-    no_more : (m n : Kind) → i < length es → get_or es i (m, x) ≡ (m, x) → entry_in n t (m, x) ≡ 0
-        → entry_times n t (take (i + 1) es) ≤ entry_times n t snapshots
-    no_more m n lt is z = let a = entry_more n t es i (m, x) lt is in let b = needed n t in omega arith
-
-    by_kind : (m n : Kind) → i < length es → get_or es i (m, x) ≡ (m, x) → entry_times m x (take i es) < entry_times m x snapshots
-        → entry_times n t (take (i + 1) es) ≤ entry_times n t snapshots
-    by_kind Strong Weak lt is under = no_more Strong Weak lt is refl
-    by_kind Weak Strong lt is under = no_more Weak Strong lt is refl
-    by_kind Strong Strong lt is under =
-        ⊎_elim
-        (λ (q : t ≡ x). subst (λ (u : SlotId). entry_times Strong u (take (i + 1) es) ≤ entry_times Strong u snapshots) (sym q)
-        (same_kind_more Strong lt is under (entry_self Strong x)))
-        (λ (ne : t.0 ≢ x.0). no_more Strong Strong lt is (held_other t x (λ r. ne (sym r))))
-        (cases_slot t x)
-    by_kind Weak Weak lt is under =
-        ⊎_elim
-        (λ (q : t ≡ x). subst (λ (u : SlotId). entry_times Weak u (take (i + 1) es) ≤ entry_times Weak u snapshots) (sym q)
-        (same_kind_more Weak lt is under (entry_self Weak x)))
-        (λ (ne : t.0 ≢ x.0). no_more Weak Weak lt is (held_other t x (λ r. ne (sym r))))
-        (cases_slot t x)
+one_more_needed es snapshots i e lt is needed under j t =
+    let a = entry_more j t es i e lt is in
+    ⊎_elim
+    (λ (z : entry_in j t e ≡ 0). let b = needed j t in omega arith)
+    (λ (some : 0 < entry_in j t e).
+    let same = entry_is j t e some in
+    let one = subst (λ (f : Entry). entry_in j t f ≡ 1) (sym same) (entry_self j t) in
+    let b : entry_times j t (take i es) < entry_times j t snapshots = subst (λ (f : Entry). entry_times f.0 f.1 (take i es) < entry_times f.0 f.1 snapshots) same under in
+    omega arith)
+    (none_or_some (entry_in j t e))
 
 -- an entry of which as many stay already as there are snapshots is a surplus
 pub is_surplus : (es snapshots : List Entry) (i : ℕ) (e : Entry) → i < length es → get_or es i e ≡ e

@@ -70,7 +70,7 @@ module _ (h : Store) (x : SlotId) (rest : List SlotId) (kept : Kept h) (dying : 
   after_destroy = destroyed h.cells.items h.weak_cells.items x (seat_of h) rest h.slots.items
 
   pub destroy_settles : Destroys (plain_of h) (slot_at (plain_of h) x).payload after_destroy
-  destroy_settles = destroyed_settles h.cells.items h.weak_cells.items x (seat_of h) rest h.slots.items (refl, listed) loses dying_there
+  destroy_settles = destroyed_settles h.cells.items h.weak_cells.items x (seat_of h) rest h.slots.items (refl, listed, kept.disposals.snapshots x) loses dying_there
 
   pub destroy_tallied : Tallied after_destroy h.strong.items (fewer Weak Weak x.0 h.weak.items)
   destroy_tallied = tallied_less Weak x (plain_of h) after_destroy h.strong.items h.weak.items kept.tallied dying_there

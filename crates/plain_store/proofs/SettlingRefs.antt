@@ -3,7 +3,7 @@ use Rattle.std.proofs.Common.{◌≡◌, ◌≢◌, ⊎_elim, ℕ, ◌+◌, ◌-
 use Rattle.std.specs.Prelude.{slice_set, slice_index}
 use Rattle.std.proofs.lemmas.List.{length-set, get_or-set_same, get_or-set_other}
 use Rattle.plain_state.specs.declared.slot.Kind.{Kind}
-use Rattle.plain_state.specs.declared.slot.Kind.TheVariants.{Strong, Weak}
+use Rattle.plain_state.specs.declared.slot.Kind.TheVariants.{Strong, Weak, Disposal}
 use Rattle.plain_state.specs.declared.slot.SlotId.{SlotId}
 use Rattle.plain_state.specs.declared.slot.PlainSlot.{PlainSlot}
 use Rattle.plain_state.specs.declared.slot.Stage.TheVariants.{Live, Ended, Husk}
@@ -53,6 +53,8 @@ tallied_less Weak x p q ss ws t at size less = record {
   strong = λ s lt. t.strong s (omega (arith, size)) ∙ sym (let l = (less s).0 in omega arith);
   weak = λ s lt. one_less ws (weak_refs p) (weak_refs q) x (omega (arith, t.weak_size)) (λ y h. t.weak y (omega (arith, t.weak_size))) (λ y. (less y).1) s (omega (arith, t.weak_size, size, length-set ws x.0 (slice_index ws x.0 - 1)));
 }
+tallied_less Disposal x p q ss ws t at size less =
+    tallied_same p q ss ws t size (λ s. (let l = (less s).0 in let m = (less s).1 in (omega arith, omega arith)))
 
 -- a slot of the same stage with as many references is as calm as before
 pub calm_same : (p q : Plain) (s : SlotId) → stage_at q s ≡ stage_at p s → SameRefs p q s → IsCalm p s → IsCalm q s

@@ -5,7 +5,7 @@ use Rattle.std.proofs.lemmas.List.{get_or-set_same, set-set}
 use Rattle.plain_state.specs.declared.act.EventPlace.TheVariants.{Field, WeakField}
 use Rattle.plain_state.specs.declared.act.PlainAct.TheVariants as act
 use Rattle.plain_state.specs.declared.slot.Kind.{Kind}
-use Rattle.plain_state.specs.declared.slot.Kind.TheVariants.{Strong, Weak}
+use Rattle.plain_state.specs.declared.slot.Kind.TheVariants.{Strong, Weak, Disposal}
 use Rattle.plain_state.specs.declared.slot.SlotId.{SlotId}
 use Rattle.plain_state.specs.declared.slot.PlainSlot.{PlainSlot}
 use Rattle.plain_state.specs.declared.slot.Stage.TheVariants.{Live, Husk}
@@ -16,11 +16,11 @@ use Rattle.plain_state.specs.Lawful.{IsCovered}
 use Rattle.plain_state.specs.Steps.{word_of, joined, IsReordering, Does}
 use Rattle.plain_store.specs.Settling.{IsSurplus}
 use Rattle.plain_store.specs.Draining.{SettlesFreely, Destroys, husk_of, ended_of, freed_of}
-use Rattle.plain_state.proofs.Kit.{cases_slot, held_self, held_other, entry_in, entry_loses}
+use Rattle.plain_state.proofs.Kit.{cases_slot, entry_in, entry_self, entry_other, entry_loses}
 
 -- a state of one seat
 abbrev pub one : PlainSeat → List (Option SlotId) → List (Option SlotId) → List PlainSlot → Plain
-one v cs ws xs = record { seats = v ∷ []; cells = cs; weak_cells = ws; slots = xs }
+one v cs ws xs = record { seats = v ∷ []; cells = cs; weak_cells = ws; slots = xs; tickets = 0 }
 
 module _ (v : PlainSeat) (cs ws : List (Option SlotId)) (here : v.left ≡ false) where
   -- an object ends
@@ -52,23 +52,28 @@ covered_number : (places snaps defs defs' k : ℕ) → (0 < snaps → 0 < places
 covered_number places snaps defs defs' k covered e cases h =
     ⊎_elim (λ (z : k ≡ 0). let c = covered h in omega arith) (λ (le : snaps ≤ defs'). omega arith) cases
 
+surplus_self : (k : Kind) (s t : SlotId) (snapshots deferred fs : List Entry) → Loses deferred (k, s) fs
+    → entry_times k s snapshots < entry_times k s deferred
+    → (entry_in k t (k, s) ≡ 0) ⊎ (entry_times k t snapshots ≤ entry_times k t fs)
+surplus_self k s t snapshots deferred fs l h =
+    ⊎_elim
+    (λ (e : t ≡ s). inr (subst (λ (u : SlotId). entry_times k u snapshots ≤ entry_times k u fs) (sym e)
+    (let a = entry_loses k s (k, s) deferred fs l in let o = entry_self k s in omega arith)))
+    (λ (ne : t.0 ≢ s.0). inl (entry_other k t (k, s) (λ q. ne (sym q))))
+    (cases_slot t s)
+
 surplus_or_other : (k j : Kind) (s t : SlotId) (snapshots deferred fs : List Entry) → Loses deferred (k, s) fs
     → entry_times k s snapshots < entry_times k s deferred
     → (entry_in j t (k, s) ≡ 0) ⊎ (entry_times j t snapshots ≤ entry_times j t fs)
+surplus_or_other Strong Strong s t snapshots deferred fs l h = surplus_self Strong s t snapshots deferred fs l h
 surplus_or_other Strong Weak s t snapshots deferred fs l h = inl refl
+surplus_or_other Strong Disposal s t snapshots deferred fs l h = inl refl
 surplus_or_other Weak Strong s t snapshots deferred fs l h = inl refl
-surplus_or_other Strong Strong s t snapshots deferred fs l h =
-    ⊎_elim
-    (λ (e : t ≡ s). inr (subst (λ (u : SlotId). entry_times Strong u snapshots ≤ entry_times Strong u fs) (sym e)
-    (let a = entry_loses Strong s (Strong, s) deferred fs l in let o = held_self s in omega arith)))
-    (λ (ne : t.0 ≢ s.0). inl (held_other t s (λ q. ne (sym q))))
-    (cases_slot t s)
-surplus_or_other Weak Weak s t snapshots deferred fs l h =
-    ⊎_elim
-    (λ (e : t ≡ s). inr (subst (λ (u : SlotId). entry_times Weak u snapshots ≤ entry_times Weak u fs) (sym e)
-    (let a = entry_loses Weak s (Weak, s) deferred fs l in let o = held_self s in omega arith)))
-    (λ (ne : t.0 ≢ s.0). inl (held_other t s (λ q. ne (sym q))))
-    (cases_slot t s)
+surplus_or_other Weak Weak s t snapshots deferred fs l h = surplus_self Weak s t snapshots deferred fs l h
+surplus_or_other Weak Disposal s t snapshots deferred fs l h = inl refl
+surplus_or_other Disposal Strong s t snapshots deferred fs l h = inl refl
+surplus_or_other Disposal Weak s t snapshots deferred fs l h = inl refl
+surplus_or_other Disposal Disposal s t snapshots deferred fs l h = surplus_self Disposal s t snapshots deferred fs l h
 
 module _ (v : PlainSeat) (cs ws : List (Option SlotId)) (xs : List PlainSlot) (here : v.left ≡ false) where
   abbrev pub takes : List Entry → Plain
@@ -97,6 +102,10 @@ module _ (v : PlainSeat) (cs ws : List (Option SlotId)) (xs : List PlainSlot) (h
       let a = one_sum (λ (w : PlainSeat). entry_times Weak t w.snapshots) (record v { deferred = fs }) in
       let b = one_sum (λ (w : PlainSeat). entry_times Weak t w.deferred) (record v { deferred = fs }) in omega arith))
       (surplus_or_other k Weak s t v.snapshots v.deferred fs l more)) h
+  covered_after k s fs covered l more Disposal t h =
+      let a = one_sum (λ (w : PlainSeat). entry_times Disposal t w.snapshots) v in
+      let b = one_sum (λ (w : PlainSeat). entry_times Disposal t w.snapshots) (record v { deferred = fs }) in
+      covered Disposal t (omega arith)
 
   -- the entry goes, and the others change their order
   pub takes_settles : (k : Kind) (s : SlotId) (fs es : List Entry) → IsCovered (one v cs ws xs) → Loses v.deferred (k, s) fs
@@ -117,7 +126,11 @@ module _ (v : PlainSeat) (cs ws : List (Option SlotId)) (xs : List PlainSlot) (h
 -- an object is destroyed: its three places are cleared in turn
 module _ (cs ws : List (Option SlotId)) (s : SlotId) where
   abbrev Dies : PlainSeat → Type 0
-  Dies v = (v.left ≡ false) × (0 < times s v.dying)
+  Dies v = (v.left ≡ false) × (0 < times s v.dying) × (entry_times Disposal s v.snapshots ≡ 0)
+
+  -- nobody is under a weak snapshot of it
+  undisposed : (v : PlainSeat) (ys : List PlainSlot) → entry_times Disposal s v.snapshots ≡ 0 → snapshot_times Disposal (one v cs ws ys) s ≡ 0
+  undisposed v ys none = one_sum (λ (w : PlainSeat). entry_times Disposal s w.snapshots) v ∙ none
 
   clear_first : (v : PlainSeat) (ys zs : List PlainSlot) (x : PlainSlot) → Dies v → get_or ys s.0 new_slot ≡ x
       → set ys s.0 (record x { first = None }) ≡ zs
@@ -126,7 +139,7 @@ module _ (cs ws : List (Option SlotId)) (s : SlotId) where
   clear_first v ys zs x dies e f = (
     (lit< tt, dies.0),
     (
-      (lit< tt, dies.1),
+      (lit< tt, (dies.1, undisposed v ys dies.2)),
       ap (λ (y : PlainSlot). word_of y.first) (sym e),
       sym (ap (λ (y : PlainSlot). one (record v { deferred = joined Strong y.first v.deferred }) cs ws (set ys s.0 (record y { first = None }))) e
           ∙ ap (λ (l : List PlainSlot). one (record v { deferred = joined Strong x.first v.deferred }) cs ws l) f),
@@ -140,7 +153,7 @@ module _ (cs ws : List (Option SlotId)) (s : SlotId) where
   clear_second v ys zs x dies e f = (
     (lit< tt, dies.0),
     (
-      (lit< tt, dies.1),
+      (lit< tt, (dies.1, undisposed v ys dies.2)),
       ap (λ (y : PlainSlot). word_of y.second) (sym e),
       sym (ap (λ (y : PlainSlot). one (record v { deferred = joined Strong y.second v.deferred }) cs ws (set ys s.0 (record y { second = None }))) e
           ∙ ap (λ (l : List PlainSlot). one (record v { deferred = joined Strong x.second v.deferred }) cs ws l) f),
@@ -154,7 +167,7 @@ module _ (cs ws : List (Option SlotId)) (s : SlotId) where
   clear_weak v ys zs x dies e f = (
     (lit< tt, dies.0),
     (
-      dies.1,
+      (dies.1, undisposed v ys dies.2),
       ap (λ (y : PlainSlot). word_of y.weak_field) (sym e),
       sym (ap (λ (y : PlainSlot). one (record v { deferred = joined Weak y.weak_field v.deferred }) cs ws (set ys s.0 (record y { weak_field = None }))) e
           ∙ ap (λ (l : List PlainSlot). one (record v { deferred = joined Weak x.weak_field v.deferred }) cs ws l) f),
@@ -164,13 +177,14 @@ module _ (cs ws : List (Option SlotId)) (s : SlotId) where
   abbrev nulled : PlainSlot → PlainSlot
   nulled x = record x { first = None; second = None; weak_field = None }
 
-  destroy_last : (v : PlainSeat) (ys zs : List PlainSlot) (x : PlainSlot) (rest : List SlotId) → v.left ≡ false → Loses v.dying s rest
+  destroy_last : (v : PlainSeat) (ys zs : List PlainSlot) (x : PlainSlot) (rest : List SlotId) → Dies v → Loses v.dying s rest
       → get_or ys s.0 new_slot ≡ nulled x → set ys s.0 (husk_of x) ≡ zs
       → Does (one v cs ws ys) 0 (act.Destroy s) 0 (one (record v { dying = rest }) cs ws zs)
-  destroy_last v ys zs x rest here l e f = (
-    (lit< tt, here),
+  destroy_last v ys zs x rest dies l e f = (
+    (lit< tt, dies.0),
     (
       (ap (λ (y : PlainSlot). y.first) e, ap (λ (y : PlainSlot). y.second) e, ap (λ (y : PlainSlot). y.weak_field) e),
+      undisposed v ys dies.2,
       refl,
       (
         rest,
@@ -226,7 +240,7 @@ module _ (cs ws : List (Option SlotId)) (s : SlotId) where
                 0,
                 0,
                 tt,
-                destroy_last v3 (set xs s.0 x3) (set xs s.0 (husk_of x)) x rest dies.0 l e3 (set-set xs s.0 x3 (husk_of x)),
+                destroy_last v3 (set xs s.0 x3) (set xs s.0 (husk_of x)) x rest dies l e3 (set-set xs s.0 x3 (husk_of x)),
                 (refl, refl),
                 (let e : weight (get_or (set xs s.0 x3) s.0 new_slot).payload ≡ weight x.payload = ap (λ (y : PlainSlot). weight y.payload) e3 in omega arith),
               ),

@@ -15,6 +15,7 @@ use Rattle.plain_store.specs.Stores.{plain_of, Tallied, Kept}
 use Rattle.plain_store.specs.Draining.{SettlesFreely, Destroys, IsCalm, if_object, if_live, per_object, per_live, ended_of, freed_of}
 use Rattle.plain_state.proofs.Kit.{slot_is, cases_slot, slots_set}
 use Rattle.plain_state.proofs.SeatRows.{is_there}
+use Rattle.plain_store.proofs.Disposals.{settles_disposals}
 use Rattle.plain_store.proofs.Settlings.{settles_sound}
 use Rattle.plain_store.proofs.SettlingSteps.{one, ends, gives}
 use Rattle.plain_store.proofs.SettlingRefs.{tallied_same, calm_same, calm_other, ends_refs, gives_refs}
@@ -33,6 +34,7 @@ pub kept_after : (h h' : Store) → Kept h → SettlesFreely (plain_of h) (plain
     → IsSameBook h h' → Kept h'
 kept_after h h' k settles tallied same = record {
   sound = (let by = settles (λ words. 0) in settles_sound (λ words. 0) by.0 (plain_of h) (plain_of h') 0 k.sound by.1);
+  disposals = (let by = settles (λ words. 0) in settles_disposals (λ words. 0) by.0 (plain_of h) (plain_of h') 0 k.disposals by.1);
   tallied = tallied;
   adds = omega (arith, same.adds, k.adds);
   slots = omega (arith, same.slots, k.slots);
@@ -43,6 +45,7 @@ pub kept_destroyed : (h h' : Store) (words : List ℕ) → Kept h → Destroys (
     → IsSameBook h h' → Kept h'
 kept_destroyed h h' words k destroys tallied same = record {
   sound = (let by = destroys (λ words. 0) in settles_sound (λ words. 0) by.0 (plain_of h) (plain_of h') 0 k.sound by.1);
+  disposals = (let by = destroys (λ words. 0) in settles_disposals (λ words. 0) by.0 (plain_of h) (plain_of h') 0 k.disposals by.1);
   tallied = tallied;
   adds = omega (arith, same.adds, k.adds);
   slots = omega (arith, same.slots, k.slots);

@@ -77,12 +77,12 @@ module _ (fits : List ℕ → Type 0) (weight : List ℕ → ℕ) (most : ℕ) (
   clear_keeps p q (Cell i) found so fit d = absurd d.1.0
   clear_keeps p q (WeakCell i) found so fit d = absurd d.1.0
   clear_keeps p q (Field s i) found so fit d =
-      let stage = dying_ended p 0 s so d.0.0 d.1.0.1 in
+      let stage = dying_ended p 0 s so d.0.0 d.1.0.1.0 in
       let x = slot_at p s in
       let same = field_object None x (i == 0) in
       same_object p q s (with_field i None x) fit (is_there p s (λ f. cc)) (ap (λ (r : Plain). r.slots) d.1.2) same.0 same.3
   clear_keeps p q (WeakField s) found so fit d =
-      let stage = dying_ended p 0 s so d.0.0 d.1.0 in
+      let stage = dying_ended p 0 s so d.0.0 d.1.0.0 in
       let y : PlainSlot = record (slot_at p s) { weak_field = None } in
       same_object p q s y fit (is_there p s (λ f. cc)) (ap (λ (r : Plain). r.slots) d.1.2) refl refl
 
@@ -107,6 +107,8 @@ module _ (fits : List ℕ → Type 0) (weight : List ℕ → ℕ) (most : ℕ) (
   step_keeps p q (act.See x i) found so fit may d = absurd may
   step_keeps p q (act.Leave j) found so fit may d = absurd may
   step_keeps p q act.Still found so fit may d = absurd may
+  step_keeps p q act.Ticket found so fit may d = absurd may
+  step_keeps p q (act.Alive j) found so fit may d = absurd may
   step_keeps p q act.Split found so fit may d =
       subst (λ (r : Plain). AllFit fits r × (0 + per_object most r ≤ per_object most p)) (sym d.1.1.2) (fit, omega arith)
   step_keeps p q (act.Clear place) found so fit may d = clear_keeps p q place found so fit d
@@ -119,7 +121,7 @@ module _ (fits : List ℕ → Type 0) (weight : List ℕ → ℕ) (most : ℕ) (
         (let a = worth_set most p q s y at e in let b = ap (if_object most) live in omega arith),
       )
   step_keeps p q (act.Destroy s) found so fit may d =
-      let gone = d.1.2 in
+      let gone = d.1.3 in
       let stage = dying_ended p 0 s so d.0.0 (times_lost s (seat_at p 0).dying gone.0 gone.1) in
       let y : PlainSlot = record (slot_at p s) { stage = Husk } in
       let at : s.0 < length p.slots = is_there p s (λ f. cc) in

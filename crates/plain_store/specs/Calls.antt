@@ -9,7 +9,7 @@ use Rattle.plain_store.specs.declared.place.PlainPlace.TheVariants as strong
 use Rattle.plain_store.specs.declared.place.PlainWeakPlace.{PlainWeakPlace}
 use Rattle.plain_store.specs.declared.place.PlainWeakPlace.TheVariants as weak
 use Rattle.plain_state.specs.declared.slot.Kind.{Kind}
-use Rattle.plain_state.specs.declared.slot.Kind.TheVariants.{Strong, Weak}
+use Rattle.plain_state.specs.declared.slot.Kind.TheVariants.{Strong, Weak, Disposal}
 use Rattle.plain_state.specs.declared.slot.SlotId.{SlotId}
 use Rattle.plain_state.specs.State.{Plain, PlainSeat, seat_at, slot_at, stage_at, with_seat}
 use Rattle.plain_state.specs.Lists.{times, entry_times}
@@ -70,6 +70,7 @@ abbrev pub MayGive : Kind → Option SlotId → PlainSeat → Type 0
 MayGive k None v = Unit {0}
 MayGive Strong (Some s) v = 0 < times s v.owned
 MayGive Weak (Some s) v = 0 < times s v.weaks
+MayGive Disposal (Some s) v = ⊥
 
 -- the seat gave up such a reference, if there is one
 abbrev pub HasGiven : Plain → Kind → Option SlotId → Plain → Type 0

@@ -58,9 +58,8 @@ AllNeeded entries snapshots = (k : Kind) (s : SlotId) → entry_times k s entrie
 -- the sums of kind k, where a reference of kind j to a slot is gone
 abbrev pub fewer : Kind → Kind → ℕ → List ℕ → List ℕ
 fewer Strong Strong at sums = slice_set sums at (slice_index sums at - 1)
-fewer Strong Weak at sums = sums
-fewer Weak Strong at sums = sums
 fewer Weak Weak at sums = slice_set sums at (slice_index sums at - 1)
+fewer k j at sums = sums
 
 -- what is left of an object that is destroyed
 abbrev pub husk_of : PlainSlot → PlainSlot

@@ -1,11 +1,12 @@
 -- What the calls of a plain heap ask and do, in words of the plain state of its one seat.
-use Rattle.std.specs.Prelude.{ℕ, false, ◌≡◌, ◌≢◌, ◌<◌, ◌≤◌, ◌+◌, ◌^◌, ◌⊎◌, List, [], ◌∷◌, ◌++◌, length, All}
+use Rattle.std.specs.Prelude.{ℕ, false, ◌≡◌, ◌≢◌, ◌<◌, ◌≤◌, ◌+◌, ◌^◌, ◌⊎◌, List, [], ◌∷◌, ◌++◌, length, All, None}
 use Rattle.plain_state.specs.declared.act.PlainAct.{PlainAct}
 use Rattle.plain_state.specs.declared.act.PlainAct.TheVariants as act
+use Rattle.plain_state.specs.declared.slot.Kind.TheVariants.{Disposal}
 use Rattle.plain_state.specs.declared.slot.SlotId.{SlotId}
 use Rattle.plain_state.specs.declared.slot.PlainSlot.{PlainSlot}
 use Rattle.plain_state.specs.declared.slot.Stage.TheVariants.{Free, Live, Ended}
-use Rattle.plain_state.specs.Lists.{times}
+use Rattle.plain_state.specs.Lists.{times, entry_times}
 use Rattle.plain_state.specs.Fits.{AllFit}
 use Rattle.plain_state.specs.State.{Plain, seat_at, slot_at, stage_at}
 use Rattle.plain_state.specs.Sound.{Sound, all_adds}
@@ -34,11 +35,19 @@ made_slot x payload = record x { stage = Live; marked = false; life = x.life + 1
 abbrev pub Makes : Plain → SlotId → List ℕ → Plain → Type 0
 Makes p s payload q = Runs p 0 (act.Claim s ∷ fills s 0 payload ++ act.Make s ∷ []) q
 
+-- seat 0 is under no weak snapshot, and none is deferred
+pub record NoDisposals (p : Plain) : Type 0 where
+  pub snapshots : (s : SlotId) → entry_times Disposal s (seat_at p 0).snapshots ≡ 0
+  pub deferred : (s : SlotId) → entry_times Disposal s (seat_at p 0).deferred ≡ 0
+
 -- what holds of every plain heap whose payloads are of a kind: it has one seat, and so few slots and adds that no
--- count reaches the zero flag of a word
+-- count reaches the zero flag of a word; no ticket was drawn, and between two calls the seat fills no slot
 pub record IsHeap (fits : List ℕ → Type 0) (p : Plain) : Type 0 where
   pub sound : Sound p
   pub seats : length p.seats ≡ 1
   pub slots : length p.slots ≤ 2 ^ 22
   pub adds : all_adds p + 1 < 2 ^ 63
   pub payloads : AllFit fits p
+  pub tickets : p.tickets ≡ 0
+  pub filling : (seat_at p 0).filling ≡ None
+  pub disposals : NoDisposals p

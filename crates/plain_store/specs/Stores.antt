@@ -5,6 +5,7 @@ use Rattle.plain_store.specs.declared.store.Store.{Store}
 use Rattle.plain_state.specs.State.{Plain}
 use Rattle.plain_state.specs.References.{strong_refs, weak_refs}
 use Rattle.plain_state.specs.Sound.{Sound}
+use Rattle.plain_store.specs.Heaps.{NoDisposals}
 
 -- the plain state of its one seat
 abbrev pub plain_of : Store → Plain
@@ -22,6 +23,7 @@ plain_of h = record {
   cells = h.cells.items;
   weak_cells = h.weak_cells.items;
   slots = h.slots.items;
+  tickets = 0;
 }
 
 -- two lists have the strong and the weak references to each slot
@@ -34,6 +36,7 @@ pub record Tallied (p : Plain) (strongs weaks : List ℕ) : Type 0 where
 -- what holds of a store between any two calls
 pub record Kept (h : Store) : Type 0 where
   pub sound : Sound (plain_of h)
+  pub disposals : NoDisposals (plain_of h)
   pub tallied : Tallied (plain_of h) h.strong.items h.weak.items
   -- so no count reaches the zero flag of its word
   pub adds : h.adds + 1 < 2 ^ 63

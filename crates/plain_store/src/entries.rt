@@ -10,8 +10,12 @@ pub fn is_of(entry: &(Kind, SlotId), kind: Kind, slot: SlotId) -> bool
     ensures { result ≡ is_entry kind slot entry.now }
 {
     match (kind, entry.0) {
-        (Kind::Strong, Kind::Strong) | (Kind::Weak, Kind::Weak) => entry.1.0 == slot.0,
-        (Kind::Strong, Kind::Weak) | (Kind::Weak, Kind::Strong) => false,
+        (Kind::Strong, Kind::Strong)
+        | (Kind::Weak, Kind::Weak)
+        | (Kind::Disposal, Kind::Disposal) => entry.1.0 == slot.0,
+        (Kind::Strong, Kind::Weak | Kind::Disposal)
+        | (Kind::Weak, Kind::Strong | Kind::Disposal)
+        | (Kind::Disposal, Kind::Strong | Kind::Weak) => false,
     }
 }
 

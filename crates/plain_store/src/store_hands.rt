@@ -19,15 +19,15 @@ use plain_state::{PlainSlot, SlotId, Stage, ZERO};
 /// So many adds are counted: no count of references reaches the zero flag of its word.
 const MOST_ADDS: u64 = ZERO - 2;
 
-/// The first free slot from `from` on.
-fn free_from(slots: &[PlainSlot], from: usize) -> Option<usize>
-    requires { from ≤ length slots.now }
+/// The first free slot from `from` on and before `to`.
+fn free_between(slots: &[PlainSlot], from: usize, to: usize) -> Option<usize>
+    requires { (from ≤ to) × (to ≤ length slots.now) }
     ensures found { IfSome result (λ i. (i < length slots.now)
         × ((slice_index_or slots.now i new_slot).stage ≡ Free)) }
-    ensures none { IfNone result ((i : ℕ) → from ≤ i → i < length slots.now
+    ensures none { IfNone result ((i : ℕ) → from ≤ i → i < to
         → (slice_index_or slots.now i new_slot).stage ≢ Free) }
 {
-    for i in from..slots.len() {
+    for i in from..to {
         if slots[i].stage == Stage::Free {
             return Some(i);
         }
@@ -79,14 +79,17 @@ fn made_from(slots: &Vec<PlainSlot>, slot: SlotId, payload: &[u64; 16]) -> Optio
 }
 
 impl Store {
-    /// A free slot: the next one from where the last was found, going round. None where there is none.
+    /// A free slot: the next one from where the last was found, going round once. None where there is none.
     fn free_slot(&self) -> Option<usize>
         requires { Kept self.now }
         ensures found { IfSome result (λ i. (i < length self.now.slots.items)
             × ((slice_index_or self.now.slots.items i new_slot).stage ≡ Free)) }
         ensures none { IfNone result (NoneFree (plain_of self.now)) }
     {
-        free_from(&self.slots, self.next).or_else(|| free_from(&self.slots, 0))
+        match free_between(&self.slots, self.next, self.slots.len()) {
+            Some(at) => Some(at),
+            None => free_between(&self.slots, 0, self.next),
+        }
     }
 
     /// The adds after one more.

@@ -9,7 +9,7 @@ ghost use Rattle.plain_store.specs.Stores.{plain_of, Kept};
 use crate::store::Store;
 use crate::tally::count_of;
 use out_of_memory::OutOfMemory;
-use plain_state::{PlainSlot, SlotId, SlotImage, Stage, ZERO};
+use plain_state::{PlainSlot, SlotId, SlotImage, ZERO};
 use std::alloc::Global;
 
 /// The word of a place.
@@ -35,11 +35,7 @@ fn slot_words(slot: &PlainSlot, strong: u64, weak: u64) -> SlotImage
 {
     SlotImage {
         strong: if slot.marked { ZERO } else { strong },
-        weak: if slot.stage == Stage::Free {
-            ZERO
-        } else {
-            weak
-        },
+        weak,
         fields: [word(slot.first), word(slot.second)],
         weak_field: word(slot.weak_field),
         payload: slot.payload,

@@ -114,6 +114,7 @@ impl Store {
             Some(slot) => match kind {
                 Kind::Strong => take_one(&mut self.owned, slot),
                 Kind::Weak => take_one(&mut self.weaks, slot),
+                Kind::Disposal => {}
             },
         }
     }

@@ -38,6 +38,7 @@ fn count_one_less(strong: &mut Vec<u64>, weak: &mut Vec<u64>, kind: Kind, slot: 
     match kind {
         Kind::Strong => count_less(strong, slot),
         Kind::Weak => count_less(weak, slot),
+        Kind::Disposal => {}
     }
 }
 

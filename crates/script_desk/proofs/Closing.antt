@@ -12,7 +12,7 @@ use Rattle.plain_state.proofs.Kit.{held_self, times_none, times_cons, entry_none
 use Rattle.script_desk.specs.declared.handle.Handle.{Handle}
 use Rattle.script_desk.specs.declared.handle.Handle.TheVariants.{Strong, Weak, Snapshot}
 use Rattle.script_desk.specs.Desks.{Names, Maker, without_handles}
-use Rattle.script_desk.specs.Holding.{owned_by, weakly_owned_by, announced_by, HoldsFor, HasHandle, Kept, giving}
+use Rattle.script_desk.specs.Holding.{owned_by, weakly_owned_by, announced_by, not_strong, HoldsFor, HasHandle, Kept, giving}
 use Rattle.script_desk.proofs.Gaining.{gives_fewer}
 
 -- p with the three lists of v for its seat's
@@ -24,10 +24,11 @@ none_owned : (xs : List SlotId) → ((s : SlotId) → times s xs ≡ 0) → xs �
 none_owned [] h = refl
 none_owned (x ∷ xs) h = absurd (omega (arith, h x, times_cons x x xs, held_self x))
 
-none_announced : (es : List Entry) → ((s : SlotId) → entry_times kind.Strong s es ≡ 0) → ((s : SlotId) → entry_times kind.Weak s es ≡ 0) → es ≡ []
+none_announced : (es : List Entry) → ((s : SlotId) → entry_times kind.Strong s es ≡ 0) → ((s : SlotId) → not_strong s es ≡ 0) → es ≡ []
 none_announced [] h g = refl
 none_announced ((kind.Strong, s) ∷ es) h g = absurd (omega (arith, h s, entry_cons kind.Strong s (kind.Strong, s) es, held_self s))
 none_announced ((kind.Weak, s) ∷ es) h g = absurd (omega (arith, g s, entry_cons kind.Weak s (kind.Weak, s) es, held_self s))
+none_announced ((kind.Disposal, s) ∷ es) h g = absurd (omega (arith, g s, entry_cons kind.Disposal s (kind.Disposal, s) es, held_self s))
 
 -- at first
 pub hands_first : (p : Plain) → p ≡ with_hands p (seat_at p 0)
@@ -88,7 +89,7 @@ holds_none slots cells weak_cells = record {
   owned = λ s. times_none s;
   weaks = λ s. times_none s;
   snapshots = λ s. entry_none kind.Strong s;
-  weak_snapshots = λ s. entry_none kind.Weak s;
+  weak_snapshots = λ s. omega (arith, entry_none kind.Weak s, entry_none kind.Disposal s);
 }
 
 pub kept_open : (slots cells weak_cells : ℕ) (p : Plain) (names : Names) (made : List Maker) → p ≡ empty 1 slots cells weak_cells → names ≡ []

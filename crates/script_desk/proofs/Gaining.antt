@@ -17,7 +17,7 @@ use Rattle.plain_store.specs.declared.place.PlainPlace.{PlainPlace}
 use Rattle.plain_store.specs.declared.place.PlainPlace.TheVariants as strong
 use Rattle.script_desk.specs.declared.handle.Handle.{Handle}
 use Rattle.script_desk.specs.declared.handle.Handle.TheVariants.{Strong, Weak, Snapshot}
-use Rattle.script_desk.specs.Holding.{owned_by, weakly_owned_by, announced_by, SameSizes, HasMore, HasSame, giving}
+use Rattle.script_desk.specs.Holding.{owned_by, weakly_owned_by, announced_by, not_strong, SameSizes, HasMore, HasSame, giving}
 use Rattle.script_desk.proofs.Grows.{same_sizes, seat_written, written, placed, placed_same_sizes, has_lists}
 use Rattle.script_desk.proofs.Steps.{slot_written, slot_alone}
 
@@ -27,14 +27,14 @@ module _ (p q : Plain) (w : PlainSeat) (sizes : SameSizes p q) (is : seat_at q 0
       → ((s : SlotId) → times s w.owned ≡ times s (seat_at p 0).owned + owned_by s h)
       → ((s : SlotId) → times s w.weaks ≡ times s (seat_at p 0).weaks + weakly_owned_by s h)
       → ((s : SlotId) → entry_times kind.Strong s w.snapshots ≡ entry_times kind.Strong s (seat_at p 0).snapshots + announced_by s h)
-      → ((s : SlotId) → entry_times kind.Weak s w.snapshots ≡ entry_times kind.Weak s (seat_at p 0).snapshots)
+      → ((s : SlotId) → not_strong s w.snapshots ≡ not_strong s (seat_at p 0).snapshots)
       → HasMore p h q
   has_more h owned weaks snapshots weak_snapshots = record {
     sizes = sizes;
     owned = λ s. ap (λ (v : PlainSeat). times s v.owned) is ∙ owned s;
     weaks = λ s. ap (λ (v : PlainSeat). times s v.weaks) is ∙ weaks s;
     snapshots = λ s. ap (λ (v : PlainSeat). entry_times kind.Strong s v.snapshots) is ∙ snapshots s;
-    weak_snapshots = λ s. ap (λ (v : PlainSeat). entry_times kind.Weak s v.snapshots) is ∙ weak_snapshots s;
+    weak_snapshots = λ s. ap (λ (v : PlainSeat). not_strong s v.snapshots) is ∙ weak_snapshots s;
   }
 
   -- or a handle fewer
@@ -42,14 +42,14 @@ module _ (p q : Plain) (w : PlainSeat) (sizes : SameSizes p q) (is : seat_at q 0
       → ((s : SlotId) → times s w.owned + owned_by s h ≡ times s (seat_at p 0).owned)
       → ((s : SlotId) → times s w.weaks + weakly_owned_by s h ≡ times s (seat_at p 0).weaks)
       → ((s : SlotId) → entry_times kind.Strong s w.snapshots + announced_by s h ≡ entry_times kind.Strong s (seat_at p 0).snapshots)
-      → ((s : SlotId) → entry_times kind.Weak s w.snapshots ≡ entry_times kind.Weak s (seat_at p 0).snapshots)
+      → ((s : SlotId) → not_strong s w.snapshots ≡ not_strong s (seat_at p 0).snapshots)
       → HasMore q h p
   has_fewer h owned weaks snapshots weak_snapshots = record {
     sizes = record { slots = sym sizes.slots; cells = sym sizes.cells; weak_cells = sym sizes.weak_cells };
     owned = λ s. let a = ap (λ (v : PlainSeat). times s v.owned) is in omega (arith, owned s);
     weaks = λ s. let a = ap (λ (v : PlainSeat). times s v.weaks) is in omega (arith, weaks s);
     snapshots = λ s. let a = ap (λ (v : PlainSeat). entry_times kind.Strong s v.snapshots) is in omega (arith, snapshots s);
-    weak_snapshots = λ s. let a = ap (λ (v : PlainSeat). entry_times kind.Weak s v.snapshots) is in omega (arith, weak_snapshots s);
+    weak_snapshots = λ s. let a = ap (λ (v : PlainSeat). not_strong s v.snapshots) is in omega (arith, weak_snapshots s);
   }
 
 -- one owned reference more, for a strong handle or a counted snapshot
@@ -60,7 +60,7 @@ owned_more p q w s sizes is owned weaks snapshots =
     let o = λ (t : SlotId). ap (times t) owned ∙ times_push t s (seat_at p 0).owned in
     let u : (t : SlotId) → times t w.weaks ≡ times t (seat_at p 0).weaks + 0 = λ t. let a = ap (times t) weaks in omega arith in
     let n : (t : SlotId) → entry_times kind.Strong t w.snapshots ≡ entry_times kind.Strong t (seat_at p 0).snapshots + 0 = λ t. let a = ap (entry_times kind.Strong t) snapshots in omega arith in
-    let m = λ (t : SlotId). ap (entry_times kind.Weak t) snapshots in
+    let m = λ (t : SlotId). ap (not_strong t) snapshots in
     (has_more p q w sizes is (Strong s) o u n m, has_more p q w sizes is (Snapshot (s, true)) o u n m)
 
 owned_fewer : (p q : Plain) (w : PlainSeat) (s : SlotId) → SameSizes p q → seat_at q 0 ≡ w
@@ -70,7 +70,7 @@ owned_fewer p q w s sizes is owned weaks snapshots =
     let o = λ (t : SlotId). times_loses t s (seat_at p 0).owned w.owned owned in
     let u : (t : SlotId) → times t w.weaks + 0 ≡ times t (seat_at p 0).weaks = λ t. let a = ap (times t) weaks in omega arith in
     let n : (t : SlotId) → entry_times kind.Strong t w.snapshots + 0 ≡ entry_times kind.Strong t (seat_at p 0).snapshots = λ t. let a = ap (entry_times kind.Strong t) snapshots in omega arith in
-    let m = λ (t : SlotId). ap (entry_times kind.Weak t) snapshots in
+    let m = λ (t : SlotId). ap (not_strong t) snapshots in
     (has_fewer p q w sizes is (Strong s) o u n m, has_fewer p q w sizes is (Snapshot (s, true)) o u n m)
 
 -- one weak reference more
@@ -82,7 +82,7 @@ weaks_more p q w s sizes is owned weaks snapshots =
     (λ t. let a = ap (times t) owned in omega arith)
     (λ t. ap (times t) weaks ∙ times_push t s (seat_at p 0).weaks)
     (λ t. let a = ap (entry_times kind.Strong t) snapshots in omega arith)
-    (λ t. ap (entry_times kind.Weak t) snapshots)
+    (λ t. ap (not_strong t) snapshots)
 
 weaks_fewer : (p q : Plain) (w : PlainSeat) (s : SlotId) → SameSizes p q → seat_at q 0 ≡ w
     → w.owned ≡ (seat_at p 0).owned → Loses (seat_at p 0).weaks s w.weaks → w.snapshots ≡ (seat_at p 0).snapshots
@@ -92,7 +92,7 @@ weaks_fewer p q w s sizes is owned weaks snapshots =
     (λ t. let a = ap (times t) owned in omega arith)
     (λ t. times_loses t s (seat_at p 0).weaks w.weaks weaks)
     (λ t. let a = ap (entry_times kind.Strong t) snapshots in omega arith)
-    (λ t. ap (entry_times kind.Weak t) snapshots)
+    (λ t. ap (not_strong t) snapshots)
 
 -- ---- the calls that give a handle
 
@@ -129,7 +129,7 @@ snaps_more p q place s false strong (room, holds, e, d) =
     let w : PlainSeat = with_snapshot p kind.Strong s in
     let is : q ≡ with_seat p 0 w = e ∙ ap (λ (k : Kind). with_seat p 0 (with_snapshot p k s)) strong in
     has_more p q w (same_sizes p q w is) (written p q w d.0.0 is) (Snapshot (s, false))
-    (λ t. omega arith) (λ t. omega arith) (pushed kind.Strong) (λ t. let a = pushed kind.Weak t in omega arith)
+    (λ t. omega arith) (λ t. omega arith) (pushed kind.Strong) (λ t. let a = pushed kind.Weak t in let b = pushed kind.Disposal t in omega arith)
 
 more_after : (p m q : Plain) (h : Handle) → HasSame p m → HasMore m h q → HasMore p h q
 more_after p m q h a b = record {
@@ -162,7 +162,7 @@ fills_more m q s i (word ∷ words) (x, found, (here, (blank, filling, few, z, e
     more_after m x q (Strong s) (slot_alone m x s _ e) (fills_more x q s (i + 1) words r)
 
 pub makes_more : (p q : Plain) (s : SlotId) (words : List ℕ) → Makes p s words q → HasMore p (Strong s) q
-makes_more p q s words (x, found, (here, (there, free, z, e)), r) =
+makes_more p q s words (x, found, (here, (there, free, empty, z, e)), r) =
     more_after p x q (Strong s)
     (slot_written p x (record (seat_at p 0) { filling = Some s }) s _ here.0 e refl refl refl)
     (fills_more x q s 0 words r)
@@ -180,14 +180,17 @@ gives_fewer p q (Snapshot (s, false)) (here, (es, l, z, e)) =
     let w : PlainSeat = record (seat_at p 0) { snapshots = es } in
     has_fewer p q w (same_sizes p q w e) (written p q w here.0 e) (Snapshot (s, false)) (λ t. omega arith) (λ t. omega arith)
     (λ t. entry_loses kind.Strong t (kind.Strong, s) (seat_at p 0).snapshots es l)
-    (λ t. let a = entry_loses kind.Weak t (kind.Strong, s) (seat_at p 0).snapshots es l in omega arith)
+    (λ t.
+    let a = entry_loses kind.Weak t (kind.Strong, s) (seat_at p 0).snapshots es l in
+    let b = entry_loses kind.Disposal t (kind.Strong, s) (seat_at p 0).snapshots es l in omega arith)
 
 -- ---- what is put into a place
 
--- the handle of a reference of this kind
+-- the handle of a reference of this kind; there is none of kind Disposal
 abbrev pub handle_of : Kind → SlotId → Handle
 handle_of kind.Strong s = Strong s
 handle_of kind.Weak s = Weak s
+handle_of kind.Disposal s = Weak s
 
 given_fewer : (k : Kind) (p q : Plain) (w x : PlainSeat) (s : SlotId) → GivesUp k (Some s) (seat_at p 0) w → SameSizes p q → seat_at q 0 ≡ x
     → x.owned ≡ w.owned → x.weaks ≡ w.weaks → x.snapshots ≡ w.snapshots → HasMore q (handle_of k s) p
@@ -197,6 +200,7 @@ given_fewer kind.Strong p q w x s (xs, l, e) sizes is owned weaks snapshots =
 given_fewer kind.Weak p q w x s (xs, l, e) sizes is owned weaks snapshots =
     weaks_fewer p q x s sizes is (owned ∙ ap (λ (v : PlainSeat). v.owned) e)
     (subst (Loses (seat_at p 0).weaks s) (sym (weaks ∙ ap (λ (v : PlainSeat). v.weaks) e)) l) (snapshots ∙ ap (λ (v : PlainSeat). v.snapshots) e)
+given_fewer kind.Disposal p q w x s g sizes is owned weaks snapshots = absurd g
 
 -- the seat after a replacement, whose other lists are those of w
 abbrev after_put : Plain → EventPlace → PlainSeat → PlainSeat

@@ -9,7 +9,7 @@ use Rattle.plain_state.specs.declared.slot.SlotId.{SlotId}
 use Rattle.plain_state.specs.Lists.{times, entry_times}
 use Rattle.plain_state.specs.Places.{with_content}
 use Rattle.plain_state.specs.State.{Plain, PlainSeat, new_seat, seat_at, with_seat}
-use Rattle.script_desk.specs.Holding.{SameSizes, HasSame}
+use Rattle.script_desk.specs.Holding.{not_strong, SameSizes, HasSame}
 
 -- seat 0 after a write
 pub seat_written : (p : Plain) (w : PlainSeat) → 0 < length p.seats → seat_at (with_seat p 0 w) 0 ≡ w
@@ -34,7 +34,7 @@ has_lists p q w sizes is owned weaks snapshots = record {
   owned = λ s. ap (λ (v : PlainSeat). times s v.owned) is ∙ ap (times s) owned;
   weaks = λ s. ap (λ (v : PlainSeat). times s v.weaks) is ∙ ap (times s) weaks;
   snapshots = λ s. ap (λ (v : PlainSeat). entry_times kind.Strong s v.snapshots) is ∙ ap (entry_times kind.Strong s) snapshots;
-  weak_snapshots = λ s. ap (λ (v : PlainSeat). entry_times kind.Weak s v.snapshots) is ∙ ap (entry_times kind.Weak s) snapshots;
+  weak_snapshots = λ s. ap (λ (v : PlainSeat). not_strong s v.snapshots) is ∙ ap (not_strong s) snapshots;
 }
 
 pub same_by : (p q : Plain) (w : PlainSeat) → 0 < length p.seats → q ≡ with_seat p 0 w

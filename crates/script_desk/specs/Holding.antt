@@ -6,7 +6,7 @@ use Rattle.plain_state.specs.declared.act.PlainAct.{PlainAct}
 use Rattle.plain_state.specs.declared.act.PlainAct.TheVariants as act
 use Rattle.plain_state.specs.declared.slot.Kind.TheVariants as kind
 use Rattle.plain_state.specs.declared.slot.SlotId.{SlotId}
-use Rattle.plain_state.specs.Lists.{times, entry_times}
+use Rattle.plain_state.specs.Lists.{Entry, times, entry_times}
 use Rattle.plain_state.specs.State.{Plain, seat_at}
 use Rattle.plain_state.specs.References.{held_in}
 use Rattle.plain_store.specs.Heaps.{Owns, OwnsWeakly}
@@ -36,13 +36,17 @@ announced_by s (Weak t) = 0
 announced_by s (Snapshot (t, true)) = 0
 announced_by s (Snapshot (t, false)) = held_in s (Some t)
 
+-- how often s stands in a list of entries that aren't strong
+abbrev pub not_strong : SlotId → List Entry → ℕ
+not_strong s es = entry_times kind.Weak s es + entry_times kind.Disposal s es
+
 -- the seat has for these handles what they need, and nothing else
 pub record HoldsFor (p : Plain) (handles : List Handle) : Type 0 where
   pub owned : (s : SlotId) → times s (seat_at p 0).owned ≡ sum_by (owned_by s) handles
   pub weaks : (s : SlotId) → times s (seat_at p 0).weaks ≡ sum_by (weakly_owned_by s) handles
   pub snapshots : (s : SlotId) →
       entry_times kind.Strong s (seat_at p 0).snapshots ≡ sum_by (announced_by s) handles
-  pub weak_snapshots : (s : SlotId) → entry_times kind.Weak s (seat_at p 0).snapshots ≡ 0
+  pub weak_snapshots : (s : SlotId) → not_strong s (seat_at p 0).snapshots ≡ 0
 
 -- the seat has the handle
 abbrev pub HasHandle : Plain → Handle → Type 0
@@ -73,8 +77,8 @@ pub record HasMore (p : Plain) (h : Handle) (q : Plain) : Type 0 where
       entry_times kind.Strong s (seat_at q 0).snapshots
       ≡ entry_times kind.Strong s (seat_at p 0).snapshots + announced_by s h
   pub weak_snapshots : (s : SlotId) →
-      entry_times kind.Weak s (seat_at q 0).snapshots
-      ≡ entry_times kind.Weak s (seat_at p 0).snapshots
+      not_strong s (seat_at q 0).snapshots
+      ≡ not_strong s (seat_at p 0).snapshots
 
 -- in q the seat has what it has in p
 pub record HasSame (p q : Plain) : Type 0 where
@@ -85,8 +89,8 @@ pub record HasSame (p q : Plain) : Type 0 where
       entry_times kind.Strong s (seat_at q 0).snapshots
       ≡ entry_times kind.Strong s (seat_at p 0).snapshots
   pub weak_snapshots : (s : SlotId) →
-      entry_times kind.Weak s (seat_at q 0).snapshots
-      ≡ entry_times kind.Weak s (seat_at p 0).snapshots
+      not_strong s (seat_at q 0).snapshots
+      ≡ not_strong s (seat_at p 0).snapshots
 
 -- whatever a handle counts for, the second list counts for the handle more
 abbrev pub CountsMore : List Handle → Handle → List Handle → Type 0
