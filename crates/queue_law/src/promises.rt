@@ -19,8 +19,8 @@ pub fn nothing_is_lost()
         → cell_at p u.head ≢ 0 → Conserved u p views }
 {}
 
-/// Where nothing is linked behind the head's slot and, in a doubly linked queue, no push is in flight, each item was popped
-/// as often as it was pushed.
+/// Where nothing is linked behind the head's slot and, in a doubly linked queue, no push is in flight, each item was
+/// popped as often as it was pushed.
 #[tactic(auto, using(crate::proofs::Empties::all_popped))]
 pub fn all_is_popped()
     ensures { (u : Ends) (p : Plain) (views : List View) → QueueLaw u p views
