@@ -1,7 +1,7 @@
 //! The table of events and the parts that threads run say the same.
 //!
-//! `core_events` says for itself what becomes of a counter word, what an announcement word is, and what a scan keeps
-//! and ejects, since the invariant is proved over its table. `sticky_count`, `announce_slots`, `eject_scan` and
+//! `core_events` says for itself what becomes of a counter word, what an announcement word is, what a scan keeps and
+//! ejects, and which dying slots it finds ripe, since the invariant is proved over its table. `sticky_count`, `announce_slots`, `eject_scan` and
 //! `retire_batch` say it again, of the code that threads run. Here it is a theorem that both say the same, for all
 //! numbers in range, so whoever calls these parts may cite the table. Each law is the clause of a function without a
 //! body.
@@ -15,4 +15,6 @@
 
 mod laws;
 
-pub use laws::{announcements_agree, counters_agree, ejection_agrees, flags_agree};
+pub use laws::{
+    announcements_agree, counters_agree, ejection_agrees, flags_agree, ripening_agrees,
+};
