@@ -1,20 +1,22 @@
 //! `cdrc_words` counts the words of a file, with an audit of the heap of its records before and after all handles are
-//! dropped; runs a script of pointer commands; and checks a list of atomic steps.
+//! dropped; runs a script of pointer commands; checks a list of atomic steps; and draws words to be counted.
 //!
 //! The work is `run`, a call over any source, sink and gate, which answers a status. Its contract says that with status
-//! 0 or 8 the bytes taken are the output that the file's content means, and of every other status but want of memory
-//! what caused it. It doesn't say that a run ends: the gate may wait. `main` hands it the words after the program's
-//! name, the host's files and standard output.
+//! 0 or 8 the bytes taken are the output that the words and the file's content mean, and of every other status but want
+//! of memory what caused it. It doesn't say that a run ends: the gate may wait. `main` hands it the words after the
+//! program's name, the host's files and standard output.
 //!
 //! ```text
 //! cdrc_words words FILE
 //! cdrc_words script FILE
 //! cdrc_words steps FILE
+//! cdrc_words gen SEED WORDS VOCABULARY
 //! ```
 #![tactic(auto)]
 
 mod command;
 mod counting;
+mod drawing;
 mod explain;
 mod limits;
 mod outcome;
@@ -24,6 +26,8 @@ mod report;
 mod run;
 #[cfg(test)]
 mod tests;
+#[cfg(test)]
+mod tests_drawing;
 mod work;
 
 use crate::explain::explain;
