@@ -30,31 +30,34 @@ mod tests;
 mod tests_drawing;
 mod work;
 
-use crate::explain::explain;
+use crate::explain::{exit_status, explain};
 use crate::run::run;
 use lane_gate::{HostFiles, HostSink, Open};
+use std::env;
+use std::io::ErrorKind;
 use std::process::ExitCode;
-use std::{env, io};
 
-/// The words after the program's name, or the status of a command line that can't be had: a word that isn't UTF-8 is
-/// no word of the grammar.
-fn command_line(rt: &HostRuntime) -> Result<Vec<String>, u8> {
+/// The words after the program's name.
+fn command_line(rt: &HostRuntime) -> Result<Vec<String>, ErrorKind> {
     match env::args(rt) {
-        Ok(arguments) => arguments.skip(1).collect(rt.alloc()).map_err(|_| 9),
-        Err(error) if error.kind() == io::ErrorKind::OutOfMemory => Err(9),
-        Err(_) => Err(2),
+        Ok(arguments) => arguments
+            .skip(1)
+            .collect(rt.alloc())
+            .map_err(|_| ErrorKind::OutOfMemory),
+        Err(error) => Err(error.kind()),
     }
 }
 
 fn main(rt: HostRuntime) -> ExitCode {
-    let status = match command_line(&rt) {
+    let outcome = match command_line(&rt) {
         Ok(words) => {
             let mut files = HostFiles::new(&rt);
             let mut sink = HostSink::new(&rt);
-            run(&rt, rt.alloc(), &words, &mut files, &mut sink, &Open).status
+            Ok(run(&rt, rt.alloc(), &words, &mut files, &mut sink, &Open).status)
         }
-        Err(status) => status,
+        Err(kind) => Err(kind),
     };
+    let status = exit_status(outcome);
     if status != 0 {
         let _ = rt.eprintln(explain(status));
     }

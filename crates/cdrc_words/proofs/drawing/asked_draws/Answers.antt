@@ -1,4 +1,4 @@
-use Rattle.std.proofs.Common.{◌≡◌, ℕ, List, ◌∷◌, codes, map, string_bytes, subst}
+use Rattle.std.proofs.Common.{◌≡◌, ℕ, List, map, string_bytes, subst}
 use Rattle.cdrc_words.specs.Commands.{IsDraws, operands_of}
 use Rattle.cdrc_words.proofs.drawing.asked_draws.Goals as goal
 

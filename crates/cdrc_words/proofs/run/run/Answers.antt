@@ -1,7 +1,7 @@
-use Rattle.std.proofs.Common.{◌≡◌, ◌⊎◌, inl, inr, ℕ, refl, List, IfSome, map, rules, string_bytes, subst, sym}
+use Rattle.std.proofs.Common.{◌≡◌, ◌⊎◌, inl, inr, ℕ, refl, List, IfSome, map, rules, string_bytes, subst}
 use Rattle.lane_gate.specs.Causes.{Stood}
 use Rattle.cdrc_words.specs.declared.command.Task.{Task as Work}
-use Rattle.cdrc_words.specs.Commands.{Asks, AsksTask}
+use Rattle.cdrc_words.specs.Commands.{AsksTask}
 use Rattle.cdrc_words.specs.Outcomes.{EndsWith, IsWithinLimits, TookPartOfOutput, text_of_draws}
 use Rattle.cdrc_words.specs.declared.drawing.Draws.{Draws as Drawing}
 use Rattle.cdrc_words.proofs.Asked.{one_asked, one_text}
