@@ -45,7 +45,7 @@ fn next_of(drawn: u64) -> u64
     ((MULTIPLIER * u128::from(drawn) + INCREMENT) % (1 << 64)) as u64
 }
 
-// Puts the word of a drawn number at the end. The lower bits of a drawn number come again soon, so its upper ones count.
+// Puts the word of a drawn number at the end. Its lower bits come again after few draws, so the upper ones count.
 fn push_drawn(text: &mut Vec<u8>, drawn: u64, vocabulary: u64) -> Result<(), OutOfMemory>
     requires { 1 ≤ vocabulary }
     ensures { OnOk result (text.new.items ≡ text.old.items ++ drawn_word vocabulary drawn) }

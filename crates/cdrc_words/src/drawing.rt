@@ -1,5 +1,5 @@
 //! The command that draws words.
-ghost use Rattle.std.specs.Prelude.{◌≡◌, ◌<◌, ◌≤◌, ◌^◌, ◌∷◌, [], ◌⊎◌, ℕ, List, IfErr, IfOk, IfSome, IsNone, OnOk, map, string_bytes, false};
+ghost use Rattle.std.specs.Prelude.{◌≡◌, ◌≤◌, ◌∷◌, [], ◌⊎◌, ℕ, List, IfErr, IfOk, IfSome, IsNone, OnOk, map, string_bytes, false};
 ghost use Rattle.lane_gate.specs.Causes.{Rose};
 ghost use Rattle.cdrc_words.specs.Commands.{AsksText, IsDraws, IsNumberWithin, operands_left, operands_of};
 ghost use Rattle.cdrc_words.specs.Outcomes.{EndsWith, TookAll, TookPart, text_of_draws};
@@ -125,7 +125,8 @@ fn write_words<K: Sink>(alloc: Global, draws: Draws, sink: &mut K) -> Result<boo
     requires least { 1 ≤ draws.vocabulary }
     requires most { draws.vocabulary ≤ 1000000 }
     ensures ok { IfOk result (λ refused. refused ≡ false) }
-    ensures all { OnOk result (TookAll (text_of_draws draws) (K.taken sink.old) (K.taken sink.new)) }
+    ensures all { OnOk result
+        (TookAll (text_of_draws draws) (K.taken sink.old) (K.taken sink.new)) }
     ensures write { result ≡ Err Refusal.Write → Rose (K.faults sink.old) (K.faults sink.new) }
     ensures part { result ≡ Err Refusal.Write →
         TookPart (text_of_draws draws) (K.taken sink.old) (K.taken sink.new) }
