@@ -56,7 +56,7 @@ module _ (u : Ends) (p q : Plain) (views : List View) (n : ℕ) (v : View) (h : 
   eyes_on = sees_on p q h h (length ts) (length ts) t t v.eyes (unchanged h) (omega arith)
       (omega arith) on (subst (λ (z : View). Sees p h (length ts) t z.eyes) at (law.known.sees n))
 
--- LINK
+-- LAND
 pub land_deed : (u : Ends) → Keeps (QueueLaw u) LandReady land_next
 land_deed u p q views n v step found lawful law is stays_on ready d =
     let r = ready in

@@ -33,3 +33,4 @@ pub mod Told
 pub mod Walks
 pub mod Shut
 pub mod Deeds
+pub mod Empties

@@ -3,7 +3,7 @@ use Rattle.std.specs.Prelude.{◌≡◌, ℕ, zero, suc, ◌+◌, ◌⊎◌, Lis
 use Rattle.plain_state.specs.State.{Plain}
 use Rattle.queue_law.specs.Words.{slot_at, cell_at}
 use Rattle.queue_law.specs.Views.{Double, Item, View, Taken, no_item, view_at}
-use Rattle.queue_law.specs.Chain.{Ends, HoldsItem}
+use Rattle.queue_law.specs.Chain.{Ends, Sent, HoldsItem}
 use Rattle.queue_law.specs.Notes.{HasFlight}
 use Rattle.queue_law.specs.Lists.{pushed_times, popped_times, item_times, taken_items, Kept}
 
@@ -77,3 +77,8 @@ pub record LeftOver (views : List View) (left : List Item) : Type 0 where
   pub all : taken_items pushes ≡ taken_items pops ++ left
   pub pushed : Kept (λ v. v.pushed) pushes views
   pub popped : Kept (λ v. v.popped) pops views
+
+-- in a doubly linked queue: no view has a push in flight
+abbrev pub NoFlights : Ends → List View → Type 0
+NoFlights u views =
+    u.form ≡ Double → (n : ℕ) (e : Sent) → ¬ (HasFlight e (view_at views n))

@@ -2,10 +2,12 @@
 ghost use Rattle.std.specs.Prelude.{◌≡◌, ◌≢◌, ◌≤◌, ℕ, suc, List};
 ghost use Rattle.plain_state.specs.State.{Plain, no_payload};
 ghost use Rattle.queue_law.specs.Words.{cell_at, slot_at, Live};
-ghost use Rattle.queue_law.specs.Views.{view_at};
+ghost use Rattle.queue_law.specs.Views.{Item, view_at};
 ghost use Rattle.queue_law.specs.Chain.{Ends};
+ghost use Rattle.queue_law.specs.Lists.{pushed_times, popped_times};
+ghost use Rattle.queue_law.specs.Lessons.{NothingLinked};
 ghost use Rattle.queue_law.specs.Law.{QueueLaw};
-ghost use Rattle.queue_law.specs.Promises.{Conserved, InOrder, LeftOver, Far};
+ghost use Rattle.queue_law.specs.Promises.{Conserved, InOrder, LeftOver, Far, NoFlights};
 
 use crate::view::View;
 
@@ -15,6 +17,15 @@ use crate::view::View;
 pub fn nothing_is_lost()
     ensures { (u : Ends) (p : Plain) (views : List View) → QueueLaw u p views
         → cell_at p u.head ≢ 0 → Conserved u p views }
+{}
+
+/// Where nothing is linked behind the head's slot and, in a doubly linked queue, no push is in flight, each item was
+/// popped as often as it was pushed.
+#[tactic(auto, using(crate::proofs::Empties::all_popped))]
+pub fn all_is_popped()
+    ensures { (u : Ends) (p : Plain) (views : List View) → QueueLaw u p views
+        → NothingLinked u p → NoFlights u views
+        → (x : Item) → pushed_times x views ≡ popped_times x views }
 {}
 
 /// There is one order of all pushes, in which each seat's stand as it made them. The pops are its first ones, and each

@@ -21,8 +21,8 @@ impl Deed<QueueLaw> for LearnBefore {
     ghost keeps = { λ it of. deeds.before (ends of.form of.head of.tail) of.apart };
 }
 
-/// An upgrade of the node before one that was seen: where it has ended, there is nothing to help; where it is live, it is a
-/// node.
+/// An upgrade of the node before one that was seen: where it has ended, there is nothing to help; where it is live, it
+/// is a node.
 #[derive(Clone, Copy, Drop)]
 pub struct FindEnded;
 

@@ -36,8 +36,8 @@ impl Deed<QueueLaw> for LearnTail {
     ghost keeps = { λ it of. deeds.learn_tail (ends of.form of.head of.tail) of.apart };
 }
 
-/// The node after one that was seen. Where the head cell held that one and there is none, nothing is linked; else what
-/// follows is a node.
+/// The node after one that was seen. Where the head cell held that one and there is none, nothing is linked; else
+/// what follows is a node.
 #[derive(Clone, Copy, Drop)]
 pub struct LearnNext;
 
@@ -51,8 +51,8 @@ impl Deed<QueueLaw> for LearnNext {
     ghost keeps = { λ it of. deeds.next (ends of.form of.head of.tail) of.apart };
 }
 
-/// In a linked queue: field 0 of the node after one that was seen. Where it isn't null, the tail cell holds another node
-/// than the one that was seen.
+/// In a linked queue: field 0 of the node after one that was seen. Where it isn't null, the tail cell holds another
+/// node than the one that was seen.
 #[derive(Clone, Copy, Drop)]
 pub struct LookAhead;
 

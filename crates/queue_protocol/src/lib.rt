@@ -1,9 +1,9 @@
-//! A queue as a protocol: what a client that has a queue adds to the rule of a domain's table, and the deeds by which seats
-//! lay it, push, pop and shut it.
+//! A queue as a protocol: what a client that has a queue adds to the rule of a domain's table, and the deeds by which
+//! seats lay it, push, pop and shut it.
 //!
-//! `QueueLaw` carries the law of the crate `queue_law`, over two strong cells. Each step of a push or a pop is made with
-//! one deed. A deed is ready by what the seat itself has and by its view; it says what the view is afterwards, and keeps
-//! the law. So the law holds between any two steps of all seats.
+//! The rule that it keeps is the law of the crate `queue_law`, over two strong cells. Each step of a push or a pop is
+//! made with one deed. A deed is ready by what the seat itself has and by its view; it says what the view is
+//! afterwards, and keeps the law. So the law holds between any two steps of all seats.
 //!
 //! Nothing here runs, and no step is promised to come. A deed doesn't say that the step that it goes with succeeds.
 //!
