@@ -101,7 +101,7 @@ fn audit_line<F: Fn(&[u64; 16]) -> u64>(
 ) -> Result<AuditLine, OutOfMemory>
     requires settled { IsSettled heap.now }
     requires fields { All HasNullFields heap.now.slots }
-    requires weighs { Weighs IsRecord record_weight F.Fn weigh.now.closure }
+    requires weighs { Weighs IsRecord record_weight F.Fn weigh.now }
     ensures { IfOk result (λ line. line ≡ line_of heap.now) }
 {
     let rank = vec![in alloc; 0; heap.slots() as usize]?;

@@ -4,7 +4,7 @@ use Rattle.std.specs.Prelude.{◌==◌, ◌&&◌, nat_lt, count_by, if◌then◌
 use Rattle.std.proofs.lemmas.List.Sums.{sum_by-cons}
 use Rattle.std.proofs.lemmas.Bool.Decides.{nat_tests}
 use Rattle.plain_state.specs.declared.slot.Kind.{Kind}
-use Rattle.plain_state.specs.declared.slot.Kind.TheVariants.{Strong, Weak}
+use Rattle.plain_state.specs.declared.slot.Kind.TheVariants.{Strong, Weak, Disposal}
 use Rattle.plain_state.specs.declared.slot.SlotId.{SlotId}
 use Rattle.plain_state.specs.Lists.{is_entry}
 use Rattle.announce_slots.specs.Words.{word_of}
@@ -15,19 +15,30 @@ use Rattle.core_events.specs.Ejection.{seen_times, without_word}
 pub same_word : (k : Kind) (s : SlotId) → code k s ≡ word_of (number_of k) s.0
 same_word Strong s = omega arith
 same_word Weak s = omega arith
+same_word Disposal s = omega arith
 
 -- equal entries have one word, and others have two
 pub same_code : (k l : Kind) (s x : SlotId) → is_entry k s (l, x) ≡ true → code l x ≡ code k s
 same_code Strong Strong s x h = grind (arith, nat_tests)
 same_code Strong Weak s x h = cc
+same_code Strong Disposal s x h = cc
 same_code Weak Strong s x h = cc
 same_code Weak Weak s x h = grind (arith, nat_tests)
+same_code Weak Disposal s x h = cc
+same_code Disposal Strong s x h = cc
+same_code Disposal Weak s x h = cc
+same_code Disposal Disposal s x h = grind (arith, nat_tests)
 
 pub other_code : (k l : Kind) (s x : SlotId) → is_entry k s (l, x) ≡ false → code l x ≢ code k s
 other_code Strong Strong s x h = grind (arith, nat_tests)
 other_code Strong Weak s x h = omega arith
+other_code Strong Disposal s x h = omega arith
 other_code Weak Strong s x h = omega arith
 other_code Weak Weak s x h = grind (arith, nat_tests)
+other_code Weak Disposal s x h = omega arith
+other_code Disposal Strong s x h = omega arith
+other_code Disposal Weak s x h = omega arith
+other_code Disposal Disposal s x h = grind (arith, nat_tests)
 
 seen_none : (w : ℕ) → seen_times w [] ≡ 0
 unfolding seen_times

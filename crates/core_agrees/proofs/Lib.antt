@@ -1,3 +1,4 @@
 pub mod Steps
 pub mod Codes
 pub mod Ejections
+pub mod Ripenings

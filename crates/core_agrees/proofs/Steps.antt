@@ -38,23 +38,23 @@ finish_outcome false true = refl
 finish_outcome false false = refl
 
 pub add_step : (s : SlotId) (w : ℕ) → w + 1 < 2 ^ 64 → Makes (act.Add s) w (added w).0 (outcome_of_add (added w).1)
-add_step s w h = (no_wrap_up w h, λ z v. refl)
+add_step s w h = (λ v. no_wrap_up w h, λ z v. refl)
 
 pub sub_step : (s : SlotId) (w : ℕ) → 0 < w → w < 2 ^ 64
     → Makes (act.Drop s) w (subbed w).0 (outcome_of_sub (subbed w).1)
-sub_step s w more h = (no_wrap_down w more h, λ z v. sub_outcome (w == 1))
+sub_step s w more h = (λ v. no_wrap_down w more h, λ z v. sub_outcome (w == 1))
 
 pub pay_step : (w : ℕ) → 0 < w → w < 2 ^ 64 → PaysStrong w (subbed w).0 (outcome_of_sub (subbed w).1)
-pay_step w more h = (no_wrap_down w more h, λ z v s es first. rw first (sub_outcome (w == 1)))
+pay_step w more h = (λ v. no_wrap_down w more h, λ z v s es first. rw first (sub_outcome (w == 1)))
 
 pub finish_step : (w : ℕ) → Makes act.Finish w (finished w).0 (outcome_of_finish (finished w).1)
-finish_step w = (either_is_if (w == 0) (2 ^ 63) w, λ z v. finish_outcome (w == 0) (has_help w))
+finish_step w = (λ v. either_is_if (w == 0) (2 ^ 63) w, λ z v. finish_outcome (w == 0) (has_help w))
 
 pub take_step : (w : ℕ) → w < 2 ^ 64 → Makes act.Take w (helped w).0 (outcome_of_take (helped w).1)
-take_step w h = (cleared w h, λ z v. refl)
+take_step w h = (λ v. cleared w h, λ z v. refl)
 
 pub count_step : (s : SlotId) (w : ℕ) → Makes (act.Count s) w w (outcome_of_load w)
-count_step s w = (refl, λ z v. refl)
+count_step s w = (λ v. refl, λ z v. refl)
 
 pub mark_step : (w : ℕ) → Makes act.Mark w (marked w) (outcome_of_mark w)
-mark_step w = (either_is_if (w == 0) (2 ^ 63 + 2 ^ 62) w, λ z v. refl)
+mark_step w = (λ v. either_is_if (w == 0) (2 ^ 63 + 2 ^ 62) w, λ z v. refl)

@@ -46,11 +46,12 @@ outcome_of_mark w = outcome.Number (value_of w)
 
 -- where act a finds w it leaves w' and answers o, in every shape and whatever else the seat has
 abbrev pub Makes : Act → ℕ → ℕ → Outcome → Type 0
-Makes a w w' o = (next a w ≡ w') × ((z : Shape) (v : CoreView) → answer z a w v ≡ o)
+Makes a w w' o =
+    ((v : CoreView) → next a v w ≡ w') × ((z : Shape) (v : CoreView) → answer z a w v ≡ o)
 
 -- so does a payment where the first entry that is owed is a strong one
 abbrev pub PaysStrong : ℕ → ℕ → Outcome → Type 0
 PaysStrong w w' o =
-    (next act.Pay w ≡ w')
+    ((v : CoreView) → next act.Pay v w ≡ w')
     × ((z : Shape) (v : CoreView) (s : SlotId) (es : List Entry)
     → v.owed ≡ (Strong, s) ∷ es → answer z act.Pay w v ≡ o)

@@ -11,9 +11,9 @@ ghost use Rattle.announce_slots.specs.Words.{word_of};
 ghost use Rattle.eject_scan.specs.Seen.{number_of, announced_in, announcements};
 ghost use Rattle.retire_batch.specs.Ejection.{Announcements};
 ghost use Rattle.core_agrees.specs.Counters.{Makes, PaysStrong, outcome_of_add, outcome_of_sub, outcome_of_finish, outcome_of_take, outcome_of_load, outcome_of_mark};
-ghost use Rattle.core_agrees.specs.Splits.{HaveWords, Tells, SplitAlike};
+ghost use Rattle.core_agrees.specs.Splits.{HaveWords, AreAnnounceable, Tells, SplitAlike, RipenAlike};
 
-/// The table announces a reference by the word that `announce_slots` makes of its kind and slot.
+/// The table announces a slot, under each kind, by the word that `announce_slots` makes of the kind and the slot.
 pub fn announcements_agree()
     ensures { (k : Kind) (s : SlotId) → table.code k s ≡ word_of (number_of k) s.0 }
 {}
@@ -52,4 +52,16 @@ pub fn ejection_agrees()
         → SplitAlike es words (announced_in words) }
     ensures noted { (es : List Entry) (words : List ℕ) → HaveWords es
         → SplitAlike es words (announced_in (announcements words)) }
+{}
+
+/// A dying slot ripens by the words that a scan has read exactly where it isn't ripe yet and is announced 0 times
+/// under the disposal kind: by any announcements that tell how often each word was read, by those in the words, and
+/// by those in the words other than 0, which a running scan asks.
+pub fn ripening_agrees()
+    ensures told { (ripe dying : List SlotId) (words : List ℕ) (seen : Announcements)
+        → AreAnnounceable dying → Tells seen words → RipenAlike ripe dying words seen }
+    ensures read { (ripe dying : List SlotId) (words : List ℕ) → AreAnnounceable dying
+        → RipenAlike ripe dying words (announced_in words) }
+    ensures noted { (ripe dying : List SlotId) (words : List ℕ) → AreAnnounceable dying
+        → RipenAlike ripe dying words (announced_in (announcements words)) }
 {}

@@ -16,21 +16,27 @@ ghost use Rattle.std.specs.Fn.{FnReturnsAt};
 ghost use Rattle.deleter.specs.Weighing.{Weighs};
 
 use plain_state::PayloadKind;
-use std::marker::PhantomData;
+use std::marker::{Model, PhantomData};
 
-/// A closure that answers the weight of every payload of kind `W`.
+/// A closure that answers the weight of every payload of kind `W`. Contracts see it as that closure.
 #[derive(Drop)]
 pub struct Deleter<W: PayloadKind, F: Fn(&[u64; 16]) -> u64> {
     closure: F,
     kind: PhantomData<W>,
 }
 
+impl<W: PayloadKind, F: Fn(&[u64; 16]) -> u64> Model for Deleter<W, F> {
+    ghost Value = { F };
+
+    ghost view = { λ d. d.closure };
+}
+
 impl<W: PayloadKind, F: Fn(&[u64; 16]) -> u64> Deleter<W, F> {
     /// Keeps a closure that may be called on every payload that fits `W`, and answers its weight. Calls nothing.
     pub fn keep(f: F) -> Deleter<W, F>
         requires { Weighs W.fits W.weight F.Fn f }
-        ensures kept { result.closure ≡ f }
-        ensures weighs { Weighs W.fits W.weight F.Fn result.closure }
+        ensures kept { result ≡ f }
+        ensures weighs { Weighs W.fits W.weight F.Fn result }
     {
         Deleter {
             closure: f,
@@ -40,10 +46,10 @@ impl<W: PayloadKind, F: Fn(&[u64; 16]) -> u64> Deleter<W, F> {
 
     /// Calls the closure once, and answers the weight of the payload.
     pub fn call(&self, payload: &[u64; 16]) -> u64
-        requires weighs { Weighs W.fits W.weight F.Fn self.now.closure }
+        requires weighs { Weighs W.fits W.weight F.Fn self.now }
         requires fits { W.fits payload.now }
         ensures weight { result ≡ W.weight payload.now }
-        ensures called { FnReturnsAt F.Fn self.now.closure payload.now result }
+        ensures called { FnReturnsAt F.Fn self.now payload.now result }
     {
         (self.closure)(payload)
     }

@@ -16,10 +16,10 @@ use Rattle.core_events.specs.declared.view.Note.{Note}
 use Rattle.core_events.specs.declared.view.Note.TheVariants as note
 use Rattle.core_events.specs.declared.view.Phase.{Phase}
 use Rattle.core_events.specs.declared.view.Phase.TheVariants as phase
-use Rattle.core_events.specs.Words.{ZERO, has_help}
+use Rattle.core_events.specs.Words.{has_help, bit_in}
 use Rattle.core_events.specs.Views.{note_of, slot_of}
 use Rattle.core_events.specs.Steps.{May, is_last}
-use Rattle.core_events.specs.ShownSteps.{shown_act, ejects, releases, is_dying_field}
+use Rattle.core_events.specs.ShownSteps.{shown_act, ejects, releases, is_ripe_field}
 use Rattle.domain_rule.specs.Told.{changed_object}
 
 -- the plain step changes nothing of the object in s
@@ -90,18 +90,21 @@ module _ (z : Shape) (w : ℕ) (v : CoreView) (s : SlotId) where
   act_leaves (act.Release j) may off o = releases_leaves (note_of v j) s o
   act_leaves (act.Look p) may off o = refl
   act_leaves (act.Check j p) may off o = refl
+  act_leaves (act.Alive j) may off o = refl
   act_leaves act.Scan may off o =
       either_leaves (is_last z v) plain.Split plain.Still s (λ _. refl) (λ _. refl) o
   act_leaves (act.Swap p new) may off o =
-      either_leaves (is_dying_field v p) (plain.Clear p) (plain.Replace p new) s (λ _. refl)
+      either_leaves (is_ripe_field v p) (plain.Clear p) (plain.Replace p new) s (λ _. refl)
       (λ _. refl) o
   act_leaves (act.Cas p old new) may off o = refl
   act_leaves (act.Claim x) may off o =
-      either_leaves (w == ZERO) (plain.Claim x) plain.Still s (λ _. refl) (λ _. refl) o
+      either_leaves (bit_in x w == 1) (plain.Claim x) plain.Still s (λ _. refl) (λ _. refl) o
+  act_leaves act.Arm may off o = refl
   act_leaves (act.Fill i x) may off o = rw (filled_other may.0.0 may.0.1 off) refl
   act_leaves act.Start may off o = rw (filled_other may.0 may.1 off) refl
   act_leaves (act.See x i) may off o = refl
   act_leaves act.Free may off o = refl
+  act_leaves act.Ticket may off o = refl
   act_leaves (act.Wadd x) may off o = refl
   act_leaves (act.Wdrop x) may off o = refl
   act_leaves (act.Destroy x) may off o = refl
@@ -126,20 +129,23 @@ module _ (z : Shape) (w : ℕ) (v : CoreView) (s : SlotId) where
   made_by_start (act.Release j) e = absurd (releases_make_none (note_of v j) s e)
   made_by_start (act.Look p) e = absurd (cc (e))
   made_by_start (act.Check j p) e = absurd (cc (e))
+  made_by_start (act.Alive j) e = absurd (cc (e))
   made_by_start act.Scan e =
       absurd (either_makes_none (is_last z v) plain.Split plain.Still
       (λ _ e. absurd (cc (e))) (λ _ e. absurd (cc (e))) s e)
   made_by_start (act.Swap p new) e =
-      absurd (either_makes_none (is_dying_field v p) (plain.Clear p) (plain.Replace p new)
+      absurd (either_makes_none (is_ripe_field v p) (plain.Clear p) (plain.Replace p new)
       (λ _ e. absurd (cc (e))) (λ _ e. absurd (cc (e))) s e)
   made_by_start (act.Cas p old new) e = absurd (cc (e))
   made_by_start (act.Claim x) e =
-      absurd (either_makes_none (w == ZERO) (plain.Claim x) plain.Still
+      absurd (either_makes_none (bit_in x w == 1) (plain.Claim x) plain.Still
       (λ _ e. absurd (cc (e))) (λ _ e. absurd (cc (e))) s e)
+  made_by_start act.Arm e = absurd (cc (e))
   made_by_start (act.Fill i x) e = absurd (cc (e))
   made_by_start act.Start e = (refl, cc (e))
   made_by_start (act.See x i) e = absurd (cc (e))
   made_by_start act.Free e = absurd (cc (e))
+  made_by_start act.Ticket e = absurd (cc (e))
   made_by_start (act.Wadd x) e = absurd (cc (e))
   made_by_start (act.Wdrop x) e = absurd (cc (e))
   made_by_start (act.Destroy x) e = absurd (cc (e))

@@ -12,9 +12,9 @@ use Rattle.core_events.specs.declared.shape.Shape.{Shape}
 use Rattle.core_events.specs.declared.shape.Quota.{Quota}
 use Rattle.core_events.specs.declared.view.CoreView.{CoreView}
 use Rattle.core_events.specs.Counts.{total}
-use Rattle.core_events.specs.Views.{no_view}
+use Rattle.core_events.specs.Views.{Terms, first_views, no_view}
 use Rattle.core_events.specs.Steps.{moved, noted}
-use Rattle.core_events.specs.Runs.{Core, view_at, found, Enabled, after, start, taken_over, left_behind, History, IsShape, AreQuotas}
+use Rattle.core_events.specs.Runs.{Core, view_at, found, Enabled, after, start, taken_over, left_behind, History, IsShape, AreTerms}
 use Rattle.core_invariant.specs.Sound.{Sound}
 use Rattle.core_invariant.proofs.Kit.{total_set}
 use Rattle.core_invariant.proofs.Starts.{total_none}
@@ -29,7 +29,7 @@ gone v = if v.left then 1 else 0
 -- seat 0 is there, and has one trail for each seat that has left
 pub record Counted (c : Core) : Type 0 where
   pub here : (view_at c 0).left ≡ false
-  pub count : total gone c.views ≡ length (view_at c 0).left_trails
+  pub count : total gone c.views ≡ length (view_at c 0).left_seats
 
 gone_most : (v : CoreView) → gone v ≤ 1
 gone_most v = go v.left
@@ -97,35 +97,37 @@ rest_left (v ∷ vs) some_seat here =
         let b : gone v ≡ 0 = ap (λ (t : Bool). if t then 1 else 0) here in
         each_left vs (omega arith) n (omega arith)
 
-start_counted : (z : Shape) (qs : List Quota) → Counted (start z qs)
-start_counted z qs = record {
-  here = there qs;
-  count = total_none gone z 0 qs (λ n q. refl) ∙ none qs;
+start_counted : (z : Shape) (ts : Terms) → Counted (start z ts)
+start_counted z ts = record {
+  here = there ts.quotas;
+  count = total_none gone z 0 ts.quotas ts.grants (λ n q. refl) ∙ none ts.quotas;
 }
   where
-    there : (qs : List Quota) → (view_at (start z qs) 0).left ≡ false
+    there : (qs : List Quota)
+        → (get_or (first_views z 0 qs ts.grants) 0 no_view).left ≡ false
     there [] = refl
     there (q ∷ qs) = refl
 
-    none : (qs : List Quota) → 0 ≡ length (view_at (start z qs) 0).left_trails
+    none : (qs : List Quota)
+        → 0 ≡ length (get_or (first_views z 0 qs ts.grants) 0 no_view).left_seats
     none [] = refl
     none (q ∷ qs) = refl
 
 -- a seat's view is given anew, with the same trails of seats that left, and it has left as before
 one_counted : (c : Core) (n : ℕ) (u : CoreView) (ws : List ℕ) → n < length c.views
-    → u.left ≡ (view_at c n).left → u.left_trails ≡ (view_at c n).left_trails → Counted c
+    → u.left ≡ (view_at c n).left → u.left_seats ≡ (view_at c n).left_seats → Counted c
     → Counted (record { words = ws; views = set c.views n u })
 one_counted c n u ws hn left' trails' k = ⊎_elim
     (λ (e : n ≡ 0). record {
       here = ap (λ (v : CoreView). v.left) (first e)
           ∙ (left' ∙ (ap (λ (m : ℕ). (view_at c m).left) e ∙ k.here));
-      count = same ∙ (k.count ∙ sym (ap (λ (v : CoreView). length v.left_trails) (first e)
-          ∙ (ap length trails' ∙ ap (λ (m : ℕ). length (view_at c m).left_trails) e)));
+      count = same ∙ (k.count ∙ sym (ap (λ (v : CoreView). length v.left_seats) (first e)
+          ∙ (ap length trails' ∙ ap (λ (m : ℕ). length (view_at c m).left_seats) e)));
     })
     (λ (ne : n ≢ 0).
     let at = get_or-set_other c.views n 0 u no_view (λ e. ne (sym e)) in record {
       here = ap (λ (v : CoreView). v.left) at ∙ k.here;
-      count = same ∙ (k.count ∙ sym (ap (λ (v : CoreView). length v.left_trails) at));
+      count = same ∙ (k.count ∙ sym (ap (λ (v : CoreView). length v.left_seats) at));
     })
     (cases_eq n 0)
   where
@@ -149,7 +151,7 @@ plain_counted z c n a hn stays k =
       views = vs;
     }))
     (sym (views_plain z c n a stays))
-    (one_counted c n (moved z a w (view_at c n)) (after z c n a).words hn s.left s.left_trails k)
+    (one_counted c n (moved z a w (view_at c n)) (after z c n a).words hn s.left s.left_seats k)
 
 -- a leave adds a trail, and a seat that has left
 leave_counted : (z : Shape) (c : Core) (j : ℕ) → 0 < length c.views → j ≢ 0 → j < length c.views
@@ -160,9 +162,13 @@ leave_counted z c j h0 other hj still k =
     let b = total_set gone (set c.views 0 root') j (left_behind (view_at c j)) (omega arith) in
     let g = ap gone (get_or-set_other c.views 0 j root' no_view other) in
     let f : gone (view_at c j) ≡ 0 = ap (λ (t : Bool). if t then 1 else 0) still in
-    let m = length-append (view_at c 0).left_trails
-    (record { seat = (view_at c j).seat; trail = (view_at c j).trail } ∷ []) in
-    let n = ap (λ (v : CoreView). length v.left_trails) at in
+    let m = length-append (view_at c 0).left_seats
+    (record {
+      seat = (view_at c j).seat;
+      trail = (view_at c j).trail;
+      tickets = (view_at c j).tickets;
+    } ∷ []) in
+    let n = ap (λ (v : CoreView). length v.left_seats) at in
     let e = k.count in record {
       here = ap (λ (v : CoreView). v.left) at ∙ k.here;
       count = omega arith;
@@ -195,21 +201,21 @@ step_counted z c n a so on k = ⊎_elim
         subst (λ (m : ℕ). Counted (after z c m (act.Leave j))) (sym root)
         (leave_counted z c j (omega arith) may.1.1 (omega arith) may.2.0.1 k)
 
-pub history_counted : (z : Shape) (qs : List Quota) (es : List Event) (c : Core) → IsShape z
-    → AreQuotas z qs
-    → History z qs es c → Counted c
-history_counted z qs [] c shape quotas h = subst Counted (sym h) (start_counted z qs)
-history_counted z qs (e ∷ es) c shape quotas h = subst Counted (sym h.2.1)
-    (step_counted z h.0 e.seat e.act (history_sound z qs es h.0 shape quotas h.1) h.2.0
-    (history_counted z qs es h.0 shape quotas h.1))
+pub history_counted : (z : Shape) (ts : Terms) (es : List Event) (c : Core) → IsShape z
+    → AreTerms z ts
+    → History z ts es c → Counted c
+history_counted z ts [] c shape terms h = subst Counted (sym h) (start_counted z ts)
+history_counted z ts (e ∷ es) c shape terms h = subst Counted (sym h.2.1)
+    (step_counted z h.0 e.seat e.act (history_sound z ts es h.0 shape terms h.1) h.2.0
+    (history_counted z ts es h.0 shape terms h.1))
 
-pub others_left : (z : Shape) (qs : List Quota) (es : List Event) (c : Core) → IsShape z
-    → AreQuotas z qs
-    → History z qs es c → OthersLeft c ↔ (length (view_at c 0).left_trails + 1 ≡ z.seats)
-others_left z qs es c shape quotas h =
-    let k = history_counted z qs es c shape quotas h in
+pub others_left : (z : Shape) (ts : Terms) (es : List Event) (c : Core) → IsShape z
+    → AreTerms z ts
+    → History z ts es c → OthersLeft c ↔ (length (view_at c 0).left_seats + 1 ≡ z.seats)
+others_left z ts es c shape terms h =
+    let k = history_counted z ts es c shape terms h in
     let e = k.count in
-    let sv = (history_sound z qs es c shape quotas h).views in
+    let sv = (history_sound z ts es c shape terms h).views in
     let some_seat = shape.0 in
     let r = rest_left c.views (omega arith) k.here in (
       (λ all. let t = r.0 all in omega arith),

@@ -18,17 +18,17 @@ use Rattle.plain_protocol.proofs.StepFits.{step_fits}
 use Rattle.core_events.specs.declared.act.Act.TheVariants as act
 use Rattle.core_events.specs.declared.outcome.Outcome.TheVariants as outcome
 use Rattle.core_events.specs.declared.shape.Shape.{Shape}
-use Rattle.core_events.specs.declared.shape.Quota.{Quota}
+use Rattle.core_events.specs.Views.{Terms}
 use Rattle.core_events.specs.declared.view.CoreView.{CoreView}
 use Rattle.core_events.specs.Steps.{CanLeave, noted}
 use Rattle.core_events.specs.Runs.{Core, view_at, taken_over, left_behind, Enabled, after}
 use Rattle.core_events.specs.Shows.{show_seat, shows}
 use Rattle.core_invariant.specs.Sound.{Sound}
-use Rattle.core_law.proofs.Leaves.{parts, is_j, is_0, is_m}
+use Rattle.core_invariant.proofs.Joined.{parts, is_j, is_0, is_m}
 use Rattle.core_shows.proofs.Bridge.{shown_past}
 use Rattle.core_shows.proofs.Events.{event_shows}
 use Rattle.core_shows.proofs.Lawful.{shows_lawful}
-use Rattle.core_shows.proofs.Lists.{length_each, get_each}
+use Rattle.core_invariant.proofs.Each.{length_each, get_each}
 use Rattle.domain_rule.specs.declared.view.Known.{Known}
 use Rattle.domain_rule.specs.declared.view.SeatView.{SeatView}
 use Rattle.domain_rule.specs.Opening.{joined_view, gone_view, merged_objects}
@@ -63,14 +63,14 @@ module _ {V : Type 0} (root v : SeatView V) (z : Shape) (same : root.core.shape 
         get_or_past (merged_objects root v) s.0 no_object (omega arith)
 
 module _ {V : Type 0} (law : Plain → List V → Type 0) (first : ℕ → V) (fits : List ℕ → Type 0)
-    (z : Shape) (qs : List Quota) (joined : V → V → V) (gone : V)
+    (z : Shape) (ts : Terms) (joined : V → V → V) (gone : V)
     (leave : KeptByLeave law joined gone) (id other : ℕ) (v w : SeatView V)
     (here : v.gone ≡ false) (there : w.gone ≡ false) (root : v.core.seat ≡ 0)
     (can0 : CanLeave v.core) (canj : CanLeave w.core) where
   abbrev both : SeatView V
   both = joined_view joined v w
 
-  module _ (s : State (Unit {0}) (SeatView V)) (k : Kept law first fits z qs s)
+  module _ (s : State (Unit {0}) (SeatView V)) (k : Kept law first fits z ts s)
       (at : get_elem? s.views id ≡ some v) (apart : ¬ (other ≡ id))
       (at' : get_elem? (set s.views id both) other ≡ some w) where
     abbrev c : Core
@@ -83,10 +83,10 @@ module _ {V : Type 0} (law : Plain → List V → Type 0) (first : ℕ → V) (f
     views = set (set s.views id both) other (gone_view gone)
 
     so : Sound z k.core
-    so = kept_sound z qs s k
+    so = kept_sound z ts s k
 
     first_seat : id ≡ 0
-    first_seat = is_root z qs s k id v at here root
+    first_seat = is_root z ts s k id v at here root
 
     not_root : other ≢ 0
     not_root e = apart (e ∙ sym first_seat)
@@ -98,13 +98,13 @@ module _ {V : Type 0} (law : Plain → List V → Type 0) (first : ℕ → V) (f
     atj = sym (set_else s.views id other both apart) ∙ at'
 
     hj : other < z.seats
-    hj = in_seats z qs s k other w atj
+    hj = in_seats z ts s k other w atj
 
     true0 : IsTrueOf z k.core 0 v
-    true0 = true_of z qs s k 0 v at0 here
+    true0 = true_of z ts s k 0 v at0 here
 
     truej : IsTrueOf z k.core other w
-    truej = true_of z qs s k other w atj there
+    truej = true_of z ts s k other w atj there
 
     root_can : CanLeave (view_at k.core 0)
     root_can = subst CanLeave true0.core can0
@@ -126,20 +126,20 @@ module _ {V : Type 0} (law : Plain → List V → Type 0) (first : ℕ → V) (f
 
     -- a leave changes no slot
     slot_same : (x : SlotId) → slot_at (shows z k.core) x ≡ slot_at (shows z d) x
-    slot_same x = ap (λ (p : Plain). slot_at p x) (sym does.1.6)
+    slot_same x = ap (λ (p : Plain). slot_at p x) (sym does.1.8)
 
     root_core : both.core ≡ view_at d 0
     root_core =
-        let n = number_of z qs s k other w atj there in
-        sym (is_0 z k.core so other not_root hj root_can other_can
+        let n = number_of z ts s k other w atj there in
+        sym (is_0 z k.core so other not_root hj
         ∙ λ i. noted (act.Leave (sym n i)) outcome.Plain
         (taken_over (sym true0.core i) (sym truej.core i)))
 
     other_core : view_at d other ≡ left_behind (view_at k.core other)
-    other_core = is_j z k.core so other not_root hj root_can other_can
+    other_core = is_j z k.core so other not_root hj
 
     rest_core : (n : ℕ) → n ≢ 0 → n ≢ other → view_at d n ≡ view_at k.core n
-    rest_core = is_m z k.core so other not_root hj root_can other_can
+    rest_core = is_m z k.core so other not_root hj
 
     -- what seat 0 has of each slot's object is so
     root_objects : (x : SlotId) → HasSlot (show_seat both.core) x
@@ -241,13 +241,13 @@ module _ {V : Type 0} (law : Plain → List V → Type 0) (first : ℕ → V) (f
         (leave (shows z k.core) (shows z d) other 0 (clients first z.seats s.views) meets does)
 
     -- the rule after the leave: its event joins the history
-    kept_then : Kept law first fits z qs (record { words = s.words; homes = s.homes; views = views })
+    kept_then : Kept law first fits z ts (record { words = s.words; homes = s.homes; views = views })
     kept_then =
         let l = all_length in
         let f = k.few in
         let h = at_less s.views other w atj in record {
           shape = k.shape;
-          quotas = k.quotas;
+          terms = k.terms;
           events = record { seat = 0; act = act.Leave other } ∷ k.events;
           core = d;
           history = (k.core, k.history, (on, refl));
@@ -262,6 +262,6 @@ module _ {V : Type 0} (law : Plain → List V → Type 0) (first : ℕ → V) (f
           client = client_law;
         }
 
-  pub leaves : Joins (Kept law first fits z qs) id v other w (joined_view joined v w)
+  pub leaves : Joins (Kept law first fits z ts) id v other w (joined_view joined v w)
       (gone_view gone)
   leaves = kept_then

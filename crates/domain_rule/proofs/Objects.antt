@@ -84,7 +84,7 @@ module _ (p q : Plain) (n : ℕ) (s : SlotId) where
   pub object_changes : (step : PlainAct) (found : ℕ) → s.0 < length p.slots
       → Does p n step found q
       → object_at q s ≡ changed_object step s (object_at p s)
-  object_changes (plain.Claim x) found there d = becomes _ d.1.3 (slot_keeps p s x _ refl)
+  object_changes (plain.Claim x) found there d = becomes _ d.1.4 (slot_keeps p s x _ refl)
   object_changes (plain.Fill x i word) found there d =
       ap (λ (r : Plain). object_at r s) d.1.4
       ∙ slot_changes p s (λ (o : Object). record o { payload = set o.payload i word }) x _ there
@@ -100,6 +100,8 @@ module _ (p q : Plain) (n : ℕ) (s : SlotId) where
   object_changes (plain.Look place) found there d = becomes _ d.1.2 refl
   object_changes (plain.Check j place) found there d =
       ⊎_elim (λ same. becomes _ same refl) (λ taken. becomes _ taken.2.2 refl) d.1.2
+  object_changes (plain.Alive j) found there d =
+      ⊎_elim (λ none. becomes _ none.1 refl) (λ up. becomes _ up.2.2 refl) d.1.3
   object_changes (plain.EndSnapshot k x) found there d = becomes _ d.1.3 refl
   object_changes (plain.Replace place new) found there d = replaces_keeps place new d.1.2
   object_changes (plain.TryReplace place old new) found there d =
@@ -115,8 +117,9 @@ module _ (p q : Plain) (n : ℕ) (s : SlotId) where
   object_changes (plain.Eject k x) found there d = becomes _ d.1.3 refl
   object_changes (plain.End x) found there d = becomes _ d.1.3 (slot_keeps p s x _ refl)
   object_changes (plain.Clear place) found there d = clears_keeps place d.1.2
-  object_changes (plain.Destroy x) found there d = becomes _ d.1.2.2 (slot_keeps p s x _ refl)
+  object_changes (plain.Destroy x) found there d = becomes _ d.1.3.2 (slot_keeps p s x _ refl)
   object_changes (plain.Give x) found there d = becomes _ d.1.3 (slot_keeps p s x _ refl)
-  object_changes (plain.Leave j) found there d = becomes _ d.1.6 refl
+  object_changes (plain.Leave j) found there d = becomes _ d.1.8 refl
   object_changes plain.Split found there d = becomes _ d.1.1.2 refl
+  object_changes plain.Ticket found there d = becomes _ d.1.1 refl
   object_changes plain.Still found there d = becomes _ d.1.1 refl

@@ -15,9 +15,9 @@ use Rattle.plain_state.proofs.Start.{every_slot_new}
 use Rattle.plain_protocol.specs.Laws.{Starts}
 use Rattle.plain_protocol.specs.Owns.{object_of}
 use Rattle.core_events.specs.declared.shape.Shape.{Shape}
-use Rattle.core_events.specs.declared.shape.Quota.{Quota}
+use Rattle.core_events.specs.Views.{Terms}
 use Rattle.core_events.specs.Words.{first_words}
-use Rattle.core_events.specs.Runs.{start, IsShape, AreQuotas}
+use Rattle.core_events.specs.Runs.{start, IsShape, AreTerms}
 use Rattle.core_invariant.proofs.Starts.{start_sound}
 use Rattle.domain_rule.specs.declared.view.Known.{Known}
 use Rattle.domain_rule.specs.declared.view.Whole.{Whole}
@@ -45,34 +45,34 @@ empty_fits fits seats slots cells weak_cells s has =
     absurd (⊎_elim (λ live. cc (free, live)) (λ ended. cc (free, ended)) has)
 
 module _ {V : Type 0} (law : Plain → List V → Type 0) (first : ℕ → V) (fits : List ℕ → Type 0)
-    (z : Shape) (qs : List Quota) (shape : IsShape z) (quotas : AreQuotas z qs) where
+    (z : Shape) (ts : Terms) (shape : IsShape z) (terms : AreTerms z ts) where
   abbrev begun : SeatView V
-  begun = first_of first z qs
+  begun = first_of first z ts
 
   -- what seat n knows of the whole core is so, and every other seat has left
   abbrev Knows : ℕ → Whole → Type 0
-  Knows n all = (core_in all ≡ start z qs) × (n ≡ 0) × OthersLeft (start z qs)
+  Knows n all = (core_in all ≡ start z ts) × (n ≡ 0) × OthersLeft (start z ts)
 
   -- a seat that knows the whole core from the start is the only one
   knows_alone : (all : Whole) → begun.whole ≡ Some all → Knows 0 all
   knows_alone all = go (z.seats == 1) refl
     where
       go : (b : Bool) → (z.seats == 1) ≡ b
-          → (if b then Some (whole_of (start z qs)) else None) ≡ Some all → Knows 0 all
+          → (if b then Some (whole_of (start z ts)) else None) ≡ Some all → Knows 0 all
       go false is e = absurd (cc (e))
       go true is e =
           let one : z.seats ≡ 1 = grind (arith, nat_tests) in
-          let same : all ≡ whole_of (start z qs) = cc in
-          let sv = (start_sound z qs shape quotas).views in
+          let same : all ≡ whole_of (start z ts) = cc in
+          let sv = (start_sound z ts shape terms).views in
           (ap core_in same, refl, λ n pos h. absurd (omega arith))
 
-  begun_true : IsTrueOf z (start z qs) 0 begun
+  begun_true : IsTrueOf z (start z ts) 0 begun
   begun_true = record {
-    core = let h = shape.0 in sym (first_seen z qs 0 quotas (omega arith));
+    core = let h = shape.0 in sym (first_seen z ts 0 terms (omega arith));
     objects = λ s has.
         let p : Plain = empty z.seats z.slots z.cells z.weak_cells in
         ap (λ (o : Known). record { life = o.life; payload = o.payload }) (known_at p s)
-        ∙ ap (λ (q : Plain). object_of (slot_at q s)) (sym (start_shown z qs quotas));
+        ∙ ap (λ (q : Plain). object_of (slot_at q s)) (sym (start_shown z ts terms));
     whole = knows_alone;
   }
 
@@ -84,28 +84,28 @@ module _ {V : Type 0} (law : Plain → List V → Type 0) (first : ℕ → V) (f
       ∙ ap (λ (n : ℕ). map first (range_with_len 0 n)) e
 
   pub opens : Starts law first
-      → Kept law first fits z qs (opening (first_words z) [] (first_of first z qs))
+      → Kept law first fits z ts (opening (first_words z) [] (first_of first z ts))
   opens starts = record {
     shape = shape;
-    quotas = quotas;
+    terms = terms;
     events = [];
-    core = start z qs;
+    core = start z ts;
     history = refl;
     words = refl;
     few = let h = shape.0 in (omega arith, omega arith);
     tells = λ n v at.
         let o = only begun v n at in
-        subst (λ (t : ℕ × SeatView V). Tells z (start z qs) t.0 t.1) (λ i. (sym o.0 i, o.1 i))
+        subst (λ (t : ℕ × SeatView V). Tells z (start z ts) t.0 t.1) (λ i. (sym o.0 i, o.1 i))
         begun_true;
     root = λ v at.
         let o = only begun v 0 at in (
           ap (λ (u : SeatView V). u.gone) (sym o.1),
           ap (λ (u : SeatView V). u.opened) (sym o.1),
         );
-    unopened = λ n le h. first_seen z qs n quotas h;
-    fit = subst (AllFit fits) (sym (start_shown z qs quotas))
+    unopened = λ n le h. first_seen z ts n terms h;
+    fit = subst (AllFit fits) (sym (start_shown z ts terms))
         (empty_fits fits z.seats z.slots z.cells z.weak_cells);
     client = subst (λ (t : Plain × List V). law t.0 t.1)
-        (λ i. (sym (start_shown z qs quotas) i, sym first_clients i))
+        (λ i. (sym (start_shown z ts terms) i, sym first_clients i))
         (starts z.seats z.slots z.cells z.weak_cells);
   }

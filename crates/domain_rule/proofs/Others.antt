@@ -12,34 +12,40 @@ use Rattle.core_events.specs.declared.shape.Shape.{Shape}
 use Rattle.core_events.specs.declared.view.CoreView.{CoreView}
 use Rattle.core_events.specs.declared.view.Phase.{Phase}
 use Rattle.core_events.specs.declared.view.Phase.TheVariants as phase
-use Rattle.core_events.specs.Counts.{one, total, naming, filling, in_phase, adds_used}
+use Rattle.core_events.specs.Counts.{one, total, naming, baring, filling, in_phase, adds_used}
 use Rattle.core_events.specs.Runs.{Core, Enabled, after, view_at}
 use Rattle.core_events.specs.Shows.{filled, show_seat, show_slot, shows}
 use Rattle.core_events.specs.Views.{held_times, no_view}
-use Rattle.core_invariant.specs.Slots.{Numbers, numbers, SlotLaw, free, blank, counted, asked, over, husk}
+use Rattle.core_invariant.specs.Slots.{Numbers, numbers, SlotLaw, free, bare, blank, counted, asked, over, husk}
 use Rattle.core_invariant.specs.Sound.{Sound}
-use Rattle.core_invariant.proofs.Held.{held_named, held_refs}
+use Rattle.core_invariant.proofs.Held.{held_named, held_taken}
 use Rattle.core_invariant.proofs.Kit.{one_same, total_at, total_set}
 use Rattle.core_invariant.proofs.Steady.{named_in_range}
 use Rattle.core_shows.proofs.Events.{event_shows}
-use Rattle.core_shows.proofs.Lists.{length_each}
+use Rattle.core_shows.proofs.Lists.{total_plus}
+use Rattle.core_invariant.proofs.Each.{length_each}
 use Rattle.domain_rule.proofs.Acts.{act_leaves}
 use Rattle.domain_rule.proofs.Objects.{object_at, object_changes}
 
--- a phase fills a slot as the seat that is shown does
-filled_counts : (s : SlotId) (p : Phase) → held_in s (filled p) ≡ filling s p
+-- the seat has claimed the slot, armed or not
+abbrev claiming : SlotId → Phase → ℕ
+claiming s p = baring s p + filling s p
+
+-- a phase has a claimed slot as the seat that is shown does
+filled_counts : (s : SlotId) (p : Phase) → held_in s (filled p) ≡ claiming s p
 unfolding held_in one
 filled_counts s phase.Idle = refl
 filled_counts s (phase.Finish x) = refl
 filled_counts s (phase.Help x) = refl
 filled_counts s (phase.Zero x) = refl
 filled_counts s phase.Scan = refl
-filled_counts s (phase.Blank x) = refl
+filled_counts s (phase.Bare x) = omega arith
+filled_counts s (phase.Blank x) = omega arith
 filled_counts s (phase.Give x) = refl
 
 -- the seat holds the slot, has it in its dying list, or fills it
 has_how : (s : SlotId) (v : CoreView) → HasSlot (show_seat v) s
-    → (0 < held_times s v) ⊎ ((0 < times s v.dying) ⊎ (0 < filling s v.phase))
+    → (0 < held_times s v) ⊎ ((0 < times s v.dying) ⊎ (0 < claiming s v.phase))
 has_how s v has =
     let f = filled_counts s v.phase in
     let h : 0 < held_times s v + times s v.dying + held_in s (filled v.phase) =
@@ -61,12 +67,13 @@ fills_has s v fills =
     grind (arith, nat_tests)
 
 -- what a seat has it names
-filling_named : (s : SlotId) (p : Phase) → filling s p ≤ in_phase s p
+filling_named : (s : SlotId) (p : Phase) → claiming s p ≤ in_phase s p
 filling_named s phase.Idle = omega arith
 filling_named s (phase.Finish x) = omega arith
 filling_named s (phase.Help x) = omega arith
 filling_named s (phase.Zero x) = omega arith
 filling_named s phase.Scan = omega arith
+filling_named s (phase.Bare x) = omega arith
 filling_named s (phase.Blank x) = omega arith
 filling_named s (phase.Give x) = omega arith
 
@@ -75,19 +82,21 @@ has_named s v has = ⊎_elim
     (λ held. held_named s v held)
     (λ rest. ⊎_elim
     (λ (dies : 0 < times s v.dying). omega arith)
-    (λ (fills : 0 < filling s v.phase). let f = filling_named s v.phase in omega arith)
+    (λ (fills : 0 < claiming s v.phase). let f = filling_named s v.phase in omega arith)
     rest)
     (has_how s v has)
 
--- a slot that is filled is neither referred to nor dying, and one seat fills it
+-- a slot that is filled isn't dying, and one seat fills it
 filled_alone : (most : ℕ) (m : Numbers) → SlotLaw most m → 0 < m.filling
-    → (m.strong_refs + m.weak_refs ≡ 0) × (m.dying ≡ 0) × (m.filling ≡ 1)
-filled_alone most m (free h) fills = absurd (omega arith)
-filled_alone most m (blank h) fills = (omega arith, omega arith, omega arith)
-filled_alone most m (counted h) fills = absurd (omega arith)
-filled_alone most m (asked h) fills = absurd (omega arith)
-filled_alone most m (over h) fills = absurd (omega arith)
-filled_alone most m (husk h) fills = absurd (omega arith)
+    → (m.dying ≡ 0) × (m.baring + m.filling ≡ 1)
+filled_alone most m (free h) fills = let e = h.filling in absurd (omega arith)
+filled_alone most m (bare h) fills = let e = h.filling in absurd (omega arith)
+filled_alone most m (blank h) fills =
+    let a = h.empty.dying in let b = h.baring in let e = h.filling in (omega arith, omega arith)
+filled_alone most m (counted h) fills = let e = h.own.taken.filling in absurd (omega arith)
+filled_alone most m (asked h) fills = let e = h.own.taken.filling in absurd (omega arith)
+filled_alone most m (over h) fills = let e = h.own.taken.filling in absurd (omega arith)
+filled_alone most m (husk h) fills = let e = h.taken.filling in absurd (omega arith)
 
 -- what two seats count together is no more than all count
 two_le : (f : CoreView → ℕ) (vs : List CoreView) (n m : ℕ) → n < length vs → m < length vs
@@ -119,16 +128,20 @@ module _ (z : Shape) (c : Core) (so : Sound z c) where
       let o = one_same s s refl in
       let mine : filling s (view_at c n).phase ≡ 1 =
       ap (λ (p : Phase). filling s p) fills ∙ o in
+      let bare_none : baring s (view_at c n).phase ≡ 0 = ap (λ (p : Phase). baring s p) fills in
       let among = total_at (λ (u : CoreView). filling s u.phase) c.views n hn in
       let law = so.slots s (has_there m s hm has) in
       let alone = filled_alone (adds_used c) (numbers z c s) law (omega arith) in
       ⊎_elim
-      (λ held. let r = held_refs z c m s so (omega arith) held in absurd (omega arith))
+      (λ held. let t = held_taken z c m s so (omega arith) (has_there m s hm has) held in
+      absurd (omega arith))
       (λ rest. ⊎_elim
       (λ (dies : 0 < times s (view_at c m).dying).
       let d = total_at (λ (u : CoreView). times s u.dying) c.views m hm in absurd (omega arith))
-      (λ (also : 0 < filling s (view_at c m).phase).
-      let two = two_le (λ (u : CoreView). filling s u.phase) c.views n m hn hm ne refl in
+      (λ (also : 0 < claiming s (view_at c m).phase).
+      let sum = total_plus (λ (u : CoreView). baring s u.phase) (λ (u : CoreView). filling s u.phase)
+      c.views in
+      let two = two_le (λ (u : CoreView). claiming s u.phase) c.views n m hn hm ne refl in
       absurd (omega arith))
       rest)
       (has_how s (view_at c m) has)

@@ -94,7 +94,7 @@ own_eq a a' f f' w w' e1 e2 e3 = cc
 
 module _ {V : Type 0} (z : Shape) (c : Core) (so : Sound z c) (n : ℕ) (v : SeatView V)
     (hn : n < length c.views) (told : IsTrueOf z c n v) (knows : KnowsAll v)
-    (count : OthersLeft c ↔ (length (view_at c 0).left_trails + 1 ≡ z.seats)) where
+    (count : OthersLeft c ↔ (length (view_at c 0).left_seats + 1 ≡ z.seats)) where
   seat_told : seat_at (shows z c) n ≡ show_seat v.core
   seat_told = shown_seat z c n hn ∙ ap show_seat (sym told.core)
 
@@ -120,9 +120,9 @@ module _ {V : Type 0} (z : Shape) (c : Core) (so : Sound z c) (n : ℕ) (v : Sea
   alone_seen alone =
       let e = so.views in
       let law = so.seats n (omega arith) in
-      let root : length (view_at c n).left_trails ≡ length (view_at c 0).left_trails =
-      ap (λ (m : ℕ). length (view_at c m).left_trails) alone.0 in
-      let trails = ap (λ (u : CoreView). length u.left_trails) told.core in
+      let root : length (view_at c n).left_seats ≡ length (view_at c 0).left_seats =
+      ap (λ (m : ℕ). length (view_at c m).left_seats) alone.0 in
+      let trails = ap (λ (u : CoreView). length u.left_seats) told.core in
       let seats = ap (λ (x : Shape). x.seats) shape_told in
       let left = count.0 alone.1 in
       (ap (λ (u : CoreView). u.seat) told.core ∙ (law.number ∙ alone.0), omega arith)

@@ -8,7 +8,7 @@ use lib.ListN.{get_elem?}
 use Rattle.atomic_table.specs.Table.{Act, State, Me, Allows, Valid, carried_after, keeps, stepped}
 use Rattle.plain_state.specs.State.{Plain}
 use Rattle.core_events.specs.declared.shape.Shape.{Shape}
-use Rattle.core_events.specs.declared.shape.Quota.{Quota}
+use Rattle.core_events.specs.Views.{Terms}
 use Rattle.core_events.specs.declared.view.CoreView.{CoreView}
 use Rattle.core_events.specs.Runs.{Core, view_at}
 use Rattle.core_events.specs.Shows.{shows}
@@ -24,7 +24,7 @@ use Rattle.domain_rule.proofs.Telling.{kept_sound, in_seats, number_of, true_of,
 alone_cases : {V : Type 0} (v : SeatView V) → IsAlone v ⊎ (IsAlone v → ⊥)
 alone_cases v = ⊎_elim
     (λ first. ⊎_elim (λ all. inl (first, all)) (λ some. inr (λ alone. some alone.1))
-    (cases_eq (length v.core.left_trails + 1) v.core.shape.seats))
+    (cases_eq (length v.core.left_seats + 1) v.core.shape.seats))
     (λ other. inr (λ alone. other alone.0))
     (cases_eq v.core.seat 0)
 
@@ -35,32 +35,32 @@ known_is None Fact then is = absurd (cc (is))
 known_is (Some all) Fact then is = then all refl
 
 module _ {V : Type 0} (law : Plain → List V → Type 0) (first : ℕ → V) (fits : List ℕ → Type 0)
-    (z : Shape) (qs : List Quota) (slots id word : ℕ) (me : Me (Unit {0}) (SeatView V))
+    (z : Shape) (ts : Terms) (slots id word : ℕ) (me : Me (Unit {0}) (SeatView V))
     (here : me.0.gone ≡ false) where
   -- what the load tells
   abbrev Then : ℕ → Me (Unit {0}) (SeatView V) → Type 0
-  Then w m = HasRead fits z qs word w me.0 m.0 × (m.1 ≡ me.1)
+  Then w m = HasRead fits z ts word w me.0 m.0 × (m.1 ≡ me.1)
 
-  module _ (s : State (Unit {0}) (SeatView V)) (k : Kept law first fits z qs s)
+  module _ (s : State (Unit {0}) (SeatView V)) (k : Kept law first fits z ts s)
       (at : get_elem? s.views id ≡ some me.0) where
     before : IsTrueOf z k.core id me.0
-    before = true_of z qs s k id me.0 at here
+    before = true_of z ts s k id me.0 at here
 
     number : me.0.core.seat ≡ id
-    number = number_of z qs s k id me.0 at here
+    number = number_of z ts s k id me.0 at here
 
     seats : me.0.core.shape.seats ≡ z.seats
     seats =
-        let shape = ((kept_sound z qs s k).seats id (in_seats z qs s k id me.0 at)).same_shape in
+        let shape = ((kept_sound z ts s k).seats id (in_seats z ts s k id me.0 at)).same_shape in
         ap (λ (u : CoreView). u.shape.seats) before.core ∙ ap (λ (y : Shape). y.seats) shape
 
     -- what the history says of seat 0's trails, it says of a seat that is seat 0
-    trails : id ≡ 0 → length me.0.core.left_trails ≡ length (view_at k.core 0).left_trails
-    trails root = ap (λ (u : CoreView). length u.left_trails) before.core
-        ∙ ap (λ (n : ℕ). length (view_at k.core n).left_trails) root
+    trails : id ≡ 0 → length me.0.core.left_seats ≡ length (view_at k.core 0).left_seats
+    trails root = ap (λ (u : CoreView). length u.left_seats) before.core
+        ∙ ap (λ (n : ℕ). length (view_at k.core n).left_seats) root
 
-    history_tells : OthersLeft k.core ↔ (length (view_at k.core 0).left_trails + 1 ≡ z.seats)
-    history_tells = others_left z qs k.events k.core k.shape k.quotas k.history
+    history_tells : OthersLeft k.core ↔ (length (view_at k.core 0).left_seats + 1 ≡ z.seats)
+    history_tells = others_left z ts k.events k.core k.shape k.terms k.history
 
     others : IsAlone me.0 → OthersLeft k.core
     others alone =
@@ -80,7 +80,7 @@ module _ {V : Type 0} (law : Plain → List V → Type 0) (first : ℕ → V) (f
     -- what the table asks of a load
     abbrev Reads : Type 0
     Reads = (v : SeatView V) × (a : Act (Unit {0})) × Valid s.homes me.1 a
-        × Kept law first fits z qs (stepped s word (slice_index s.words word) id me.1 v a)
+        × Kept law first fits z ts (stepped s word (slice_index s.words word) id me.1 v a)
         × Then (slice_index s.words word) (v, carried_after me.1 a)
 
     -- the seat knows so much of the whole core from here on
@@ -111,12 +111,12 @@ module _ {V : Type 0} (law : Plain → List V → Type 0) (first : ℕ → V) (f
           (subst (λ (n : ℕ). get_elem? s.views n ≡ some t) root found) in
           (old.0, old.1 ∙ sym l)) 0 u e refl
 
-      kept : Kept law first fits z qs after
+      kept : Kept law first fits z ts after
       kept =
           let l = length-set s.views id told in
           let f = k.few in record {
             shape = k.shape;
-            quotas = k.quotas;
+            terms = k.terms;
             events = k.events;
             core = k.core;
             history = k.history;
@@ -131,10 +131,10 @@ module _ {V : Type 0} (law : Plain → List V → Type 0) (first : ℕ → V) (f
                 (sym (clients_same first z.seats s.views id me.0 told at refl)) k.client;
           }
 
-      found : FoundIn fits z qs told word (slice_index s.words word)
+      found : FoundIn fits z ts told word (slice_index s.words word)
       found = record {
         shape = k.shape;
-        quotas = k.quotas;
+        terms = k.terms;
         events = k.events;
         core = k.core;
         history = k.history;
@@ -149,7 +149,7 @@ module _ {V : Type 0} (law : Plain → List V → Type 0) (first : ℕ → V) (f
 
       answer : (IsSome me.0.whole → whole ≡ me.0.whole) → (IsAlone me.0 → IsSome whole) → Reads
       answer stays all =
-          let read : HasRead fits z qs word (slice_index s.words word) me.0 told = record {
+          let read : HasRead fits z ts word (slice_index s.words word) me.0 told = record {
             same = refl;
             stays = stays;
             knows = (known_alone, all);
@@ -169,5 +169,5 @@ module _ {V : Type 0} (law : Plain → List V → Type 0) (first : ℕ → V) (f
     allowed (inr others_here) = answer me.0.whole before.whole (λ _. refl)
         (λ alone. absurd (others_here alone))
 
-  pub reads : Allows (Kept law first fits z qs) slots id me word (λ w. w) Then
+  pub reads : Allows (Kept law first fits z ts) slots id me word (λ w. w) Then
   reads s k homes at small = allowed s k at (alone_cases me.0)

@@ -3,22 +3,22 @@ use Rattle.std.proofs.Common.{ℕ, ◌<◌, List, arith}
 use Rattle.core_events.specs.declared.act.Act.TheVariants as act
 use Rattle.core_events.specs.declared.outcome.Outcome.TheVariants as outcome
 use Rattle.core_events.specs.declared.shape.Shape.{Shape}
-use Rattle.core_events.specs.declared.shape.Quota.{Quota}
+use Rattle.core_events.specs.Views.{Terms}
 use Rattle.core_events.specs.declared.view.CoreView.{CoreView}
 use Rattle.core_events.specs.Good.{SeatLaw}
-use Rattle.core_events.specs.Runs.{IsShape, AreQuotas, taken_over}
+use Rattle.core_events.specs.Runs.{IsShape, AreTerms, taken_over}
 use Rattle.core_events.specs.Steps.{CanLeave, noted}
 use Rattle.core_events.specs.Views.{first_view}
 use Rattle.core_law.proofs.Leaves.{taken_law}
 use Rattle.core_invariant.proofs.Starts.{first_seat}
 use Rattle.domain_rule.specs.Views.{quota_at}
 
-pub opened_law : (z : Shape) (qs : List Quota) (n : ℕ) → IsShape z → AreQuotas z qs → n < z.seats
-    → SeatLaw z n (first_view z n (quota_at qs n))
-opened_law z qs n shape quotas hn =
-    let l = quotas.0 in
-    first_seat z n (quota_at qs n) shape.0
-    (quotas.1 n (record { makes = 0; adds = 0 }) (omega arith))
+pub opened_law : (z : Shape) (ts : Terms) (n : ℕ) → IsShape z → AreTerms z ts → n < z.seats
+    → SeatLaw z n (first_view z n (quota_at ts.quotas n) ts.grants)
+opened_law z ts n shape terms hn =
+    let l = terms.0 in
+    first_seat z n (quota_at ts.quotas n) ts.grants shape.0
+    (terms.1 n (record { makes = 0; adds = 0 }) (omega arith))
 
 pub joined_law : (z : Shape) (j : ℕ) (root v : CoreView) → SeatLaw z 0 root → SeatLaw z j v
     → CanLeave root → CanLeave v

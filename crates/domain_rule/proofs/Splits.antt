@@ -13,7 +13,7 @@ use Rattle.plain_state.specs.References.{held_in}
 use Rattle.plain_state.specs.State.{Plain, new_seat}
 use Rattle.plain_protocol.specs.Owns.{HasSlot}
 use Rattle.core_events.specs.declared.shape.Shape.{Shape}
-use Rattle.core_events.specs.declared.shape.Quota.{Quota}
+use Rattle.core_events.specs.Views.{Terms}
 use Rattle.core_events.specs.Runs.{Core, start}
 use Rattle.core_events.specs.Shows.{shows}
 use Rattle.domain_rule.specs.declared.view.Whole.{Whole}
@@ -37,21 +37,21 @@ knows_less z n c all some_seat more e =
     absurd (cc (several, e))
 
 module _ {V : Type 0} (law : Plain → List V → Type 0) (first : ℕ → V) (fits : List ℕ → Type 0)
-    (z : Shape) (qs : List Quota) (id : ℕ) (v : SeatView V) (here : v.gone ≡ false)
+    (z : Shape) (ts : Terms) (id : ℕ) (v : SeatView V) (here : v.gone ≡ false)
     (root : v.core.seat ≡ 0) (more : v.opened < z.seats) where
   abbrev left : SeatView V
   left = opened_more v
 
   abbrev new : SeatView V
-  new = opened_view first z qs v.opened
+  new = opened_view first z ts v.opened
 
-  module _ (s : State (Unit {0}) (SeatView V)) (k : Kept law first fits z qs s)
+  module _ (s : State (Unit {0}) (SeatView V)) (k : Kept law first fits z ts s)
       (at : get_elem? s.views id ≡ some v) where
     abbrev views : List (SeatView V)
     views = set s.views id left ++ new ∷ []
 
     first_seat : id ≡ 0
-    first_seat = is_root z qs s k id v at here root
+    first_seat = is_root z ts s k id v at here root
 
     count : v.opened ≡ length s.views
     count = (k.root v (subst (λ (n : ℕ). get_elem? s.views n ≡ some v) first_seat at)).1
@@ -70,12 +70,12 @@ module _ {V : Type 0} (law : Plain → List V → Type 0) (first : ℕ → V) (f
         let c = count in record {
           core = sym (k.unopened v.opened (omega arith) more);
           objects = λ s has. absurd (new_has_none s has);
-          whole = λ all e. absurd (knows_less z v.opened (start z qs) all (omega arith) more e);
+          whole = λ all e. absurd (knows_less z v.opened (start z ts) all (omega arith) more e);
         }
 
     left_true : IsTrueOf z k.core id left
     left_true =
-        let t = true_of z qs s k id v at here in
+        let t = true_of z ts s k id v at here in
         record { core = t.core; objects = t.objects; whole = t.whole }
 
     views_tell : (n : ℕ) (u : SeatView V) → get_elem? views n ≡ some u → Tells z k.core n u
@@ -104,12 +104,12 @@ module _ {V : Type 0} (law : Plain → List V → Type 0) (first : ℕ → V) (f
         ∙ clients_same first z.seats s.views id v left at refl
 
     -- the rule after the opening: the core stays as it is
-    kept_then : Kept law first fits z qs (record { words = s.words; homes = s.homes; views = views })
+    kept_then : Kept law first fits z ts (record { words = s.words; homes = s.homes; views = views })
     kept_then =
         let l = all_length in
         let c = count in record {
           shape = k.shape;
-          quotas = k.quotas;
+          terms = k.terms;
           events = k.events;
           core = k.core;
           history = k.history;
@@ -122,6 +122,6 @@ module _ {V : Type 0} (law : Plain → List V → Type 0) (first : ℕ → V) (f
           client = subst (law (shows z k.core)) (sym same_clients) k.client;
         }
 
-  pub splits : Splits (Kept law first fits z qs) id v (opened_more v)
-      (opened_view first z qs v.opened)
+  pub splits : Splits (Kept law first fits z ts) id v (opened_more v)
+      (opened_view first z ts v.opened)
   splits = kept_then

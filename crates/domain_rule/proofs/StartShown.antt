@@ -7,14 +7,15 @@ use Rattle.plain_state.specs.State.{PlainSeat, new_seat, new_slot, empty}
 use Rattle.core_events.specs.declared.shape.Shape.{Shape}
 use Rattle.core_events.specs.declared.shape.Quota.{Quota}
 use Rattle.core_events.specs.declared.view.CoreView.{CoreView}
-use Rattle.core_events.specs.Words.{ZERO, has_zero, slot_in, slot_at, cell_at, weak_cell_at, payload_at, first_words}
-use Rattle.core_events.specs.Counts.{stage_of}
-use Rattle.core_events.specs.Views.{first_view, first_views}
-use Rattle.core_events.specs.Runs.{start, view_at, AreQuotas}
-use Rattle.core_events.specs.Shows.{each_from, shows, show_seat, show_slot}
+use Rattle.core_events.specs.Words.{each_from, has_zero, slot_in, slot_at, cell_at, weak_cell_at, payload_at, first_words}
+use Rattle.core_events.specs.Counts.{Signs, stage_of}
+use Rattle.core_events.specs.Views.{Terms, first_view, first_views}
+use Rattle.core_events.specs.Runs.{start, view_at, AreTerms}
+use Rattle.core_events.specs.Shows.{shows, show_seat, show_slot}
 use Rattle.plain_state.specs.Lists.{times}
 use Rattle.core_invariant.proofs.Kit.{times_none}
-use Rattle.core_invariant.proofs.Starts.{low_at, strong_first, weak_first, field_first, field0, field1, weak_field, first_at, total_none}
+use Rattle.core_invariant.proofs.FirstWords.{low_at, strong_first, bit_first, ticket_first, field_first, field0, field1, weak_field}
+use Rattle.core_invariant.proofs.Starts.{first_at, total_none}
 use Rattle.core_shows.proofs.Frames.{plain_eq, slot_eq}
 use Rattle.core_shows.proofs.Lists.{each_same}
 use Rattle.domain_rule.specs.Views.{quota_at}
@@ -30,25 +31,26 @@ each_const i (suc n) f a same =
     (λ k h. let g : i + 1 + k ≡ i + suc k = omega arith in ap f g ∙ same (suc k) (omega arith)) in
     cc (head, tail)
 
-is_free : (strong weak fillers dying : ℕ) → weak ≡ ZERO → stage_of strong weak fillers dying ≡ Free
+is_free : (g : Signs) → g.bit ≡ 1 → stage_of g ≡ Free
 unfolding stage_of
-is_free strong weak fillers dying e = rw e refl
+is_free g e = rw e refl
 
-module _ (z : Shape) (qs : List Quota) where
+module _ (z : Shape) (ts : Terms) where
   -- seat n's view as it begins
-  pub first_seen : (n : ℕ) → AreQuotas z qs → n < z.seats
-      → view_at (start z qs) n ≡ first_view z n (quota_at qs n)
-  first_seen n quotas hn =
-      let l = quotas.0 in
+  pub first_seen : (n : ℕ) → AreTerms z ts → n < z.seats
+      → view_at (start z ts) n ≡ first_view z n (quota_at ts.quotas n) ts.grants
+  first_seen n terms hn =
+      let l = terms.0 in
       let e : 0 + n ≡ n = omega arith in
-      first_at z 0 n qs (record { makes = 0; adds = 0 }) (omega arith)
-      ∙ ap (λ (m : ℕ). first_view z m (quota_at qs n)) e
+      first_at z 0 n ts.quotas ts.grants (record { makes = 0; adds = 0 }) (omega arith)
+      ∙ ap (λ (m : ℕ). first_view z m (quota_at ts.quotas n) ts.grants) e
 
-  slot_first : (s : SlotId) → s.0 < z.slots → show_slot z (start z qs) s ≡ new_slot
+  slot_first : (s : SlotId) → s.0 < z.slots → show_slot z (start z ts) s ≡ new_slot
   slot_first s hs = slot_eq _ _ _ _ _ _ _ _ _ _ _ _ _ _
-      (is_free _ _ _ _ (weak_first z s hs))
+      (is_free _ (bit_first z s hs))
       (ap has_zero (strong_first z s hs))
-      (total_none (λ (v : CoreView). times s v.made) z 0 qs (λ n q. times_none s))
+      (total_none (λ (v : CoreView). times s v.made) z 0 ts.quotas ts.grants
+      (λ n q. times_none s))
       (each_same 16 (λ i. 0) (λ i. slice_index (first_words z) (payload_at z s i))
       (λ i h.
       let e : slot_at z s.0 + 5 + i ≡ slot_at z s.0 + (5 + i) = omega arith in
@@ -56,16 +58,17 @@ module _ (z : Shape) (qs : List Quota) where
       ∙ field_first z s (5 + i) hs (omega arith) (omega arith)))
       (ap slot_in (field0 z s hs)) (ap slot_in (field1 z s hs)) (ap slot_in (weak_field z s hs))
 
-  seats_first : (i : ℕ) (ps : List Quota) → map show_seat (first_views z i ps)
+  seats_first : (i : ℕ) (ps : List Quota) → map show_seat (first_views z i ps ts.grants)
       ≡ replicate (length ps) new_seat
   seats_first i [] = refl
   seats_first i (q ∷ ps) = ap (λ (vs : List PlainSeat). new_seat ∷ vs) (seats_first (i + 1) ps)
 
-  pub start_shown : AreQuotas z qs
-      → shows z (start z qs) ≡ empty z.seats z.slots z.cells z.weak_cells
-  start_shown quotas = plain_eq (empty z.seats z.slots z.cells z.weak_cells) (shows z (start z qs))
-      (seats_first 0 qs ∙ ap (λ (n : ℕ). replicate n new_seat) quotas.0)
+  pub start_shown : AreTerms z ts
+      → shows z (start z ts) ≡ empty z.seats z.slots z.cells z.weak_cells
+  start_shown terms = plain_eq (empty z.seats z.slots z.cells z.weak_cells) (shows z (start z ts))
+      (seats_first 0 ts.quotas ∙ ap (λ (n : ℕ). replicate n new_seat) terms.0)
       (each_const 0 z.cells _ _ (λ i h. ap slot_in (low_at z (cell_at z (0 + i)) (omega arith))))
       (each_const 0 z.weak_cells _ _
       (λ i h. ap slot_in (low_at z (weak_cell_at z (0 + i)) (omega arith))))
       (each_const 0 z.slots _ _ (λ x h. slot_first (record { 0 = 0 + x }) (omega arith)))
+      (ticket_first z)

@@ -7,7 +7,7 @@ use Rattle.atomic_table.specs.Table.{State}
 use Rattle.atomic_table.proofs.Lists.{at_set}
 use Rattle.plain_state.specs.State.{Plain}
 use Rattle.core_events.specs.declared.shape.Shape.{Shape}
-use Rattle.core_events.specs.declared.shape.Quota.{Quota}
+use Rattle.core_events.specs.Views.{Terms}
 use Rattle.core_events.specs.declared.view.CoreView.{CoreView}
 use Rattle.core_events.specs.Runs.{Core, view_at}
 use Rattle.core_invariant.specs.Sound.{Sound}
@@ -60,10 +60,10 @@ pub set_tells : {V : Type 0} (z : Shape) (c : Core) (views : List (SeatView V)) 
 set_tells z c views i w own others = set_all (Tells z c) views i w own others
 
 module _ {V : Type 0} {law : Plain → List V → Type 0} {first : ℕ → V} {fits : List ℕ → Type 0}
-    (z : Shape) (qs : List Quota) (s : State (Unit {0}) (SeatView V)) (k : Kept law first fits z qs s)
+    (z : Shape) (ts : Terms) (s : State (Unit {0}) (SeatView V)) (k : Kept law first fits z ts s)
   where
     pub kept_sound : Sound z k.core
-    kept_sound = history_sound z qs k.events k.core k.shape k.quotas k.history
+    kept_sound = history_sound z ts k.events k.core k.shape k.terms k.history
 
     module _ (n : ℕ) (v : SeatView V) (at : get_elem? s.views n ≡ some v) where
       pub in_seats : n < z.seats

@@ -6,9 +6,10 @@ use Rattle.plain_protocol.specs.Owns.{has_slot}
 use Rattle.core_events.specs.declared.act.Act.TheVariants as act
 use Rattle.core_events.specs.declared.outcome.Outcome.TheVariants as outcome
 use Rattle.core_events.specs.declared.shape.Shape.{Shape}
-use Rattle.core_events.specs.declared.shape.Quota.{Quota}
+use Rattle.core_events.specs.Views.{Terms}
 use Rattle.core_events.specs.Runs.{start, taken_over}
-use Rattle.core_events.specs.Shows.{each_from, show_seat}
+use Rattle.core_events.specs.Shows.{show_seat}
+use Rattle.core_events.specs.Words.{each_from}
 use Rattle.core_events.specs.Steps.{noted}
 use Rattle.core_events.specs.Views.{first_view, no_view}
 use Rattle.domain_rule.specs.declared.view.Known.{Known}
@@ -17,11 +18,11 @@ use Rattle.domain_rule.specs.Views.{known_of, object_in, objects_of, quota_at, w
 
 module _ {V : Type 0} where
   -- the view of seat n as it is opened; a domain of one seat begins with a seat that is alone
-  abbrev pub opened_view : (ℕ → V) → Shape → List Quota → ℕ → SeatView V
-  opened_view first z qs n = record {
-    core = first_view z n (quota_at qs n);
+  abbrev pub opened_view : (ℕ → V) → Shape → Terms → ℕ → SeatView V
+  opened_view first z ts n = record {
+    core = first_view z n (quota_at ts.quotas n) ts.grants;
     objects = objects_of (empty z.seats z.slots z.cells z.weak_cells);
-    whole = if z.seats == 1 then Some (whole_of (start z qs)) else None;
+    whole = if z.seats == 1 then Some (whole_of (start z ts)) else None;
     opened = 1;
     left_adds = 0;
     left_makes = 0;
@@ -30,8 +31,8 @@ module _ {V : Type 0} where
   }
 
   -- the first seat
-  abbrev pub first_of : (ℕ → V) → Shape → List Quota → SeatView V
-  first_of first z qs = opened_view first z qs 0
+  abbrev pub first_of : (ℕ → V) → Shape → Terms → SeatView V
+  first_of first z ts = opened_view first z ts 0
 
   -- seat 0 when one more seat has been opened
   abbrev pub opened_more : SeatView V → SeatView V

@@ -3,8 +3,8 @@ use Rattle.std.specs.Prelude.{ℕ, ◌≡◌, ◌↔◌, List, slice_index, IsSo
 use Rattle.plain_state.specs.Fits.{AllFit}
 use Rattle.core_events.specs.declared.act.Event.{Event}
 use Rattle.core_events.specs.declared.shape.Shape.{Shape}
-use Rattle.core_events.specs.declared.shape.Quota.{Quota}
-use Rattle.core_events.specs.Runs.{AreQuotas, Core, History, IsShape}
+use Rattle.core_events.specs.Views.{Terms}
+use Rattle.core_events.specs.Runs.{AreTerms, Core, History, IsShape}
 use Rattle.core_events.specs.Shows.{shows}
 use Rattle.domain_rule.specs.declared.view.SeatView.{SeatView}
 use Rattle.domain_rule.specs.Rule.{IsTrueOf}
@@ -12,20 +12,20 @@ use Rattle.domain_rule.specs.Views.{IsAlone}
 
 module _ {V : Type 0} (fits : List ℕ → Type 0) where
   -- a state that events reach, of which all that the view says is so, and that has w in word i
-  pub record FoundIn (z : Shape) (qs : List Quota) (v : SeatView V) (i w : ℕ) : Type 0 where
+  pub record FoundIn (z : Shape) (ts : Terms) (v : SeatView V) (i w : ℕ) : Type 0 where
     pub shape : IsShape z
-    pub quotas : AreQuotas z qs
+    pub terms : AreTerms z ts
     pub events : List Event
     pub core : Core
-    pub history : History z qs events core
+    pub history : History z ts events core
     pub fit : AllFit fits (shows z core)
     pub says : IsTrueOf z core v.core.seat v
     pub word : w ≡ slice_index core.words i
 
   -- The seat has read w in word i. Its view stays as it was, but that it knows the whole core now
   -- exactly where it is alone.
-  pub record HasRead (z : Shape) (qs : List Quota) (i w : ℕ) (old new : SeatView V) : Type 0 where
+  pub record HasRead (z : Shape) (ts : Terms) (i w : ℕ) (old new : SeatView V) : Type 0 where
     pub same : new ≡ record old { whole = new.whole }
     pub stays : IsSome old.whole → new.whole ≡ old.whole
     pub knows : IsSome new.whole ↔ IsAlone new
-    pub found : FoundIn z qs new i w
+    pub found : FoundIn z ts new i w

@@ -12,8 +12,8 @@ use Rattle.plain_state.specs.State.{Plain, slot_at}
 use Rattle.plain_protocol.specs.Owns.{HasSlot, object_of}
 use Rattle.core_events.specs.declared.act.Event.{Event}
 use Rattle.core_events.specs.declared.shape.Shape.{Shape}
-use Rattle.core_events.specs.declared.shape.Quota.{Quota}
-use Rattle.core_events.specs.Runs.{Core, view_at, History, IsShape, AreQuotas}
+use Rattle.core_events.specs.Views.{Terms}
+use Rattle.core_events.specs.Runs.{Core, view_at, History, IsShape, AreTerms}
 use Rattle.core_events.specs.Shows.{show_seat, shows}
 use Rattle.core_events.specs.Views.{first_view}
 use Rattle.domain_rule.specs.declared.view.Whole.{Whole}
@@ -44,12 +44,12 @@ module _ {V : Type 0} where
       ++ map first (range_with_len (length views) (seats - length views))
 
   pub record Kept (law : Plain → List V → Type 0) (first : ℕ → V) (fits : List ℕ → Type 0)
-      (z : Shape) (qs : List Quota) (s : State (Unit {0}) (SeatView V)) : Type 0 where
+      (z : Shape) (ts : Terms) (s : State (Unit {0}) (SeatView V)) : Type 0 where
     pub shape : IsShape z
-    pub quotas : AreQuotas z qs
+    pub terms : AreTerms z ts
     pub events : List Event
     pub core : Core
-    pub history : History z qs events core
+    pub history : History z ts events core
     pub words : s.words ≡ core.words
     pub few : (1 ≤ length s.views) × (length s.views ≤ z.seats)
     pub tells :
@@ -59,6 +59,6 @@ module _ {V : Type 0} where
         → (v.gone ≡ false) × (v.opened ≡ length s.views)
     pub unopened :
         (n : ℕ) → length s.views ≤ n → n < z.seats
-        → view_at core n ≡ first_view z n (quota_at qs n)
+        → view_at core n ≡ first_view z n (quota_at ts.quotas n) ts.grants
     pub fit : AllFit fits (shows z core)
     pub client : law (shows z core) (clients first z.seats s.views)

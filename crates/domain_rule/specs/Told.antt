@@ -5,31 +5,35 @@ use Rattle.plain_state.specs.declared.act.PlainAct.{PlainAct}
 use Rattle.plain_state.specs.declared.act.PlainAct.TheVariants as plain
 use Rattle.plain_state.specs.declared.slot.SlotId.{SlotId}
 use Rattle.plain_state.specs.Lists.{is_slot}
+use Rattle.plain_state.specs.Fits.{AllFit}
 use Rattle.plain_state.specs.State.{Plain}
 use Rattle.plain_protocol.specs.Owns.{Object, OwnPart, HasSlot}
 use Rattle.core_events.specs.declared.act.Act.{Act}
 use Rattle.core_events.specs.declared.act.Act.TheVariants as act
 use Rattle.core_events.specs.declared.act.Event.{Event}
 use Rattle.core_events.specs.declared.shape.Shape.{Shape}
-use Rattle.core_events.specs.declared.shape.Quota.{Quota}
+use Rattle.core_events.specs.Views.{Terms}
 use Rattle.core_events.specs.declared.view.CoreView.{CoreView}
 use Rattle.core_events.specs.declared.view.Phase.TheVariants as phase
 use Rattle.core_events.specs.Good.{SeatLaw}
-use Rattle.core_events.specs.Runs.{Core, History, Enabled, after, found, view_at}
+use Rattle.core_events.specs.Runs.{Core, History, IsShape, AreTerms, Enabled, after, found, view_at}
 use Rattle.core_events.specs.Shows.{show_seat, shows}
 use Rattle.core_events.specs.ShownSteps.{shown_act, shown_number}
 use Rattle.core_events.specs.Steps.{moved}
 use Rattle.domain_rule.specs.declared.view.Whole.{Whole}
 use Rattle.domain_rule.specs.declared.view.SeatView.{SeatView}
+use Rattle.domain_rule.specs.Rule.{IsTrueOf}
 use Rattle.domain_rule.specs.Views.{core_in, whole_of, object_in, own_of}
 
 -- a step of seat n, with the view v, in a history, which found w, and a fact of the plain states
 -- before and after it
-pub record Happened (z : Shape) (qs : List Quota) (n : ℕ) (v : CoreView) (a : Act) (w : ℕ)
+pub record Happened (z : Shape) (ts : Terms) (n : ℕ) (v : CoreView) (a : Act) (w : ℕ)
     (Fact : Plain → Plain → Type 0) : Type 0 where
+  pub shape : IsShape z
+  pub terms : AreTerms z ts
   pub events : List Event
   pub before : Core
-  pub history : History z qs events before
+  pub history : History z ts events before
   pub view : v ≡ view_at before n
   pub enabled : Enabled z before n a
   pub found : w ≡ found z before n a
@@ -59,13 +63,16 @@ module _ {V : Type 0} where
   whole_after z a v =
       option_map (λ all. whole_of (after z (core_in all) v.core.seat a)) v.whole
 
-  -- The seat has made a step that found w. `next` and `allows` are the deed's.
-  pub record Told (z : Shape) (qs : List Quota) (next : OwnPart → V → PlainAct → ℕ → V)
+  -- The seat has made a step that found w. `next` and `allows` are the deed's. What its view tells
+  -- is so before the step and after it, and so all payloads fit.
+  pub record Told (fits : List ℕ → Type 0) (z : Shape) (ts : Terms)
+      (next : OwnPart → OwnPart → V → PlainAct → ℕ → V)
       (allows : Plain → Plain → ℕ → V → V → Type 0) (a : Act) (v : SeatView V) (w : ℕ)
       (v' : SeatView V) : Type 0 where
     pub core : v'.core ≡ moved z a w v.core
     pub client :
-        v'.client ≡ next (own_of v) v.client (shown_act z a w v.core) (shown_number a w)
+        v'.client
+        ≡ next (own_of v) (own_of v') v.client (shown_act z a w v.core) (shown_number a w)
     pub objects :
         (s : SlotId) → HasSlot (show_seat v.core) s
         → object_in v' s ≡ changed_object (shown_act z a w v.core) s (object_in v s)
@@ -77,4 +84,7 @@ module _ {V : Type 0} where
     pub here : v'.gone ≡ false
     pub law : SeatLaw z v.core.seat v'.core
     pub happened :
-        Happened z qs v.core.seat v.core a w (λ p q. allows p q v.core.seat v.client v'.client)
+        Happened z ts v.core.seat v.core a w
+        (λ p q. AllFit fits p × AllFit fits q × allows p q v.core.seat v.client v'.client)
+    pub said : IsTrueOf z happened.before v.core.seat v
+    pub says : IsTrueOf z (after z happened.before v.core.seat a) v.core.seat v'

@@ -49,7 +49,7 @@ module _ {V : Type 0} where
 
   -- by its view it is seat 0, and every other seat has left
   abbrev pub IsAlone : SeatView V → Type 0
-  IsAlone v = (v.core.seat ≡ 0) × (length v.core.left_trails + 1 ≡ v.core.shape.seats)
+  IsAlone v = (v.core.seat ≡ 0) × (length v.core.left_seats + 1 ≡ v.core.shape.seats)
 
   -- a seat that is alone knows the whole core
   abbrev pub KnowsAll : SeatView V → Type 0

@@ -14,6 +14,8 @@ pub struct Charter<P> {
     pub protocol: P,
     pub shape: Shape,
     pub quotas: Vec<Quota>,
+    /// How many makes each ticket grants, by its number.
+    pub grants: Vec<u64>,
 }
 
 /// The rule of a domain's table.
@@ -23,7 +25,9 @@ pub struct DomainRule<P> {
 
 impl<P: Protocol> TableRule<(), SeatView<P::View>, Charter<P>> for DomainRule<P> {
     ghost holds = { λ key.
-        Kept (P.law key.protocol) (P.first key.protocol) P.Kind.fits key.shape key.quotas.items };
+        Kept (P.law key.protocol) (P.first key.protocol) P.Kind.fits key.shape
+        (record { quotas = key.quotas.items; grants = key.grants.items }) };
 
-    ghost first = { λ key. first_of (P.first key.protocol) key.shape key.quotas.items };
+    ghost first = { λ key. first_of (P.first key.protocol) key.shape
+        (record { quotas = key.quotas.items; grants = key.grants.items }) };
 }

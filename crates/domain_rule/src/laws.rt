@@ -3,7 +3,7 @@ ghost use Rattle.std.specs.Prelude.{ℕ, ◌≡◌, false, List};
 ghost use Rattle.atomic_table.specs.Table.{Allows, Me};
 ghost use Rattle.core_events.specs.declared.act.Act.{Act};
 ghost use Rattle.core_events.specs.declared.shape.Shape.{Shape};
-ghost use Rattle.core_events.specs.declared.shape.Quota.{Quota};
+ghost use Rattle.core_events.specs.Views.{Terms};
 ghost use Rattle.core_events.specs.ShownSteps.{shown_act};
 ghost use Rattle.core_events.specs.Steps.{May, next, place};
 ghost use Rattle.domain_rule.specs.declared.view.SeatView.{SeatView};
@@ -16,12 +16,12 @@ use plain_protocol::{Deed, Protocol};
 /// Where a seat may make an act, and a deed is ready for the plain step that the act shows, the step keeps the rule and
 /// tells the seat what it did.
 pub fn step_keeps<P: Protocol, D: Deed<P>>()
-    ensures { (it : P) (deed : D) (z : Shape) (qs : List Quota) (a : Act) (slots id : ℕ)
+    ensures { (it : P) (deed : D) (z : Shape) (ts : Terms) (a : Act) (slots id : ℕ)
         (me : Me (Unit {0}) (SeatView P.View))
         → me.0.gone ≡ false → KnowsAll me.0 → IsOwn a → May z a me.0.core
         → FitsStart P.Kind.fits a me.0
         → ((w : ℕ) → D.ready deed it (own_of me.0) me.0.client (shown_act z a w me.0.core))
-        → Allows (Kept (P.law it) (P.first it) P.Kind.fits z qs) slots id me
-        (place z a me.0.core) (next a)
-        (λ w m. Told z qs (D.next deed it) (D.allows deed it) a me.0 w m.0 × (m.1 ≡ me.1)) }
+        → Allows (Kept (P.law it) (P.first it) P.Kind.fits z ts) slots id me
+        (place z a me.0.core) (next a me.0.core)
+        (λ w m. Told P.Kind.fits z ts (D.next deed it) (D.allows deed it) a me.0 w m.0 × (m.1 ≡ me.1)) }
 {}

@@ -4,10 +4,10 @@ ghost use Rattle.atomic_table.specs.Table.{Allows, Joins, Me, Splits, opening};
 ghost use Rattle.core_events.specs.declared.act.Act.TheVariants as act;
 ghost use Rattle.core_events.specs.declared.outcome.Outcome.TheVariants as outcome;
 ghost use Rattle.core_events.specs.declared.shape.Shape.{Shape};
-ghost use Rattle.core_events.specs.declared.shape.Quota.{Quota};
+ghost use Rattle.core_events.specs.Views.{Terms};
 ghost use Rattle.core_events.specs.declared.view.CoreView.{CoreView};
 ghost use Rattle.core_events.specs.Good.{SeatLaw};
-ghost use Rattle.core_events.specs.Runs.{AreQuotas, IsShape, taken_over};
+ghost use Rattle.core_events.specs.Runs.{AreTerms, IsShape, taken_over};
 ghost use Rattle.core_events.specs.Steps.{CanLeave, noted};
 ghost use Rattle.core_events.specs.Views.{first_view};
 ghost use Rattle.core_events.specs.Words.{first_words};
@@ -21,41 +21,41 @@ use plain_protocol::Protocol;
 
 /// The rule holds of a table with the first words, and of its first seat.
 pub fn opening_keeps<P: Protocol>()
-    ensures { (it : P) (z : Shape) (qs : List Quota) → IsShape z → AreQuotas z qs
-        → Kept (P.law it) (P.first it) P.Kind.fits z qs
-        (opening (first_words z) [] (first_of (P.first it) z qs)) }
+    ensures { (it : P) (z : Shape) (ts : Terms) → IsShape z → AreTerms z ts
+        → Kept (P.law it) (P.first it) P.Kind.fits z ts
+        (opening (first_words z) [] (first_of (P.first it) z ts)) }
 {}
 
 /// Seat 0 keeps it where it opens one more seat.
 pub fn split_keeps<P: Protocol>()
-    ensures { (it : P) (z : Shape) (qs : List Quota) (id : ℕ) (v : SeatView P.View)
+    ensures { (it : P) (z : Shape) (ts : Terms) (id : ℕ) (v : SeatView P.View)
         → v.gone ≡ false → v.core.seat ≡ 0 → v.opened < z.seats
-        → Splits (Kept (P.law it) (P.first it) P.Kind.fits z qs) id v (opened_more v)
-        (opened_view (P.first it) z qs v.opened) }
+        → Splits (Kept (P.law it) (P.first it) P.Kind.fits z ts) id v (opened_more v)
+        (opened_view (P.first it) z ts v.opened) }
 {}
 
 /// Seat 0 keeps it where it takes over what another seat has, and that seat leaves.
 pub fn leave_keeps<P: Protocol>()
-    ensures { (it : P) (z : Shape) (qs : List Quota) (id other : ℕ) (v w : SeatView P.View)
+    ensures { (it : P) (z : Shape) (ts : Terms) (id other : ℕ) (v w : SeatView P.View)
         → v.gone ≡ false → w.gone ≡ false → v.core.seat ≡ 0
         → CanLeave v.core → CanLeave w.core
-        → Joins (Kept (P.law it) (P.first it) P.Kind.fits z qs) id v other w
+        → Joins (Kept (P.law it) (P.first it) P.Kind.fits z ts) id v other w
         (joined_view (P.joined it) v w) (gone_view P.gone) }
 {}
 
 /// A seat keeps it where it reads a word. What its view says is so of the state in which it read, and from then on it
 /// knows the whole core exactly where it is alone.
 pub fn reading_keeps<P: Protocol>()
-    ensures { (it : P) (z : Shape) (qs : List Quota) (slots id word : ℕ)
+    ensures { (it : P) (z : Shape) (ts : Terms) (slots id word : ℕ)
         (me : Me (Unit {0}) (SeatView P.View)) → me.0.gone ≡ false
-        → Allows (Kept (P.law it) (P.first it) P.Kind.fits z qs) slots id me word (λ w. w)
-        (λ w m. HasRead P.Kind.fits z qs word w me.0 m.0 × (m.1 ≡ me.1)) }
+        → Allows (Kept (P.law it) (P.first it) P.Kind.fits z ts) slots id me word (λ w. w)
+        (λ w m. HasRead P.Kind.fits z ts word w me.0 m.0 × (m.1 ≡ me.1)) }
 {}
 
 /// What holds of a seat by itself holds as it is opened,
 pub fn opened_seat_law()
-    ensures { (z : Shape) (qs : List Quota) (n : ℕ) → IsShape z → AreQuotas z qs → n < z.seats
-        → SeatLaw z n (first_view z n (quota_at qs n)) }
+    ensures { (z : Shape) (ts : Terms) (n : ℕ) → IsShape z → AreTerms z ts → n < z.seats
+        → SeatLaw z n (first_view z n (quota_at ts.quotas n) ts.grants) }
 {}
 
 /// and of seat 0 where it takes over what a seat has that leaves.

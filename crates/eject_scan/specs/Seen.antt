@@ -2,7 +2,7 @@
 use Rattle.std.specs.Prelude.{ℕ, ◌==◌, ◌&&◌, ◌^◌, not, nat_lt, Bool, List, count_by}
 use Rattle.std.specs.List.{filter}
 use Rattle.plain_state.specs.declared.slot.Kind.{Kind}
-use Rattle.plain_state.specs.declared.slot.Kind.TheVariants.{Strong, Weak}
+use Rattle.plain_state.specs.declared.slot.Kind.TheVariants.{Strong, Weak, Disposal}
 use Rattle.plain_state.specs.declared.slot.SlotId.{SlotId}
 use Rattle.announce_slots.specs.Words.{word_of}
 
@@ -10,6 +10,7 @@ use Rattle.announce_slots.specs.Words.{word_of}
 abbrev pub number_of : Kind → ℕ
 number_of Strong = 0
 number_of Weak = 1
+number_of Disposal = 2
 
 -- the word announces the slot under this kind; no word announces a slot of 2^22 or more
 abbrev pub is_announced_by : Kind → SlotId → ℕ → Bool

@@ -75,6 +75,7 @@ impl Announced for Seen {
         let word = match kind {
             Kind::Strong => encode(0, slot.0),
             Kind::Weak => encode(1, slot.0),
+            Kind::Disposal => encode(2, slot.0),
         };
         count(&self.words, word) as u32
     }

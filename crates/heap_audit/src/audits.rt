@@ -31,7 +31,7 @@ pub fn audit<W: PayloadKind, F: Fn(&[u64; 16]) -> u64>(
     requires range { IsInRange heap.now }
     requires lawful { IsLawful heap.now }
     requires fits { HasFittingPayloads W.fits heap.now }
-    requires weighs { Weighs W.fits W.weight F.Fn weigh.now.closure }
+    requires weighs { Weighs W.fits W.weight F.Fn weigh.now }
     requires ranked { length rank.now ≡ length heap.now.slots.items }
     ensures live { IfOk result (λ found. found.live ≡ live_slots heap.now) }
     ensures deferred { IfOk result (λ found. found.deferred ≡ length heap.now.deferred.items) }

@@ -24,7 +24,7 @@ pub fn weigh_live<W: PayloadKind, F: Fn(&[u64; 16]) -> u64>(
 ) -> u64
     requires few { length slots.now ≤ 2 ^ 22 }
     requires fits { All (λ x. x.strong < 2 ^ 63 → W.fits x.payload) slots.now }
-    requires weighs { Weighs W.fits W.weight F.Fn weigh.now.closure }
+    requires weighs { Weighs W.fits W.weight F.Fn weigh.now }
     ensures { result ≡ sum_by (weight_of W.weight) slots.now }
 {
     let mut bytes = 0;

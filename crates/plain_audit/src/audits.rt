@@ -22,7 +22,7 @@ pub fn audit_heap<W: PayloadKind, F: Fn(&[u64; 16]) -> u64>(
     rank: &[u64],
 ) -> Result<Audit, OutOfMemory>
     requires settled { IsSettled heap.now }
-    requires weighs { Weighs W.fits W.weight F.Fn weigh.now.closure }
+    requires weighs { Weighs W.fits W.weight F.Fn weigh.now }
     requires ranked { length rank.now ≡ length heap.now.slots }
     ensures { IfOk result (IsAudit W.weight rank.now heap.now) }
 {

@@ -5,7 +5,7 @@ use Rattle.std.proofs.lemmas.Bool.{cases_lt}
 use Rattle.std.proofs.lemmas.List.Sums.{sum_by-cons}
 use Rattle.std.proofs.lemmas.Bool.Decides.{nat_tests}
 use Rattle.plain_state.specs.declared.slot.Kind.{Kind}
-use Rattle.plain_state.specs.declared.slot.Kind.TheVariants.{Strong, Weak}
+use Rattle.plain_state.specs.declared.slot.Kind.TheVariants.{Strong, Weak, Disposal}
 use Rattle.plain_state.specs.declared.slot.SlotId.{SlotId}
 use Rattle.plain_state.specs.Lists.{Entry, same_kind, is_entry, entry_times}
 use Rattle.retire_batch.specs.Ejection.{Announcements, left_after, kept, ejected, IsSublist}
@@ -13,8 +13,13 @@ use Rattle.retire_batch.specs.Ejection.{Announcements, left_after, kept, ejected
 same_kind_eq : (k l : Kind) → same_kind k l ≡ true → k ≡ l
 same_kind_eq Strong Strong e = refl
 same_kind_eq Strong Weak e = cc
+same_kind_eq Strong Disposal e = cc
 same_kind_eq Weak Strong e = cc
 same_kind_eq Weak Weak e = refl
+same_kind_eq Weak Disposal e = cc
+same_kind_eq Disposal Strong e = cc
+same_kind_eq Disposal Weak e = cc
+same_kind_eq Disposal Disposal e = refl
 
 -- two slots with one number are one slot
 slot_eq : (s x : SlotId) → x.0 ≡ s.0 → s ≡ x

@@ -74,6 +74,22 @@ fn kinds_are_told_apart_and_the_order_stays(rt: HostRuntime) -> Result<(), Fail>
 }
 
 #[test]
+fn a_disposal_announcement_holds_no_reference_back(rt: HostRuntime) -> Result<(), Fail> {
+    let mut batch = Batch::with_room(rt.alloc(), 2)?;
+    batch.push(Kind::Strong, SlotId(3));
+    batch.push(Kind::Weak, SlotId(3));
+    batch.split(&Only {
+        kind: Kind::Disposal,
+        slot: SlotId(3),
+        times: 2,
+    });
+    assert_eq!(rt; batch.len(), 0);
+    assert_eq!(rt; batch.next_owed(), Some((Kind::Strong, SlotId(3))));
+    assert_eq!(rt; batch.next_owed(), Some((Kind::Weak, SlotId(3))));
+    Ok(())
+}
+
+#[test]
 fn what_another_batch_has_comes_last(rt: HostRuntime) -> Result<(), Fail> {
     let mut batch = Batch::with_room(rt.alloc(), 3)?;
     let mut other = Batch::with_room(rt.alloc(), 3)?;
