@@ -26,7 +26,8 @@ use Rattle.core_invariant.specs.Sound.{Sound}
 use Rattle.core_invariant.proofs.Kit.{one_same, in_word_same, entry_cons}
 use Rattle.core_invariant.proofs.Held.{held_named}
 use Rattle.core_invariant.proofs.Writes.{IsPlace, place_bound, places_at}
-use Rattle.core_invariant.proofs.Steady.{named_in_range, in_finish, in_help, in_zero, in_bare, in_blank, in_give}
+use Rattle.core_invariant.proofs.Steady.{named_in_range}
+use Rattle.core_invariant.proofs.Phases.{in_finish, in_help, in_zero, in_bare, in_blank, in_give}
 use Rattle.core_invariant.proofs.Bits.{bits_bound}
 
 module _ (z : Shape) (n : ℕ) (v : CoreView) (law : SeatLaw z n v) where

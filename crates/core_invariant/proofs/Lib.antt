@@ -8,6 +8,8 @@ pub mod Held
 pub mod InRange
 pub mod Put
 pub mod Steady
+pub mod Wrote
+pub mod Phases
 pub mod Splits
 pub mod Parts
 pub mod Joined

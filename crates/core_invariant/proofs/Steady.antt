@@ -1,8 +1,8 @@
 -- Steps that leave notes, retired entries and scans as they are, and write no place: the counters'
 -- steps.
-use Rattle.std.proofs.Common.{◌≡◌, ◌≢◌, ◌⊎◌, inl, ⊎_elim, ℕ, ◌+◌, ◌*◌, ◌%◌, ◌^◌, ◌<◌, ◌≤◌, true, false, List, [], length, get_or, set, refl, ap, sym, ◌∙◌, arith}
+use Rattle.std.proofs.Common.{◌≡◌, ◌⊎◌, inl, ⊎_elim, ℕ, ◌+◌, ◌*◌, ◌^◌, ◌<◌, ◌≤◌, true, false, List, [], length, get_or, set, refl, ap, sym, ◌∙◌, arith}
 use Rattle.std.specs.Prelude.{slice_index}
-use Rattle.std.proofs.lemmas.List.{get_or-set_same, get_or-set_other}
+use Rattle.std.proofs.lemmas.List.{get_or-set_other}
 use Rattle.std.proofs.lemmas.Bool.{cases_lt}
 use Rattle.plain_state.specs.declared.slot.Kind.{Kind}
 use Rattle.plain_state.specs.declared.slot.Kind.TheVariants.{Strong, Weak, Disposal}
@@ -11,21 +11,20 @@ use Rattle.core_events.specs.declared.shape.Shape.{Shape}
 use Rattle.core_events.specs.declared.view.CoreView.{CoreView}
 use Rattle.core_events.specs.declared.view.Note.{Note}
 use Rattle.core_events.specs.declared.view.Note.TheVariants as note
-use Rattle.core_events.specs.declared.view.Phase.{Phase}
 use Rattle.core_events.specs.declared.view.Phase.TheVariants as phase
 use Rattle.plain_state.specs.Lists.{times}
-use Rattle.core_events.specs.Words.{strong_at, weak_at, note_at, bits_at, bit_in, bitmaps, ticket_at}
+use Rattle.core_events.specs.Words.{note_at, bits_at, bit_in, bitmaps, ticket_at}
 use Rattle.core_events.specs.Views.{no_view, note_of, allowed_makes}
 use Rattle.core_events.specs.Runs.{Core, view_at}
-use Rattle.core_events.specs.Counts.{naming, listed, places, adds_used, guarding, one, finishing, helping, baring, filling, giving, in_phase, in_note}
+use Rattle.core_events.specs.Counts.{naming, listed, adds_used, guarding, in_note}
 use Rattle.core_events.specs.Good.{SeatLaw, TicketLaw, word_of_note}
 use Rattle.core_invariant.specs.Slots.{numbers, SlotLaw}
 use Rattle.core_invariant.specs.Sound.{Sound, covering}
-use Rattle.core_invariant.proofs.Writes.{OffPlaces, OffNotes, OffBits, strong_off, weak_off, past_off, places_off, fields_sum_off, fields_sum}
-use Rattle.core_invariant.proofs.Kit.{one_same, one_other, noting_at}
-use Rattle.core_invariant.proofs.Bits.{bits_off, bits_other, ticket_off}
+use Rattle.core_invariant.proofs.Writes.{OffPlaces, OffNotes, OffBits, places_off}
+use Rattle.core_invariant.proofs.Kit.{one_same, noting_at}
+use Rattle.core_invariant.proofs.Bits.{bits_off, ticket_off}
 use Rattle.core_invariant.proofs.Guards.{guards_all}
-use Rattle.core_invariant.proofs.Put.{put, put_sound, announced_put, guarded_put, unripe_put, tickets_put, fit_put, ripe_times, at_seat, SameWords, SamePhase}
+use Rattle.core_invariant.proofs.Put.{put, put_sound, announced_put, guarded_put, unripe_put, tickets_put, fit_put, ripe_times, at_seat}
 
 -- a slot that a seat names is there
 pub named_in_range : (z : Shape) (n : ℕ) (v : CoreView) (s : SlotId) → SeatLaw z n v
@@ -230,244 +229,3 @@ keeps_live z c n ws u law same ne dies lives a x hx unripe =
     let g' = guards_all a Disposal x u (same.seen ∙ nothing_seen z n (view_at c n) law ne) in
     let d = dies x unripe in
     let l = lives x hx in ((λ pos. omega arith), (λ pos. omega arith))
-
--- the words of a slot after a write of its strong word
-pub record WroteStrong (z : Shape) (ws : List ℕ) (s : SlotId) (w : ℕ) : Type 0 where
-  pub is : slice_index (set ws (strong_at z s) w) (strong_at z s) ≡ w
-  pub weak : slice_index (set ws (strong_at z s) w) (weak_at z s) ≡ slice_index ws (weak_at z s)
-  pub bit : bit_in s (slice_index (set ws (strong_at z s) w) (bits_at z s))
-      ≡ bit_in s (slice_index ws (bits_at z s))
-  pub strong_places : places Strong z (set ws (strong_at z s) w) s ≡ places Strong z ws s
-  pub weak_places : places Weak z (set ws (strong_at z s) w) s ≡ places Weak z ws s
-  pub fields : fields_sum z (set ws (strong_at z s) w) s ≡ fields_sum z ws s
-
-pub strong_before : (z : Shape) (s : SlotId) → s.0 < z.slots → OffBits z (strong_at z s)
-strong_before z s h = omega arith
-
-pub weak_before : (z : Shape) (s : SlotId) → s.0 < z.slots → OffBits z (weak_at z s)
-weak_before z s h = omega arith
-
-pub wrote_strong : (z : Shape) (ws : List ℕ) (s : SlotId) (w : ℕ) → s.0 < z.slots
-    → strong_at z s < length ws → WroteStrong z ws s w
-wrote_strong z ws s w hs h = record {
-  is = get_or-set_same ws (strong_at z s) w 0 h;
-  weak = get_or-set_other ws (strong_at z s) (weak_at z s) w 0 (omega arith);
-  bit = bits_off z ws (strong_at z s) w s (strong_before z s hs);
-  strong_places = places_off z ws (strong_at z s) w (strong_off z s).0 Strong s;
-  weak_places = places_off z ws (strong_at z s) w (strong_off z s).0 Weak s;
-  fields = fields_sum_off z ws (strong_at z s) w s (λ i l. omega arith) (omega arith);
-}
-
-pub strong_other : (z : Shape) (ws : List ℕ) (s : SlotId) (w : ℕ) (x : SlotId) → s.0 < z.slots
-    → x.0 ≢ s.0 → SameWords z ws (set ws (strong_at z s) w) x
-strong_other z ws s w x hs ne = record {
-  strong = get_or-set_other ws (strong_at z s) (strong_at z x) w 0 (omega arith);
-  weak = get_or-set_other ws (strong_at z s) (weak_at z x) w 0 (omega arith);
-  bit = bits_off z ws (strong_at z s) w x (strong_before z s hs);
-  strong_places = places_off z ws (strong_at z s) w (strong_off z s).0 Strong x;
-  weak_places = places_off z ws (strong_at z s) w (strong_off z s).0 Weak x;
-  fields = fields_sum_off z ws (strong_at z s) w x (λ i l. omega arith) (omega arith);
-}
-
--- the words of a slot after a write of its weak word
-pub record WroteWeak (z : Shape) (ws : List ℕ) (s : SlotId) (w : ℕ) : Type 0 where
-  pub is : slice_index (set ws (weak_at z s) w) (weak_at z s) ≡ w
-  pub strong : slice_index (set ws (weak_at z s) w) (strong_at z s) ≡ slice_index ws (strong_at z s)
-  pub bit : bit_in s (slice_index (set ws (weak_at z s) w) (bits_at z s))
-      ≡ bit_in s (slice_index ws (bits_at z s))
-  pub strong_places : places Strong z (set ws (weak_at z s) w) s ≡ places Strong z ws s
-  pub weak_places : places Weak z (set ws (weak_at z s) w) s ≡ places Weak z ws s
-  pub fields : fields_sum z (set ws (weak_at z s) w) s ≡ fields_sum z ws s
-
-pub wrote_weak : (z : Shape) (ws : List ℕ) (s : SlotId) (w : ℕ) → s.0 < z.slots
-    → weak_at z s < length ws → WroteWeak z ws s w
-wrote_weak z ws s w hs h = record {
-  is = get_or-set_same ws (weak_at z s) w 0 h;
-  strong = get_or-set_other ws (weak_at z s) (strong_at z s) w 0 (omega arith);
-  bit = bits_off z ws (weak_at z s) w s (weak_before z s hs);
-  strong_places = places_off z ws (weak_at z s) w (weak_off z s).0 Strong s;
-  weak_places = places_off z ws (weak_at z s) w (weak_off z s).0 Weak s;
-  fields = fields_sum_off z ws (weak_at z s) w s (λ i l. omega arith) (omega arith);
-}
-
-pub weak_other : (z : Shape) (ws : List ℕ) (s : SlotId) (w : ℕ) (x : SlotId) → s.0 < z.slots
-    → x.0 ≢ s.0 → SameWords z ws (set ws (weak_at z s) w) x
-weak_other z ws s w x hs ne = record {
-  strong = get_or-set_other ws (weak_at z s) (strong_at z x) w 0 (omega arith);
-  weak = get_or-set_other ws (weak_at z s) (weak_at z x) w 0 (omega arith);
-  bit = bits_off z ws (weak_at z s) w x (weak_before z s hs);
-  strong_places = places_off z ws (weak_at z s) w (weak_off z s).0 Strong x;
-  weak_places = places_off z ws (weak_at z s) w (weak_off z s).0 Weak x;
-  fields = fields_sum_off z ws (weak_at z s) w x (λ i l. omega arith) (omega arith);
-}
-
--- the words of a slot, and of others, after a write of the word that has its bit
-pub record WroteBit (z : Shape) (ws : List ℕ) (s : SlotId) (w : ℕ) : Type 0 where
-  pub is : slice_index (set ws (bits_at z s) w) (bits_at z s) ≡ w
-  pub strong : slice_index (set ws (bits_at z s) w) (strong_at z s) ≡ slice_index ws (strong_at z s)
-  pub weak : slice_index (set ws (bits_at z s) w) (weak_at z s) ≡ slice_index ws (weak_at z s)
-  pub strong_places : places Strong z (set ws (bits_at z s) w) s ≡ places Strong z ws s
-  pub weak_places : places Weak z (set ws (bits_at z s) w) s ≡ places Weak z ws s
-  pub fields : fields_sum z (set ws (bits_at z s) w) s ≡ fields_sum z ws s
-
-pub bits_past : (z : Shape) (s : SlotId) → OffPlaces z (bits_at z s) × OffNotes z (bits_at z s)
-bits_past z s = past_off z (bits_at z s) (omega arith)
-
-pub wrote_bit : (z : Shape) (ws : List ℕ) (s : SlotId) (w : ℕ) → s.0 < z.slots
-    → bits_at z s < length ws → WroteBit z ws s w
-wrote_bit z ws s w hs h = record {
-  is = get_or-set_same ws (bits_at z s) w 0 h;
-  strong = get_or-set_other ws (bits_at z s) (strong_at z s) w 0 (omega arith);
-  weak = get_or-set_other ws (bits_at z s) (weak_at z s) w 0 (omega arith);
-  strong_places = places_off z ws (bits_at z s) w (bits_past z s).0 Strong s;
-  weak_places = places_off z ws (bits_at z s) w (bits_past z s).0 Weak s;
-  fields = fields_sum_off z ws (bits_at z s) w s (λ i l. omega arith) (omega arith);
-}
-
-pub bit_other : (z : Shape) (ws : List ℕ) (s : SlotId) (w : ℕ) (x : SlotId) → x.0 < z.slots
-    → bits_at z s < length ws → x.0 ≢ s.0
-    → (x.0 % 64 ≢ s.0 % 64 → bit_in x w ≡ bit_in x (slice_index ws (bits_at z s)))
-    → SameWords z ws (set ws (bits_at z s) w) x
-bit_other z ws s w x hx h ne keeps = record {
-  strong = get_or-set_other ws (bits_at z s) (strong_at z x) w 0 (omega arith);
-  weak = get_or-set_other ws (bits_at z s) (weak_at z x) w 0 (omega arith);
-  bit = bits_other z ws s x w h ne keeps;
-  strong_places = places_off z ws (bits_at z s) w (bits_past z s).0 Strong x;
-  weak_places = places_off z ws (bits_at z s) w (bits_past z s).0 Weak x;
-  fields = fields_sum_off z ws (bits_at z s) w x (λ i l. omega arith) (omega arith);
-}
-
--- what a phase counts
-pub record Counted (p : Phase) (x : SlotId) (fin hlp bar fill giv named : ℕ) : Type 0 where
-  pub finish : finishing x p ≡ fin
-  pub help : helping x p ≡ hlp
-  pub bares : baring x p ≡ bar
-  pub fills : filling x p ≡ fill
-  pub gives : giving x p ≡ giv
-  pub names : in_phase x p ≡ named
-
-pub in_idle : (p : Phase) (x : SlotId) → p ≡ phase.Idle → Counted p x 0 0 0 0 0 0
-in_idle p x e =
-    rw e (record { finish = refl; help = refl; bares = refl; fills = refl; gives = refl; names = refl })
-
-pub in_scan : (p : Phase) (x : SlotId) → p ≡ phase.Scan → Counted p x 0 0 0 0 0 0
-in_scan p x e =
-    rw e (record { finish = refl; help = refl; bares = refl; fills = refl; gives = refl; names = refl })
-
-pub in_finish : (p : Phase) (x s : SlotId) → p ≡ phase.Finish s
-    → Counted p x (one x s) 0 0 0 0 (one x s)
-in_finish p x s e =
-    rw e (record { finish = refl; help = refl; bares = refl; fills = refl; gives = refl; names = refl })
-
-pub in_help : (p : Phase) (x s : SlotId) → p ≡ phase.Help s
-    → Counted p x 0 (one x s) 0 0 0 (one x s)
-in_help p x s e =
-    rw e (record { finish = refl; help = refl; bares = refl; fills = refl; gives = refl; names = refl })
-
-pub in_zero : (p : Phase) (x s : SlotId) → p ≡ phase.Zero s
-    → Counted p x 0 0 0 0 0 (one x s)
-in_zero p x s e =
-    rw e (record { finish = refl; help = refl; bares = refl; fills = refl; gives = refl; names = refl })
-
-pub in_bare : (p : Phase) (x s : SlotId) → p ≡ phase.Bare s
-    → Counted p x 0 0 (one x s) 0 0 (one x s)
-in_bare p x s e =
-    rw e (record { finish = refl; help = refl; bares = refl; fills = refl; gives = refl; names = refl })
-
-pub in_blank : (p : Phase) (x s : SlotId) → p ≡ phase.Blank s
-    → Counted p x 0 0 0 (one x s) 0 (one x s)
-in_blank p x s e =
-    rw e (record { finish = refl; help = refl; bares = refl; fills = refl; gives = refl; names = refl })
-
-pub in_give : (p : Phase) (x s : SlotId) → p ≡ phase.Give s
-    → Counted p x 0 0 0 0 (one x s) (one x s)
-in_give p x s e =
-    rw e (record { finish = refl; help = refl; bares = refl; fills = refl; gives = refl; names = refl })
-
--- the phase is of no other slot than s
-abbrev pub IsAbout : SlotId → Phase → Type 0
-IsAbout s p = (x : SlotId) → x.0 ≢ s.0 → Counted p x 0 0 0 0 0 0
-
-pub about_idle : (s : SlotId) (p : Phase) → p ≡ phase.Idle → IsAbout s p
-about_idle s p e x ne = in_idle p x e
-
-pub about_finish : (s : SlotId) (p : Phase) → p ≡ phase.Finish s → IsAbout s p
-about_finish s p e x ne = let o = one_other x s (λ f. ne (sym f)) in let c = in_finish p x s e in
-    record {
-      finish = omega arith;
-      help = omega arith;
-      bares = omega arith;
-      fills = omega arith;
-      gives = omega arith;
-      names = omega arith;
-    }
-
-pub about_help : (s : SlotId) (p : Phase) → p ≡ phase.Help s → IsAbout s p
-about_help s p e x ne = let o = one_other x s (λ f. ne (sym f)) in let c = in_help p x s e in
-    record {
-      finish = omega arith;
-      help = omega arith;
-      bares = omega arith;
-      fills = omega arith;
-      gives = omega arith;
-      names = omega arith;
-    }
-
-pub about_zero : (s : SlotId) (p : Phase) → p ≡ phase.Zero s → IsAbout s p
-about_zero s p e x ne = let o = one_other x s (λ f. ne (sym f)) in let c = in_zero p x s e in
-    record {
-      finish = omega arith;
-      help = omega arith;
-      bares = omega arith;
-      fills = omega arith;
-      gives = omega arith;
-      names = omega arith;
-    }
-
-pub about_bare : (s : SlotId) (p : Phase) → p ≡ phase.Bare s → IsAbout s p
-about_bare s p e x ne = let o = one_other x s (λ f. ne (sym f)) in let c = in_bare p x s e in
-    record {
-      finish = omega arith;
-      help = omega arith;
-      bares = omega arith;
-      fills = omega arith;
-      gives = omega arith;
-      names = omega arith;
-    }
-
-pub about_blank : (s : SlotId) (p : Phase) → p ≡ phase.Blank s → IsAbout s p
-about_blank s p e x ne = let o = one_other x s (λ f. ne (sym f)) in let c = in_blank p x s e in
-    record {
-      finish = omega arith;
-      help = omega arith;
-      bares = omega arith;
-      fills = omega arith;
-      gives = omega arith;
-      names = omega arith;
-    }
-
-pub about_give : (s : SlotId) (p : Phase) → p ≡ phase.Give s → IsAbout s p
-about_give s p e x ne = let o = one_other x s (λ f. ne (sym f)) in let c = in_give p x s e in
-    record {
-      finish = omega arith;
-      help = omega arith;
-      bares = omega arith;
-      fills = omega arith;
-      gives = omega arith;
-      names = omega arith;
-    }
-
--- two such phases stand alike to every other slot
-pub same_phase : (s : SlotId) (p q : Phase) → IsAbout s p → IsAbout s q → (x : SlotId) → x.0 ≢ s.0
-    → SamePhase x p q
-same_phase s p q about about' x ne =
-    let a = about x ne in
-    let b = about' x ne in
-    record {
-      fin = omega arith;
-      hlp = omega arith;
-      bar = omega arith;
-      fill = omega arith;
-      giv = omega arith;
-      names = omega arith;
-    }

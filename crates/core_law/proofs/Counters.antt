@@ -20,7 +20,8 @@ use Rattle.core_invariant.proofs.Kit.{one_same, one_other, times_push, times_wit
 use Rattle.core_invariant.proofs.Held.{held_taken, held_named}
 use Rattle.core_invariant.proofs.Put.{put, adds_fit, at_seat}
 use Rattle.core_invariant.proofs.SlotSame.{slot_same}
-use Rattle.core_invariant.proofs.Steady.{named_in_range, in_idle, in_finish}
+use Rattle.core_invariant.proofs.Steady.{named_in_range}
+use Rattle.core_invariant.proofs.Phases.{in_idle, in_finish}
 use Rattle.core_law.proofs.StrongSteps as slot
 use Rattle.core_law.proofs.StrongSteps.{same_weak, same_strong}
 use Rattle.core_law.proofs.Live.{live_most, is_low, dead_goes_on, count_few, owned_counts, plus_fits, minus_fits}

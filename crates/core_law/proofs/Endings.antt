@@ -16,7 +16,8 @@ use Rattle.core_invariant.specs.Sound.{Sound}
 use Rattle.core_invariant.proofs.Kit.{one_same, one_other, times_push}
 use Rattle.core_invariant.proofs.Put.{put, adds_fit}
 use Rattle.core_invariant.proofs.SlotSame.{slot_same}
-use Rattle.core_invariant.proofs.Steady.{named_in_range, not_left, in_finish, in_help, in_zero}
+use Rattle.core_invariant.proofs.Steady.{named_in_range, not_left}
+use Rattle.core_invariant.proofs.Phases.{in_finish, in_help, in_zero}
 use Rattle.core_law.proofs.StrongSteps as slot
 use Rattle.core_law.proofs.StrongSteps.{same_weak, same_strong}
 use Rattle.core_law.proofs.Live.{live_most, is_asked}

@@ -42,7 +42,7 @@ use Rattle.core_law.proofs.Tickets.{ticket_step}
 use Rattle.core_law.proofs.Weaks as weak_word
 use Rattle.core_law.proofs.Notes as announced
 use Rattle.core_law.proofs.Scans as scan
-use Rattle.core_law.proofs.Exchange.{exchange_step, IsAlive}
+use Rattle.core_law.proofs.ExchangeStep.{exchange_step, IsAlive}
 use Rattle.core_law.proofs.KeepsCounts.{longer, is_one, not_one, add_keeps, drop_keeps, pay_keeps, finish_keeps, take_keeps, count_keeps, mark_keeps}
 
 module _ (z : Shape) (c : Core) (n : ℕ) (so : Sound z c) (hn : n < z.seats) where

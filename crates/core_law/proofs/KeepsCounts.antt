@@ -26,7 +26,8 @@ use Rattle.core_invariant.proofs.Kit.{one_same, entry_cons}
 use Rattle.core_invariant.proofs.InRange.{owed_named}
 use Rattle.core_invariant.proofs.Flags.{flags, cleared}
 use Rattle.core_invariant.proofs.Put.{put, adds_fit}
-use Rattle.core_invariant.proofs.Steady.{named_in_range, in_finish, in_help}
+use Rattle.core_invariant.proofs.Steady.{named_in_range}
+use Rattle.core_invariant.proofs.Phases.{in_finish, in_help}
 use Rattle.core_law.proofs.OneWord.{trail_step}
 use Rattle.core_law.proofs.Counters as counter
 use Rattle.core_law.proofs.Endings as ending

@@ -9,6 +9,7 @@ pub mod Lives
 pub mod Notes
 pub mod Scans
 pub mod Exchange
+pub mod ExchangeStep
 pub mod Leaves
 pub mod Tickets
 pub mod KeepsCounts

@@ -15,7 +15,8 @@ use Rattle.core_invariant.specs.Slots.{numbers}
 use Rattle.core_invariant.specs.Sound.{Sound}
 use Rattle.core_invariant.proofs.Kit.{one_same, one_other, times_push, total_at}
 use Rattle.core_invariant.proofs.Put.{put, at_seat}
-use Rattle.core_invariant.proofs.Steady.{named_in_range, not_left, in_idle, in_bare, in_blank, in_give}
+use Rattle.core_invariant.proofs.Steady.{named_in_range, not_left}
+use Rattle.core_invariant.proofs.Phases.{in_idle, in_bare, in_blank, in_give}
 use Rattle.core_law.proofs.WeakSteps as slot
 use Rattle.core_law.proofs.StrongSteps.{same_strong}
 use Rattle.core_law.proofs.Live.{giver_clear, live_most, is_low}

@@ -23,7 +23,9 @@ use Rattle.core_invariant.proofs.Kit.{slot_cases}
 use Rattle.core_invariant.proofs.Writes.{strong_off, weak_off}
 use Rattle.core_invariant.proofs.Put.{put, step_sound, announced_put, guarded_put, unripe_put, tickets_put, at_seat, Totals, totals, Alike, alike, laws_but, law_alike, ripe_times}
 use Rattle.core_invariant.proofs.Guards.{guards_same}
-use Rattle.core_invariant.proofs.Steady.{SameRest, IsAbout, about_idle, about_finish, about_help, about_zero, about_bare, about_blank, about_give, same_phase, steady_seat, steady_sound, keeps_live, KeepsLive, WroteStrong, wrote_strong, strong_other, strong_before, WroteWeak, wrote_weak, weak_other, weak_before, WroteBit, wrote_bit, bit_other, bits_past, off_rest}
+use Rattle.core_invariant.proofs.Steady.{SameRest, steady_seat, steady_sound, keeps_live, KeepsLive, off_rest}
+use Rattle.core_invariant.proofs.Phases.{IsAbout, about_idle, about_finish, about_help, about_zero, about_bare, about_blank, about_give, same_phase}
+use Rattle.core_invariant.proofs.Wrote.{WroteStrong, wrote_strong, strong_other, strong_before, WroteWeak, wrote_weak, weak_other, weak_before, WroteBit, wrote_bit, bit_other, bits_past}
 use Rattle.core_invariant.proofs.Bits.{bits_bound, bits_other}
 
 -- what a step on a counter or a bit may change of a view

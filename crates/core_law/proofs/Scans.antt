@@ -26,7 +26,8 @@ use Rattle.core_invariant.proofs.Flags.{live_taken}
 use Rattle.core_invariant.proofs.Held.{guard_le, total_le}
 use Rattle.core_invariant.proofs.Splits.{seen_at, kept_times, split_times, split_length, ripened_times, ripens_not}
 use Rattle.core_invariant.proofs.Put.{put, step_sound, announced_put, guarded_put, unripe_put, tickets_put, at_seat, adds_fit, law_alike}
-use Rattle.core_invariant.proofs.Steady.{Counted, in_idle, in_scan, noted_in_range}
+use Rattle.core_invariant.proofs.Phases.{Counted, in_idle, in_scan}
+use Rattle.core_invariant.proofs.Steady.{noted_in_range}
 use Rattle.core_law.proofs.Live.{dying_once}
 use Rattle.core_invariant.proofs.Guards.{guards_all, guards_open, guards_passed, passed_cases, read_passed}
 

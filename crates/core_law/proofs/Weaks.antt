@@ -19,7 +19,8 @@ use Rattle.core_invariant.specs.Sound.{Sound}
 use Rattle.core_invariant.proofs.Kit.{one_same, one_other, times_push, times_without, total_at}
 use Rattle.core_invariant.proofs.Held.{held_taken, held_named}
 use Rattle.core_invariant.proofs.Put.{put, at_seat, ripe_times}
-use Rattle.core_invariant.proofs.Steady.{named_in_range, in_idle, in_give}
+use Rattle.core_invariant.proofs.Steady.{named_in_range}
+use Rattle.core_invariant.proofs.Phases.{in_idle, in_give}
 use Rattle.core_law.proofs.WeakSteps as slot
 use Rattle.core_law.proofs.StrongSteps.{same_strong}
 use Rattle.core_law.proofs.Live.{plus_fits, minus_fits}

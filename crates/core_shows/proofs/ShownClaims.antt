@@ -24,7 +24,8 @@ use Rattle.core_invariant.specs.Sound.{Sound}
 use Rattle.core_invariant.proofs.Bits.{bit_most, bits_bound, bits_other, taken_bit, taken_other}
 use Rattle.core_invariant.proofs.Kit.{slot_cases, one_same, one_other}
 use Rattle.core_invariant.proofs.Put.{put, at_seat}
-use Rattle.core_invariant.proofs.Steady.{named_in_range, in_idle, in_bare}
+use Rattle.core_invariant.proofs.Steady.{named_in_range}
+use Rattle.core_invariant.proofs.Phases.{in_idle, in_bare}
 use Rattle.core_shows.proofs.Bridge.{shown_seat, shown_slot}
 use Rattle.core_shows.proofs.Changes.{bit_changes, bit_written, bits_there}
 use Rattle.core_shows.proofs.Does as does

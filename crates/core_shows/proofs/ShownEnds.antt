@@ -30,7 +30,8 @@ use Rattle.core_invariant.proofs.Kit.{one_same, one_other, times_push}
 use Rattle.core_invariant.proofs.Flags.{Flags, flags, cleared, live_low}
 use Rattle.core_invariant.proofs.Parts.{value_is}
 use Rattle.core_invariant.proofs.Put.{put, at_seat, adds_fit}
-use Rattle.core_invariant.proofs.Steady.{named_in_range, in_finish, in_help, in_zero}
+use Rattle.core_invariant.proofs.Steady.{named_in_range}
+use Rattle.core_invariant.proofs.Phases.{in_finish, in_help, in_zero}
 use Rattle.core_shows.proofs.Bridge.{shown_seat, shown_slot, shown_strong}
 use Rattle.core_shows.proofs.Changes.{strong_changes}
 use Rattle.core_shows.proofs.Does as does

@@ -26,7 +26,8 @@ use Rattle.core_invariant.proofs.Bits.{given_bit, given_other}
 use Rattle.core_invariant.proofs.Flags.{live_low}
 use Rattle.core_invariant.proofs.Kit.{one_same, one_other, times_push, times_without, total_at}
 use Rattle.core_invariant.proofs.Put.{put, at_seat}
-use Rattle.core_invariant.proofs.Steady.{named_in_range, in_blank, in_give}
+use Rattle.core_invariant.proofs.Steady.{named_in_range}
+use Rattle.core_invariant.proofs.Phases.{in_blank, in_give}
 use Rattle.core_shows.proofs.Bridge.{shown_seat, shown_slot, shown_weak}
 use Rattle.core_shows.proofs.Changes.{strong_changes, weak_changes, bit_changes, bits_there}
 use Rattle.core_shows.proofs.Does as does

@@ -15,9 +15,9 @@ pub fn fits_stay<K: PayloadKind>()
     ensures { KeepsFitting K.fits }
 {}
 
-/// What a protocol may rest on where it proves that calm steps keep its law: they leave every cell, the tickets, the life
-/// and the mark of every slot, and the payload and the fields of every live one; they make no slot live; and what a weak
-/// cell holds goes on to be an object, with its payload.
+/// What a protocol may rest on where it proves that calm steps keep its law: they leave every cell, the tickets, the
+/// life and the mark of every slot, and the payload and the fields of every live one; they make no slot live; and what
+/// a weak cell holds goes on to be an object, with its payload.
 pub fn calm_steps_leave()
     ensures { (p q : Plain) (n : ℕ) (step : PlainAct) (found : ℕ) → Lawful p → IsCalm step
         → Does p n step found q → IsCalmed p q }

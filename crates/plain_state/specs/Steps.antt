@@ -68,8 +68,8 @@ Leaves p j q =
     }
 
 -- The table of steps: seat n's act, the number that it finds, and the state q that it leads to. The number is the
--- word found in a place, the strong count for Count, Mark and Alive, 1 for an Add that found the zero mark, the number of the
--- ticket for Ticket, and else 0.
+-- word found in a place, the strong count for Count, Mark and Alive, 1 for an Add that found the zero mark, the number
+-- of the ticket for Ticket, and else 0.
 abbrev pub Row : Plain → ℕ → PlainAct → ℕ → Plain → Type 0
 Row p n (act.Claim s) found q =
     let v = seat_at p n in let x = slot_at p s in
