@@ -1,0 +1,5 @@
+pub mod Finds
+pub mod Deferred
+pub mod Ledger
+pub mod Destroys
+pub mod Always

@@ -1,0 +1,57 @@
+//! Promises about histories, and about each event that is enabled where the invariant holds.
+ghost use Rattle.std.specs.Prelude.{ℕ, ◌<◌, List};
+ghost use Rattle.plain_state.specs.Lawful.{Lawful};
+ghost use Rattle.plain_state.specs.declared.slot.SlotId.{SlotId};
+ghost use Rattle.core_events.specs.declared.act.Act.{Act};
+ghost use Rattle.core_events.specs.declared.act.Event.{Event};
+ghost use Rattle.core_events.specs.declared.shape.Shape.{Shape};
+ghost use Rattle.core_events.specs.Runs.{AreEnabled, AreTerms, Core, Enabled, History, IsShape, found, run, start, view_at};
+ghost use Rattle.core_events.specs.Shows.{shows};
+ghost use Rattle.core_events.specs.Steps.{answer};
+ghost use Rattle.core_events.specs.Views.{Terms};
+ghost use Rattle.core_invariant.specs.Sound.{Sound};
+ghost use Rattle.core_shows.specs.Shown.{AllShow};
+ghost use Rattle.core_promises.specs.Finds.{DeferredFit, NeverWraps, TellsTruly};
+ghost use Rattle.core_promises.specs.Destroyed.{DestroyedOnce};
+
+/// After every list of events that are enabled in turn the core shows a lawful plain state.
+pub fn always_lawful()
+    ensures { (z : Shape) (ts : Terms) (es : List Event) → IsShape z → AreTerms z ts
+        → AreEnabled z (start z ts) es → Lawful (shows z (run z (start z ts) es)) }
+{}
+
+/// So does every state that has a history: the state of a running domain between any two steps.
+pub fn history_lawful()
+    ensures { (z : Shape) (ts : Terms) (es : List Event) (c : Core) → IsShape z → AreTerms z ts
+        → History z ts es c → Lawful (shows z c) }
+{}
+
+/// Each of these events shows exactly one plain step.
+pub fn always_shows()
+    ensures { (z : Shape) (ts : Terms) (es : List Event) → IsShape z → AreTerms z ts
+        → AreEnabled z (start z ts) es → AllShow z (start z ts) es }
+{}
+
+/// No counter word wraps, in either direction.
+pub fn never_wraps()
+    ensures { (z : Shape) (c : Core) (n : ℕ) (a : Act) → Sound z c → Enabled z c n a
+        → NeverWraps z c n a }
+{}
+
+/// An answer about an object tells what is so at that step: an upgrade fails only on a count that is 0 then, who is
+/// told that it has ended an object found none that refer to it, and who is told that one is alive found one that does.
+pub fn answers_tell_truly()
+    ensures { (z : Shape) (c : Core) (n : ℕ) (a : Act) → Sound z c → Enabled z c n a
+        → TellsTruly z c n a (answer z a (found z c n a) (view_at c n)) }
+{}
+
+/// What is deferred is bounded by the sizes of the domain.
+pub fn deferred_fit()
+    ensures { (z : Shape) (c : Core) → Sound z c → DeferredFit z c }
+{}
+
+/// Over every history each object is destroyed at most once.
+pub fn destroyed_once()
+    ensures { (z : Shape) (ts : Terms) (es : List Event) (c : Core) (s : SlotId) → IsShape z
+        → AreTerms z ts → History z ts es c → s.0 < z.slots → DestroyedOnce z es c s }
+{}
