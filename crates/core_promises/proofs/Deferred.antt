@@ -1,5 +1,5 @@
 -- What is deferred stays within the rooms of the seats that are there.
-use Rattle.std.proofs.Common.{◌≡◌, ⊎_elim, ℕ, zero, suc, ◌+◌, ◌*◌, ◌<◌, ◌≤◌, Bool, true, false, List, [], ◌∷◌, length, get_or, refl, ap, sym, ◌∙◌, arith}
+use Rattle.std.proofs.Common.{◌≡◌, ℕ, zero, suc, ◌<◌, ◌≤◌, Bool, true, false, List, [], ◌∷◌, length, get_or, refl, ap, arith}
 use Rattle.std.specs.Prelude.{if◌then◌else◌}
 use Rattle.std.proofs.lemmas.List.Sums.{sum_by-cons}
 use Rattle.core_events.specs.declared.shape.Shape.{Shape}
@@ -7,7 +7,7 @@ use Rattle.core_events.specs.declared.view.CoreView.{CoreView}
 use Rattle.core_events.specs.Counts.{total}
 use Rattle.core_events.specs.Good.{staying_room}
 use Rattle.core_events.specs.Runs.{Core, view_at}
-use Rattle.core_events.specs.Views.{no_view, room_of}
+use Rattle.core_events.specs.Views.{no_view}
 use Rattle.core_invariant.specs.Sound.{Sound}
 use Rattle.core_promises.specs.Finds.{DeferredFit, deferred}
 

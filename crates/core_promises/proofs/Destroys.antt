@@ -1,8 +1,7 @@
 -- Over every history each object is destroyed at most once.
-use Rattle.std.proofs.Common.{◌≡◌, ℕ, ◌+◌, ◌<◌, Bool, true, false, List, [], ◌∷◌, length, refl, ap, sym, ◌∙◌, subst, arith}
+use Rattle.std.proofs.Common.{◌≡◌, ℕ, ◌<◌, Bool, true, false, List, [], ◌∷◌, refl, ap, sym, subst, arith}
 use Rattle.std.specs.Prelude.{◌==◌, if◌then◌else◌}
 use Rattle.plain_state.specs.declared.act.PlainAct.{PlainAct}
-use Rattle.plain_state.specs.declared.act.PlainAct.TheVariants as plain
 use Rattle.plain_state.specs.declared.slot.PlainSlot.{PlainSlot}
 use Rattle.plain_state.specs.declared.slot.SlotId.{SlotId}
 use Rattle.plain_state.specs.declared.slot.Stage.TheVariants.{Free}
@@ -14,12 +13,12 @@ use Rattle.core_events.specs.declared.shape.Shape.{Shape}
 use Rattle.core_events.specs.declared.view.CoreView.{CoreView}
 use Rattle.core_events.specs.declared.view.Note.{Note}
 use Rattle.core_events.specs.declared.view.Note.TheVariants as note
-use Rattle.core_events.specs.Counts.{Signs, stage, stage_of}
-use Rattle.core_events.specs.Runs.{AreTerms, Core, Enabled, History, IsShape, after, start, view_at}
-use Rattle.core_events.specs.Shows.{lives, show_slot, shows}
+use Rattle.core_events.specs.Counts.{Signs, signs, stage, stage_of}
+use Rattle.core_events.specs.Runs.{AreTerms, Core, Enabled, History, IsShape, after, found, start, view_at}
+use Rattle.core_events.specs.Shows.{show_slot, shows}
 use Rattle.core_events.specs.ShownSteps.{shown_act, ejects, releases, is_ripe_field}
 use Rattle.core_events.specs.Steps.{is_last}
-use Rattle.core_events.specs.Views.{Terms, note_of, slot_of}
+use Rattle.core_events.specs.Views.{Terms, note_of}
 use Rattle.core_events.specs.Words.{has_help, bit_in}
 use Rattle.core_invariant.specs.Sound.{Sound}
 use Rattle.core_invariant.proofs.Each.{length_each}
@@ -30,8 +29,8 @@ use Rattle.core_law.proofs.Always.{history_sound}
 use Rattle.core_shows.proofs.Bridge.{shown_slot}
 use Rattle.core_shows.proofs.Events.{event_shows}
 use Rattle.core_shows.proofs.Lawful.{shows_lawful}
-use Rattle.core_promises.specs.Destroyed.{DestroyedOnce, destroyed, destroys, standing}
-use Rattle.core_promises.proofs.Ledger.{Balanced, balanced, falls}
+use Rattle.core_promises.specs.Destroyed.{DestroyedOnce, destroys, standing}
+use Rattle.core_promises.proofs.Ledger.{balanced, falls}
 
 module _ (s : SlotId) where
   -- of two steps it is one or the other, and neither destroys
@@ -86,7 +85,8 @@ free_signs g e = rw e refl
 module _ (z : Shape) (s : SlotId) (hs : s.0 < z.slots) where
   first_once : (ts : Terms) → DestroyedOnce z [] (start z ts) s
   first_once ts =
-      let free = ap standing (free_signs _ (bit_first z s hs)) in
+      let free : standing (stage z (start z ts) s) ≡ 0 =
+      ap standing (free_signs (signs z (start z ts) s) (bit_first z s hs)) in
       let none = total_none (λ (v : CoreView). times s v.made) z 0 ts.quotas ts.grants
       (λ n q. times_none s) in omega arith
 
@@ -96,8 +96,8 @@ module _ (z : Shape) (s : SlotId) (hs : s.0 < z.slots) where
   step_once es c n a so on before =
       let l = length_each 0 z.slots (λ x. show_slot z c (record { 0 = x })) in
       let b = balanced (shows z c) (shows z (after z c n a)) n s (omega arith) (shows_lawful z c so)
-      _ _ (event_shows z c n a so on) in
-      let f = falls_as s z a _ (view_at c n) in
+      (shown_act z a (found z c n a) (view_at c n)) _ (event_shows z c n a so on) in
+      let f = falls_as s z a (found z c n a) (view_at c n) in
       let stage_then = ap (λ (x : PlainSlot). standing x.stage) (shown_slot z (after z c n a) s hs) in
       let life_then = ap (λ (x : PlainSlot). x.life) (shown_slot z (after z c n a) s hs) in
       let stage_now = ap (λ (x : PlainSlot). standing x.stage) (shown_slot z c s hs) in

@@ -1,5 +1,5 @@
 -- What an event finds in its counter word, and what its answer tells, by the law of the slot.
-use Rattle.std.proofs.Common.{◌≡◌, ◌≢◌, ⊎_elim, ℕ, ◌+◌, ◌<◌, ◌≤◌, ◌^◌, Bool, true, false, List, [], ◌∷◌, length, refl, ap, sym, ◌∙◌, subst, arith}
+use Rattle.std.proofs.Common.{◌≡◌, ◌≢◌, ℕ, ◌+◌, ◌<◌, ◌≤◌, ◌^◌, Bool, true, false, List, [], ◌∷◌, length, refl, ap, sym, ◌∙◌, subst, arith}
 use Rattle.std.specs.Prelude.{slice_index, nat_lt, ◌==◌, if◌then◌else◌}
 use Rattle.std.proofs.lemmas.Bool.Decides.{nat_tests}
 use Rattle.plain_state.specs.declared.slot.Kind.{Kind}
@@ -8,25 +8,24 @@ use Rattle.plain_state.specs.declared.slot.SlotId.{SlotId}
 use Rattle.plain_state.specs.Lists.{Entry, times, entry_times}
 use Rattle.core_events.specs.declared.act.Act.{Act}
 use Rattle.core_events.specs.declared.act.Act.TheVariants as act
-use Rattle.core_events.specs.declared.outcome.Outcome.{Outcome}
 use Rattle.core_events.specs.declared.outcome.Outcome.TheVariants as outcome
 use Rattle.core_events.specs.declared.shape.Shape.{Shape}
 use Rattle.core_events.specs.declared.view.CoreView.{CoreView}
-use Rattle.core_events.specs.declared.view.Note.{Note}
-use Rattle.core_events.specs.declared.view.Note.TheVariants as note
 use Rattle.core_events.specs.declared.view.Phase.{Phase}
 use Rattle.core_events.specs.declared.view.Phase.TheVariants as phase
-use Rattle.core_events.specs.Counts.{adds_used, in_phase, listed, naming, one, refs, strong, weak, dying_times, total}
+use Rattle.core_events.specs.Counts.{adds_used, in_phase, listed, naming, refs, strong, weak}
 use Rattle.core_events.specs.Good.{SeatLaw}
 use Rattle.core_events.specs.Runs.{Core, Enabled, found, view_at}
 use Rattle.core_events.specs.Steps.{answer, owed_at}
 use Rattle.core_events.specs.Views.{Holds, note_of, slot_noted, slot_of}
-use Rattle.core_events.specs.Words.{ZERO, HELP, has_help, low, strong_at, weak_at, value}
+use Rattle.core_events.specs.Words.{ZERO, HELP, has_help, low, value}
 use Rattle.core_invariant.specs.Slots.{Numbers, SlotLaw, numbers, free, bare, blank, counted, asked, over, husk}
 use Rattle.core_invariant.specs.Sound.{Sound}
-use Rattle.core_invariant.proofs.Flags.{Flags, flags}
+use Rattle.core_invariant.proofs.Flags.{flags}
 use Rattle.core_invariant.proofs.Held.{held_named}
-use Rattle.core_invariant.proofs.Kit.{one_same, total_at, adds_fit, entry_cons, entry_one}
+use Rattle.core_invariant.proofs.Kit.{one_same, total_at}
+use Rattle.core_invariant.proofs.Put.{adds_fit}
+use Rattle.plain_state.proofs.Kit.{entry_cons, entry_self}
 use Rattle.core_invariant.proofs.Parts.{sound_good, value_is}
 use Rattle.core_invariant.proofs.Steady.{named_in_range}
 use Rattle.core_promises.specs.Finds.{NeverWraps, TellsTruly}
@@ -108,7 +107,7 @@ module _ (z : Shape) (c : Core) (n : ℕ) (so : Sound z c) where
         first : 0 < entry_times k s ((k, s) ∷ es)
         first =
             let e = entry_cons k s (k, s) es in
-            let o = entry_one k s in omega arith
+            let o = entry_self k s in omega arith
 
         go : (l : Kind) → 0 < entry_times l s (view_at c n).owed
             → 0 < slice_index c.words (owed_at z ((l, s) ∷ es))
@@ -231,13 +230,13 @@ module _ (z : Shape) (c : Core) (n : ℕ) (so : Sound z c) where
   tells_truly act.Finish on =
       let named = phase_named on.1.0 (phase.Finish on.1.0) (one_same _ _ refl) (sym on.1.1) in
       let is = ap slot_of on.1.1 in
-      finish_ended (slot_of v.phase) _ (value_here on.0 (slot_of v.phase)
+      finish_ended (slot_of v.phase) (strong z c (slot_of v.phase)) (value_here on.0 (slot_of v.phase)
       (subst (λ (s : SlotId). 0 < naming s (view_at c n)) (sym is) named))
   tells_truly act.Take on =
       let named = phase_named on.1.0 (phase.Help on.1.0) (one_same _ _ refl) (sym on.1.1) in
       let is = ap slot_of on.1.1 in
       let here = subst (λ (s : SlotId). 0 < naming s (view_at c n)) (sym is) named in
-      take_ended (slot_of v.phase) _ (value_here on.0 (slot_of v.phase) here)
+      take_ended (slot_of v.phase) (strong z c (slot_of v.phase)) (value_here on.0 (slot_of v.phase) here)
       (flags (adds_used c) (numbers z c (slot_of v.phase)) (slot on.0 (slot_of v.phase) here)
       (fit on.0)).help
   tells_truly (act.Count s) on = tt
@@ -249,7 +248,7 @@ module _ (z : Shape) (c : Core) (n : ℕ) (so : Sound z c) where
   tells_truly (act.Alive j) on =
       let held = holds_named on.0 on.1.2.0 on.1.2.2 in
       let is = ap slot_noted on.1.2.1 in
-      alive_counts (slot_noted (note_of v j)) _ (value_here on.0 (slot_noted (note_of v j))
+      alive_counts (slot_noted (note_of v j)) (strong z c (slot_noted (note_of v j))) (value_here on.0 (slot_noted (note_of v j))
       (subst (λ (s : SlotId). 0 < naming s (view_at c n)) (sym is) held))
   tells_truly act.Scan on = tt
   tells_truly (act.Swap p new) on = tt

@@ -1,8 +1,7 @@
 -- A plain step gives a slot a life with an object that stands, and only a destroy makes one fall.
 use Rattle.std.proofs.Common.{◌≡◌, ◌≢◌, ⊎_elim, ℕ, ◌+◌, ◌<◌, Bool, true, false, List, length, get_or, set, refl, ap, sym, ◌∙◌, subst, arith}
 use Rattle.std.specs.Prelude.{◌==◌, if◌then◌else◌, Option, None}
-use Rattle.std.proofs.lemmas.List.{get_or-set_same, get_or-set_other, set_past}
-use Rattle.std.proofs.lemmas.Bool.{cases_lt}
+use Rattle.std.proofs.lemmas.List.{get_or-set_same, get_or-set_other}
 use Rattle.std.proofs.lemmas.Bool.Decides.{nat_tests}
 use Rattle.plain_state.specs.declared.act.EventPlace.{EventPlace}
 use Rattle.plain_state.specs.declared.act.EventPlace.TheVariants.{Cell, Field, WeakCell, WeakField}
@@ -15,8 +14,8 @@ use Rattle.plain_state.specs.declared.slot.Stage.TheVariants.{Free, Blank, Live,
 use Rattle.plain_state.specs.Lawful.{Lawful}
 use Rattle.plain_state.specs.Lists.{is_slot, times}
 use Rattle.plain_state.specs.Places.{with_content, with_field}
-use Rattle.plain_state.specs.State.{Plain, PlainSeat, new_slot, seat_at, slot_at, stage_at, with_seat, with_slot}
-use Rattle.plain_state.specs.Steps.{Does, Replaces}
+use Rattle.plain_state.specs.State.{Plain, PlainSeat, new_slot, seat_at, slot_at, stage_at, with_slot}
+use Rattle.plain_state.specs.Steps.{Does}
 use Rattle.plain_state.proofs.Kit.{cases_slot, seats_at, times_lost}
 use Rattle.core_promises.specs.Destroyed.{standing}
 
@@ -43,7 +42,7 @@ module _ (p q : Plain) (n : ℕ) (s : SlotId) (there : s.0 < length p.slots) whe
   same : (r : Plain) → q ≡ r → slot_at r s ≡ slot_at p s → Balanced 0 (slot_at p s) (slot_at q s)
   same r is kept =
       let e = ap (λ (x : Plain). slot_at x s) is ∙ kept in
-      still _ _ (ap (λ (x : PlainSlot). x.stage) e) (ap (λ (x : PlainSlot). x.life) e)
+      still (slot_at p s) (slot_at q s) (ap (λ (x : PlainSlot). x.stage) e) (ap (λ (x : PlainSlot). x.life) e)
 
   -- a slot is written
   wrote : (r : Plain) (x : SlotId) (y : PlainSlot) → q ≡ with_slot r x y → r.slots ≡ p.slots
@@ -78,14 +77,15 @@ module _ (p q : Plain) (n : ℕ) (s : SlotId) (there : s.0 < length p.slots) whe
     where
       field : (b : Bool) (new : Option SlotId) (x : PlainSlot)
           → Balanced 0 x (if b then record x { first = new } else record x { second = new })
-      field true new x = refl
-      field false new x = refl
+      field true new x = still x (record x { first = new }) refl refl
+      field false new x = still x (record x { second = new }) refl refl
   put r (WeakCell i) new is slots =
       same _ is (ap (λ (l : List PlainSlot). get_or l s.0 new_slot) slots)
   put r (WeakField x) new is slots =
       let at = ap (λ (l : List PlainSlot). get_or l x.0 new_slot) slots in
       wrote r x (record (slot_at r x) { weak_field = new }) is slots
-      (subst (λ (t : PlainSlot). Balanced 0 t (record (slot_at r x) { weak_field = new })) at refl)
+      (subst (λ (t : PlainSlot). Balanced 0 t (record (slot_at r x) { weak_field = new })) at
+      (still (slot_at r x) (record (slot_at r x) { weak_field = new }) refl refl))
 
   -- the object in x is destroyed
   fell : (r : Plain) (x : SlotId) → q ≡ with_slot r x (record (slot_at p x) { stage = Husk })
@@ -126,10 +126,16 @@ module _ (p q : Plain) (n : ℕ) (s : SlotId) (there : s.0 < length p.slots) whe
     pub balanced : (step : PlainAct) (found : ℕ) → Does p n step found q
         → Balanced (falls s step) (slot_at p s) (slot_at q s)
     balanced (plain.Claim x) found d =
-        wrote _ x _ d.1.4 refl (moves (slot_at p x) Free Blank _ 0 _ d.1.1 refl refl (omega arith))
-    balanced (plain.Fill x i w) found d = wrote p x _ d.1.4 refl refl
+        let y : PlainSlot = record (slot_at p x) { stage = Blank } in
+        wrote _ x y d.1.4 refl
+        (moves (slot_at p x) Free Blank (slot_at p x).life 0 y d.1.1 refl refl (omega arith))
+    balanced (plain.Fill x i w) found d =
+        let y : PlainSlot = record (slot_at p x) { payload = set (slot_at p x).payload i w } in
+        wrote p x y d.1.4 refl (still (slot_at p x) y refl refl)
     balanced (plain.Make x) found d =
-        wrote _ x _ d.1.3 refl (moves (slot_at p x) Blank Live _ 0 _ d.1.0 refl refl (omega arith))
+        let y : PlainSlot = record (slot_at p x) { stage = Live; marked = false; life = (slot_at p x).life + 1 } in
+        wrote _ x y d.1.3 refl
+        (moves (slot_at p x) Blank Live ((slot_at p x).life + 1) 0 y d.1.0 refl refl (omega arith))
     balanced (plain.Add x) found d =
         ⊎_elim (λ up. same _ up.2 refl) (λ refused. same _ refused.2 refl) d.1.1
     balanced (plain.Drop x) found d = same _ d.1.3 refl
@@ -146,19 +152,25 @@ module _ (p q : Plain) (n : ℕ) (s : SlotId) (there : s.0 < length p.slots) whe
         ⊎_elim (λ done. put _ place new done.1.2 refl) (λ lost. same _ lost.1 refl) d.1.2
     balanced (plain.Count x) found d = same _ d.1.2 refl
     balanced (plain.Mark x) found d =
-        ⊎_elim (λ kept. same _ kept.0 refl) (λ zero. wrote p x _ zero.2 refl refl) d.1.1
+        ⊎_elim (λ kept. same _ kept.0 refl) (λ zero.
+        let y : PlainSlot = record (slot_at p x) { marked = true } in
+        wrote p x y zero.2 refl (still (slot_at p x) y refl refl)) d.1.1
     balanced (plain.WeakCount x) found d = same _ d.1.2 refl
     balanced (plain.See x i) found d = same _ d.1.3 refl
     balanced (plain.Eject k x) found d = same _ d.1.3 refl
     balanced (plain.End x) found d =
-        wrote _ x _ d.1.3 refl (moves (slot_at p x) Live Ended _ 0 _ d.1.0 refl refl (omega arith))
+        let y : PlainSlot = record (slot_at p x) { stage = Ended; marked = true } in
+        wrote _ x y d.1.3 refl
+        (moves (slot_at p x) Live Ended (slot_at p x).life 0 y d.1.0 refl refl (omega arith))
     balanced (plain.Clear place) found d = put _ place None d.1.2 refl
     balanced (plain.Destroy x) found d =
         let lost = times_lost x (seat_at p n).dying d.1.3.0 d.1.3.1 in
         let among = seats_at (λ (v : PlainSeat). times x v.dying) p.seats n d.0.0 in
         fell _ x d.1.3.2 refl ((lawful.dying x).1 (omega arith))
     balanced (plain.Give x) found d =
-        wrote p x _ d.1.3 refl (moves (slot_at p x) Husk Free _ 0 _ d.1.0 refl refl (omega arith))
+        let y : PlainSlot = record (slot_at p x) { stage = Free } in
+        wrote _ x y d.1.3 refl
+        (moves (slot_at p x) Husk Free (slot_at p x).life 0 y d.1.0 refl refl (omega arith))
     balanced (plain.Leave j) found d = same _ d.1.8 refl
     balanced plain.Split found d = same _ d.1.1.2 refl
     balanced plain.Ticket found d = same _ d.1.1 refl

@@ -1,7 +1,6 @@
 -- What an event that is enabled finds in its word, what its answer tells, and how much may be deferred.
-use Rattle.std.specs.Prelude.{ℕ, ◌≡◌, ◌+◌, ◌*◌, ◌<◌, ◌≤◌, ◌↔◌, length, List}
+use Rattle.std.specs.Prelude.{ℕ, ◌≡◌, ◌+◌, ◌*◌, ◌<◌, ◌≤◌, length}
 use Rattle.plain_state.specs.declared.slot.Kind.TheVariants.{Strong}
-use Rattle.plain_state.specs.declared.slot.SlotId.{SlotId}
 use Rattle.core_events.specs.declared.act.Act.{Act}
 use Rattle.core_events.specs.declared.act.Act.TheVariants as act
 use Rattle.core_events.specs.declared.outcome.Outcome.{Outcome}
@@ -10,7 +9,6 @@ use Rattle.core_events.specs.declared.shape.Shape.{Shape}
 use Rattle.core_events.specs.declared.view.CoreView.{CoreView}
 use Rattle.core_events.specs.Words.{ZERO, HELP, low}
 use Rattle.core_events.specs.Views.{note_of, room_of, slot_noted, slot_of}
-use Rattle.core_events.specs.Steps.{answer}
 use Rattle.core_events.specs.Counts.{refs, total}
 use Rattle.core_events.specs.Runs.{Core, found, view_at}
 
