@@ -1,5 +1,5 @@
 //! The parts of a seat's half of the table of events, as functions over plain values: what a word says, where a word
-//! is, the slot of a phase, the first copy in a list, and the split of what is retired. Beside them, what a core and a
+//! is, the slot of a phase, the first copy in a list, the split of what is retired, and what gets ripe. Beside them, what a core and a
 //! running domain begin with: the test of their sizes, and the first words.
 //!
 //! Each answers what the definition of that name in `core_events` says, and the test what `specs/Fields` says;
@@ -24,7 +24,11 @@ pub use beginning::first_words;
 pub use fields::first_bad;
 pub use laws::one_first_bad;
 pub use lists::{are_idle, has_slot, has_snapshot, take_first};
-pub use phases::{given_up, slot_in_phase};
-pub use places::{counter_index, kind_of, note_index, place_index, slot_index};
-pub use splitting::{Parts, split};
-pub use words::{HELP_FLAG, ZERO_FLAG, announced_as, counted, found_in, held_as, helps};
+pub use phases::{given_up, slot_in_note, slot_in_phase};
+pub use places::{
+    bits_index, counter_index, kind_of, note_index, place_index, slot_index, ticket_index,
+};
+pub use splitting::{Parts, ripened, split};
+pub use words::{
+    HELP_FLAG, ZERO_FLAG, announced_as, bit_alone, counted, found_in, has_bit, held_as, helps,
+};

@@ -1,7 +1,7 @@
 //! Where the words are that acts work on, by the order of a domain's words.
 ghost use Rattle.std.specs.Prelude.{◌≡◌, ◌<◌, ◌^◌};
 ghost use Rattle.plain_state.specs.Places.{place_kind};
-ghost use Rattle.core_events.specs.Words.{note_at, slot_at, place_at};
+ghost use Rattle.core_events.specs.Words.{note_at, slot_at, place_at, bits_at, ticket_at};
 ghost use Rattle.core_events.specs.Steps.{counter_at};
 
 use core_events::{EventPlace, Kind, Shape, SlotId};
@@ -34,14 +34,29 @@ pub fn note_index(seat: u32, at: u32) -> usize
     1 + 4 * seat as usize + at as usize
 }
 
-/// The counter word of a reference.
+/// The counter word of a reference. None is of the kind `Disposal`, and the answer is 0.
 pub fn counter_index(shape: &Shape, kind: Kind, slot: SlotId) -> usize
     ensures { result ≡ counter_at shape.now kind slot }
 {
     match kind {
         Kind::Strong => slot_index(shape, slot),
         Kind::Weak => slot_index(shape, slot) + 1,
+        Kind::Disposal => 0,
     }
+}
+
+/// The word that has the bit of a slot.
+pub fn bits_index(shape: &Shape, slot: SlotId) -> usize
+    ensures { result ≡ bits_at shape.now slot }
+{
+    slot_index(shape, SlotId(shape.slots)) + slot.0 as usize / 64
+}
+
+/// The word that has the number of tickets drawn, the last one.
+pub fn ticket_index(shape: &Shape) -> usize
+    ensures { result ≡ ticket_at shape.now }
+{
+    slot_index(shape, SlotId(shape.slots)) + (shape.slots as usize + 63) / 64
 }
 
 /// The word of a place.
