@@ -13,8 +13,10 @@
 
 mod beginning;
 mod fields;
+mod grants;
 mod laws;
 mod lists;
+mod notes;
 mod phases;
 mod places;
 mod splitting;
@@ -22,11 +24,16 @@ mod words;
 
 pub use beginning::first_words;
 pub use fields::first_bad;
+pub use grants::grant_more;
 pub use laws::one_first_bad;
 pub use lists::{are_idle, has_slot, has_snapshot, take_first};
-pub use phases::{given_up, slot_in_note, slot_in_phase};
+pub use notes::{is_valid, note_of, slot_in_note, validated};
+pub use phases::{
+    given_up, is_arming, is_filling, is_finishing, is_giving, is_helping, is_marking, slot_in_phase,
+};
 pub use places::{
-    bits_index, counter_index, kind_of, note_index, place_index, slot_index, ticket_index,
+    announcement_words, bits_index, counter_index, is_content, kind_of, note_index, place_index,
+    slot_index, ticket_index,
 };
 pub use splitting::{Parts, ripened, split};
 pub use words::{

@@ -1,10 +1,12 @@
-//! The slot that a phase or a note is about, and where a decrement leads.
-ghost use Rattle.std.specs.Prelude.{◌≡◌};
+//! What a phase is about, and where a decrement leads.
+ghost use Rattle.std.specs.Prelude.{◌≡◌, ◌↔◌, IsTrue};
+ghost use Rattle.plain_state.specs.declared.slot.SlotId.{SlotId};
+ghost use Rattle.core_events.specs.declared.view.Phase.TheVariants as variant;
 ghost use Rattle.core_events.specs.Steps.{decremented};
-ghost use Rattle.core_events.specs.Views.{slot_of, slot_noted};
+ghost use Rattle.core_events.specs.Views.{slot_of};
 ghost use Rattle.core_parts.specs.Phases.{phase_after};
 
-use core_events::{Kind, Note, Outcome, Phase, SlotId};
+use core_events::{Kind, Outcome, Phase, SlotId};
 
 /// The slot of a phase that has one.
 pub fn slot_in_phase(phase: Phase) -> SlotId
@@ -21,16 +23,6 @@ pub fn slot_in_phase(phase: Phase) -> SlotId
     }
 }
 
-/// The slot of a note that names one.
-pub fn slot_in_note(note: Note) -> SlotId
-    ensures { result ≡ slot_noted note }
-{
-    match note {
-        Note::Idle => SlotId(0),
-        Note::Announced(_, slot) | Note::Valid(_, slot) => slot,
-    }
-}
-
 /// What a decrement of a counter word came to: the one that found 1 is to finish the object, or to give the slot back.
 pub fn given_up(kind: Kind, slot: SlotId, word: u64) -> (Phase, Outcome)
     ensures phase { result.0 ≡ phase_after kind slot word }
@@ -44,4 +36,40 @@ pub fn given_up(kind: Kind, slot: SlotId, word: u64) -> (Phase, Outcome)
         Kind::Weak => (Phase::Give(slot), Outcome::Last),
         Kind::Disposal => (Phase::Idle, Outcome::Left),
     }
+}
+
+pub fn is_finishing(phase: Phase) -> bool
+    ensures { IsTrue result ↔ ((s : SlotId) × (phase ≡ variant.Finish s)) }
+{
+    matches!(phase, Phase::Finish(_))
+}
+
+pub fn is_helping(phase: Phase) -> bool
+    ensures { IsTrue result ↔ ((s : SlotId) × (phase ≡ variant.Help s)) }
+{
+    matches!(phase, Phase::Help(_))
+}
+
+pub fn is_marking(phase: Phase) -> bool
+    ensures { IsTrue result ↔ ((s : SlotId) × (phase ≡ variant.Zero s)) }
+{
+    matches!(phase, Phase::Zero(_))
+}
+
+pub fn is_arming(phase: Phase) -> bool
+    ensures { IsTrue result ↔ ((s : SlotId) × (phase ≡ variant.Bare s)) }
+{
+    matches!(phase, Phase::Bare(_))
+}
+
+pub fn is_filling(phase: Phase) -> bool
+    ensures { IsTrue result ↔ ((s : SlotId) × (phase ≡ variant.Blank s)) }
+{
+    matches!(phase, Phase::Blank(_))
+}
+
+pub fn is_giving(phase: Phase) -> bool
+    ensures { IsTrue result ↔ ((s : SlotId) × (phase ≡ variant.Give s)) }
+{
+    matches!(phase, Phase::Give(_))
 }

@@ -1,8 +1,8 @@
 //! Where the words are that acts work on, by the order of a domain's words.
-ghost use Rattle.std.specs.Prelude.{◌≡◌, ◌<◌, ◌^◌};
+ghost use Rattle.std.specs.Prelude.{◌≡◌, ◌↔◌, ◌<◌, ◌^◌, IsTrue};
 ghost use Rattle.plain_state.specs.Places.{place_kind};
-ghost use Rattle.core_events.specs.Words.{note_at, slot_at, place_at, bits_at, ticket_at};
-ghost use Rattle.core_events.specs.Steps.{counter_at};
+ghost use Rattle.core_events.specs.Words.{announcements, note_at, slot_at, place_at, bits_at, ticket_at};
+ghost use Rattle.core_events.specs.Steps.{counter_at, IsContent};
 
 use core_events::{EventPlace, Kind, Shape, SlotId};
 
@@ -14,6 +14,23 @@ pub fn kind_of(place: EventPlace) -> Kind
         EventPlace::Cell(_) | EventPlace::Field(_, _) => Kind::Strong,
         EventPlace::WeakCell(_) | EventPlace::WeakField(_) => Kind::Weak,
     }
+}
+
+/// Whether a content is null, or a slot of the domain.
+pub fn is_content(shape: &Shape, content: Option<SlotId>) -> bool
+    ensures { IsTrue result ↔ IsContent shape.now content }
+{
+    match content {
+        None => true,
+        Some(slot) => slot.0 < shape.slots,
+    }
+}
+
+/// How many announcement words there are.
+pub fn announcement_words(shape: &Shape) -> usize
+    ensures { result ≡ announcements shape.now }
+{
+    4 * shape.seats as usize
 }
 
 /// The first word of a slot, its strong one.
