@@ -26,14 +26,14 @@ pub use beginning::first_words;
 pub use fields::first_bad;
 pub use grants::grant_more;
 pub use laws::one_first_bad;
-pub use lists::{are_idle, has_slot, has_snapshot, take_first};
+pub use lists::{are_idle, has_slot, has_snapshot, move_all, retire, take_first};
 pub use notes::{is_valid, note_of, slot_in_note, validated};
 pub use phases::{
     given_up, is_arming, is_filling, is_finishing, is_giving, is_helping, is_marking, slot_in_phase,
 };
 pub use places::{
     announcement_words, bits_index, counter_index, is_content, kind_of, note_index, place_index,
-    slot_index, ticket_index,
+    room_for, slot_index, ticket_index,
 };
 pub use splitting::{Parts, ripened, split};
 pub use words::{

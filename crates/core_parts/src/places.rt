@@ -1,7 +1,8 @@
-//! Where the words are that acts work on, by the order of a domain's words.
+//! Where the words are that acts work on, by the order of a domain's words, and what else its sizes tell.
 ghost use Rattle.std.specs.Prelude.{◌≡◌, ◌↔◌, ◌<◌, ◌^◌, IsTrue};
 ghost use Rattle.plain_state.specs.Places.{place_kind};
 ghost use Rattle.core_events.specs.Words.{announcements, note_at, slot_at, place_at, bits_at, ticket_at};
+ghost use Rattle.core_events.specs.Views.{room_of};
 ghost use Rattle.core_events.specs.Steps.{counter_at, IsContent};
 
 use core_events::{EventPlace, Kind, Shape, SlotId};
@@ -24,6 +25,14 @@ pub fn is_content(shape: &Shape, content: Option<SlotId>) -> bool
         None => true,
         Some(slot) => slot.0 < shape.slots,
     }
+}
+
+/// How many entries a seat may have retired and owed together, as long as no other has left.
+pub fn room_for(shape: &Shape) -> u32
+    requires { room_of shape.now < 2 ^ 32 }
+    ensures { result ≡ room_of shape.now }
+{
+    4 * shape.seats + shape.batch
 }
 
 /// How many announcement words there are.
