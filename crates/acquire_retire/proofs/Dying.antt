@@ -14,10 +14,10 @@ use Rattle.core_events.specs.declared.view.CoreView.{CoreView}
 use Rattle.core_events.specs.Counts.{one, sum_below}
 use Rattle.core_events.specs.Runs.{AreQuotas, Core, IsShape, after, view_at}
 use Rattle.core_events.specs.Steps.{moved}
-use Rattle.core_law.specs.Sound.{Sound}
+use Rattle.core_invariant.specs.Sound.{Sound}
 use Rattle.core_law.proofs.Always.{history_sound, step_keeps}
-use Rattle.core_law.proofs.Kit.{below_but, below_none, below_same, one_other, one_same, times_cons, times_none, total_at}
-use Rattle.core_law.proofs.Parts.{sound_good}
+use Rattle.core_invariant.proofs.Kit.{below_but, below_none, below_same, one_other, one_same, times_cons, times_none, total_at}
+use Rattle.core_invariant.proofs.Parts.{sound_good}
 use Rattle.domain_rule.specs.declared.view.SeatView.{SeatView}
 use Rattle.domain_rule.specs.Told.{IsOwn, Told}
 use Rattle.domain_rule.proofs.Step.{view_after, views_stay}

@@ -22,9 +22,9 @@ use Rattle.core_events.specs.Good.{CountLaw}
 use Rattle.core_events.specs.Runs.{Core, view_at}
 use Rattle.core_events.specs.Shows.{each_from, show_slot, shows}
 use Rattle.core_events.specs.Words.{ZERO, cell_at, field_at, has_zero, payload_at, slot_at, slot_in, weak_cell_at, weak_field_at}
-use Rattle.core_law.specs.Sound.{Sound}
+use Rattle.core_invariant.specs.Sound.{Sound}
 use Rattle.core_law.proofs.Always.{history_sound}
-use Rattle.core_law.proofs.Parts.{sound_good}
+use Rattle.core_invariant.proofs.Parts.{sound_good}
 use Rattle.core_shows.proofs.Bridge.{shown_slot, shown_strong, shown_weak}
 use Rattle.core_shows.proofs.Lists.{each_push, each_same, get_each, length_each}
 use Rattle.domain_rule.specs.declared.view.SeatView.{SeatView}

@@ -12,7 +12,7 @@ use Rattle.core_events.specs.declared.shape.Quota.{Quota}
 use Rattle.core_events.specs.Runs.{AreQuotas, IsShape}
 use Rattle.core_events.specs.Shows.{each_from}
 use Rattle.core_events.specs.Words.{first_words, word_count}
-use Rattle.core_law.proofs.Starts.{first_seat, start_sound}
+use Rattle.core_invariant.proofs.Starts.{first_seat, start_sound}
 use Rattle.core_shows.proofs.Lists.{each_push}
 use Rattle.domain_rule.specs.declared.view.SeatView.{SeatView}
 use Rattle.domain_rule.specs.declared.view.Whole.{Whole}

@@ -15,7 +15,7 @@ use Rattle.core_events.specs.declared.view.Phase.TheVariants as phase
 use Rattle.core_events.specs.Ejection.{code_of, ejected, is_seen, kept, seen_times, without_word}
 use Rattle.core_events.specs.Steps.{IsIdle, all_seen, answer, is_last, moved}
 use Rattle.core_events.specs.Words.{announcements}
-use Rattle.core_law.proofs.Splits.{split_length}
+use Rattle.core_invariant.proofs.Splits.{split_length}
 use Rattle.acquire_retire.specs.Calls.{IsSameView, Steps, same_view}
 use Rattle.acquire_retire.specs.Collecting.{Goes, Reads, Splits, move, read_by, scanned_by}
 use Rattle.acquire_retire.specs.Domains.{DomainState}

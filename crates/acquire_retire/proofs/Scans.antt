@@ -20,8 +20,8 @@ use Rattle.core_events.specs.declared.view.Phase.TheVariants as phase
 use Rattle.core_events.specs.Counts.{naming}
 use Rattle.core_events.specs.Good.{SeatLaw}
 use Rattle.core_events.specs.Steps.{all_seen, answer, is_last, moved}
-use Rattle.core_law.proofs.Kit.{entry_cons, one_same}
-use Rattle.core_law.proofs.Steady.{named_in_range}
+use Rattle.core_invariant.proofs.Kit.{entry_cons, one_same}
+use Rattle.core_invariant.proofs.Steady.{named_in_range}
 use Rattle.eject_scan.specs.Seen.{announced_in, announcements}
 use Rattle.eject_scan.proofs.Announcements.{fewer}
 use Rattle.retire_batch.specs.Ejection as batch

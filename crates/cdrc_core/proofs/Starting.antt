@@ -6,10 +6,10 @@ use Rattle.core_events.specs.declared.shape.Shape.{Shape}
 use Rattle.core_events.specs.declared.shape.Quota.{Quota}
 use Rattle.core_events.specs.Good.{Good}
 use Rattle.core_events.specs.Runs.{AreQuotas, Enabled, Core, IsShape, after, start}
-use Rattle.core_law.specs.Sound.{Sound}
+use Rattle.core_invariant.specs.Sound.{Sound}
 use Rattle.core_law.proofs.Always.{step_keeps}
-use Rattle.core_law.proofs.Parts.{sound_good}
-use Rattle.core_law.proofs.Starts as starts
+use Rattle.core_invariant.proofs.Parts.{sound_good}
+use Rattle.core_invariant.proofs.Starts as starts
 use Rattle.cdrc_core.specs.State.{State}
 
 pub start_sound : (z : Shape) (qs : List Quota) → IsShape z → AreQuotas z qs → Sound z (start z qs)

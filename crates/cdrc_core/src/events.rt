@@ -3,7 +3,7 @@ ghost use Rattle.std.specs.Prelude.{ℕ, ◌≡◌, ◌↔◌, ◌<◌, IsTrue, 
 ghost use Rattle.core_events.specs.declared.act.Act.TheVariants as act;
 ghost use Rattle.core_events.specs.Steps.{May};
 ghost use Rattle.core_events.specs.Runs.{Enabled, RestMay, after, outcome_of, view_at};
-ghost use Rattle.core_law.specs.Sound.{Sound};
+ghost use Rattle.core_invariant.specs.Sound.{Sound};
 ghost use Rattle.cdrc_core.specs.declared.errors.StepError.TheVariants.{NotEnabled, OutOfMemory};
 
 use crate::errors::StepError;

@@ -24,7 +24,7 @@ pub struct Core {
 }
 
 impl Model for Core {
-    ghost use Rattle.core_law.specs.Sound.{Sound};
+    ghost use Rattle.core_invariant.specs.Sound.{Sound};
     ghost use Rattle.cdrc_core.specs.State.{State};
 
     ghost Value = { State };

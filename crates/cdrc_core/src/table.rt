@@ -2,7 +2,7 @@
 ghost use Rattle.std.specs.Prelude.{◌≡◌, ◌↔◌, ◌<◌, IsTrue, IfOk};
 ghost use Rattle.core_events.specs.Counts.{strong, weak};
 ghost use Rattle.core_events.specs.Runs.{AreQuotas, HasNullFields, IsShape, start, view_at};
-ghost use Rattle.core_law.specs.Sound.{Sound};
+ghost use Rattle.core_invariant.specs.Sound.{Sound};
 ghost use Rattle.cdrc_core.specs.State.{State};
 
 use crate::seats::first_seats;

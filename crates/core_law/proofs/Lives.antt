@@ -1,24 +1,35 @@
--- Each step of a slot from life to life keeps the invariant: claim, start, destruction, return.
-use Rattle.std.proofs.Common.{◌≡◌, ◌≢◌, ℕ, ◌+◌, ◌<◌, List, [], ◌∷◌, ◌++◌, refl, sym, arith}
+-- Each step of a slot from life to life keeps the invariant: claim, arm, start, return.
+use Rattle.std.proofs.Common.{◌≡◌, ◌≢◌, ◌⊎◌, inl, inr, ⊎_elim, ℕ, true, ◌+◌, ◌-◌, ◌%◌, ◌^◌, ◌<◌, ◌≤◌, bit_and, List, [], ◌∷◌, ◌++◌, length, refl, ap, sym, ◌∙◌, arith}
+use Rattle.std.specs.Prelude.{slice_index}
+use Rattle.std.proofs.lemmas.Nat.{and_le_l}
+use Rattle.plain_state.specs.declared.slot.Kind.{Kind}
+use Rattle.plain_state.specs.declared.slot.Kind.TheVariants.{Strong, Weak, Disposal}
 use Rattle.plain_state.specs.declared.slot.SlotId.{SlotId}
-use Rattle.plain_state.specs.Lists.{times}
+use Rattle.plain_state.specs.Lists.{Entry, times, entry_times}
 use Rattle.core_events.specs.declared.shape.Shape.{Shape}
 use Rattle.core_events.specs.declared.view.CoreView.{CoreView}
 use Rattle.core_events.specs.declared.view.Move.{Move}
+use Rattle.core_events.specs.declared.view.Phase.{Phase}
 use Rattle.core_events.specs.declared.view.Phase.TheVariants as phase
-use Rattle.core_events.specs.Words.{ZERO, strong_at, weak_at}
-use Rattle.core_events.specs.Views.{without}
-use Rattle.core_events.specs.Steps.{minus_one, IsIdle, HasAdd}
+use Rattle.core_events.specs.Words.{ZERO, HELP, strong_at, weak_at, bits_at, bit_alone, bit_in}
+use Rattle.core_events.specs.Views.{Holds, without}
+use Rattle.core_events.specs.Steps.{plus_one, minus_one, IsIdle, HasAdd, HasMake}
 use Rattle.core_events.specs.Runs.{Core, view_at, HasNullFields}
-use Rattle.core_events.specs.Counts.{weak}
-use Rattle.core_law.specs.Slots.{numbers}
-use Rattle.core_law.specs.Sound.{Sound}
-use Rattle.core_law.proofs.Kit.{one_same, one_other, times_push, times_without}
+use Rattle.core_events.specs.Counts.{one, strong, weak, free_bit, listed, total, dying_times, giving}
+use Rattle.core_invariant.specs.Slots.{numbers}
+use Rattle.core_invariant.specs.Sound.{Sound}
+use Rattle.core_invariant.proofs.Kit.{one_same, one_other, times_push, times_without, total_at}
+use Rattle.core_invariant.proofs.Held.{held_taken, held_named}
+use Rattle.core_invariant.proofs.Put.{put, adds_fit, at_seat, ripe_times}
+use Rattle.core_invariant.proofs.SlotSame.{slot_same}
+use Rattle.core_invariant.proofs.Steady.{named_in_range, not_left, in_idle, in_finish, in_help, in_zero, in_bare, in_blank, in_give}
 use Rattle.core_law.proofs.WeakSteps as slot
-use Rattle.core_law.proofs.StrongSteps.{same_strong}
-use Rattle.core_law.proofs.Put.{put, alike}
-use Rattle.core_law.proofs.Steady.{not_left, named_in_range, steady_seat, in_idle, in_blank, in_give}
-use Rattle.core_law.proofs.OneWord.{strong_step, weak_step}
+use Rattle.core_law.proofs.StrongSteps.{same_weak, same_strong}
+use Rattle.core_law.proofs.Live.{giver_clear, live_most, is_low, is_asked, weakly_counts, plus_fits, minus_fits}
+use Rattle.core_law.proofs.OneWord.{Having, having, with_having, IsAt, at_idle, at_finish, at_help, at_zero, at_bare, at_blank, at_give, SameOf, same_of, Touches, strong_step, weak_step, bit_step}
+use Rattle.core_invariant.proofs.Bits.{taken_bit, taken_other, given_bit, given_other}
+use Rattle.core_law.proofs.Counters.{idle_here}
+use Rattle.core_law.proofs.Endings.{turns}
 
 module _ (z : Shape) (c : Core) (n : ℕ) (so : Sound z c) (hn : n < z.seats) where
   abbrev v : CoreView
@@ -26,55 +37,78 @@ module _ (z : Shape) (c : Core) (n : ℕ) (so : Sound z c) (hn : n < z.seats) wh
 
   -- a claim that finds a free slot
   pub claim_free : (s : SlotId) (t : List Move)
-      → IsIdle v → s.0 < z.slots → v.makes < v.quota.makes → HasAdd v → weak z c s ≡ ZERO
-      → Sound z (put c n (record v { makes = v.makes + 1; phase = phase.Blank s; trail = t })
-      (weak_at z s) 1)
-  claim_free s t idle there make_left quota free =
-      let u : CoreView = record v { makes = v.makes + 1; phase = phase.Blank s; trail = t } in
+      → IsIdle v → s.0 < z.slots → HasMake v → HasAdd v → free_bit z c s ≡ 1
+      → Sound z (put c n (record v { makes = v.makes + 1; phase = phase.Bare s; trail = t })
+      (bits_at z s) (bit_and (slice_index c.words (bits_at z s)) (2 ^ 64 - 1 - bit_alone s)))
+  claim_free s t idle hs make_left quota free =
+      let k : Having = record (having v) { makes = v.makes + 1; phase = phase.Bare s; trail = t } in
+      let w : ℕ = slice_index c.words (bits_at z s) in
       let law = so.seats n hn in
       let o = one_same s s refl in
       let p = in_idle v.phase s idle.0 in
-      let hs : s.0 < z.slots = there in
-      weak_step z c n so hn s u 1 hs
-      (steady_seat z n v u law refl refl refl refl refl refl (λ e. absurd (cc (idle.0, e)))
-      (λ e. absurd (cc (e))) (λ e. absurd (cc (idle.1, e))) (let q = law.adds in omega arith)
-      (omega arith) (λ x e. quota)
-      (λ x le.
-      let r = law.range x le in
-      let other = one_other x s (omega arith) in
-      let p = in_idle v.phase x idle.0 in
-      omega arith))
-      (omega arith)
-      (λ x ne.
-      let other = one_other x s (λ e. ne (sym e)) in
-      let p = in_idle v.phase x idle.0 in
-      alike (omega arith) (omega arith) (omega arith) (omega arith) (omega arith) (omega arith)
-      (omega arith))
+      let word : w < 2 ^ 64 = so.fit.fit (bits_at z s) in
+      let le = and_le_l w (2 ^ 64 - 1 - bit_alone s) in
+      let clear = taken_bit s w in
+      bit_step z c n so hn s k (bit_and w (2 ^ 64 - 1 - bit_alone s)) hs (omega arith)
+      (record {
+        here = idle_here z c n so hn idle;
+        from = at_idle idle.0;
+        to = at_bare refl;
+        adds = omega arith;
+        adds_most = law.adds;
+        makes = omega arith;
+        starts = λ x e. quota;
+        owed = omega arith;
+        others = λ x ne. same_of refl refl (λ j. refl) refl refl refl;
+        ripe = law.ripe s;
+        ripe_most = omega arith;
+        kinds = refl;
+      })
+      (λ _. omega arith)
+      (λ x ne. taken_other s x w ne)
       (λ sums wrote.
-      slot.claim_free _ _ (numbers z c s) _ (so.slots s hs) sums.fit
+      let b = ap (bit_in s) wrote.is in
+      slot.claim_free _ _ (numbers z c s) _ (so.slots s hs)
       (same_strong (omega arith) (omega arith) (omega arith) (omega arith) (omega arith))
+      (omega arith) free
       (omega arith) (omega arith) (omega arith) (omega arith) (omega arith) (omega arith)
       (omega arith))
-      refl refl refl refl refl (omega arith)
+
+  -- the claimed slot gets its own weak reference
+  pub arm_bare : (s : SlotId) (t : List Move)
+      → v.phase ≡ phase.Bare s
+      → Sound z (put c n (record v { phase = phase.Blank s; trail = t }) (weak_at z s) 1)
+  arm_bare s t at =
+      let k : Having = record (having v) { phase = phase.Blank s; trail = t } in
+      let o = one_same s s refl in
+      let p = in_bare v.phase s s at in
+      let hs : s.0 < z.slots = named_in_range z n v s (so.seats n hn) (omega arith) in
+      weak_step z c n so hn s k 1 hs (omega arith)
+      (turns z c n so hn s k (at_bare at) (λ f. absurd (cc (at, f))) (at_blank refl)
+      (λ x f. (so.seats n hn).can_start s (inl at)) refl refl refl refl (omega arith)
+      (λ x ne. same_of refl refl (λ j. refl) refl refl refl))
+      (λ _. omega arith)
+      (λ sums wrote. slot.arm_bare _ _ (numbers z c s) _ (so.slots s hs)
+      (same_strong (omega arith) (omega arith) (omega arith) (omega arith) (omega arith))
+      (omega arith) (omega arith)
+      (omega arith) (omega arith) (omega arith) (omega arith) (omega arith) (omega arith)
+      (omega arith))
 
   -- a start
-  pub start_live : (made : List SlotId) (s : SlotId) (t : List Move)
+  pub start_live : (s : SlotId) (t : List Move)
       → v.phase ≡ phase.Blank s
       → Sound z (put c n (record v {
         owned = v.owned ++ s ∷ [];
-        made = made;
-        adds = v.adds
-            + 1;
+        made = v.made ++ s ∷ [];
+        adds = v.adds + 1;
         phase = phase.Idle;
         trail = t;
-      })
-      (strong_at z s) 1)
-  start_live made s t at =
-      let u : CoreView = record v {
+      }) (strong_at z s) 1)
+  start_live s t at =
+      let k : Having = record (having v) {
         owned = v.owned ++ s ∷ [];
-        made = made;
-        adds = v.adds
-            + 1;
+        made = v.made ++ s ∷ [];
+        adds = v.adds + 1;
         phase = phase.Idle;
         trail = t;
       } in
@@ -83,135 +117,58 @@ module _ (z : Shape) (c : Core) (n : ℕ) (so : Sound z c) (hn : n < z.seats) wh
       let p = in_blank v.phase s s at in
       let e = times_push s s v.owned in
       let hs : s.0 < z.slots = named_in_range z n v s law (omega arith) in
-      strong_step z c n so hn s u 1 hs
-      (steady_seat z n v u law refl refl refl refl refl refl (λ e. absurd (cc (at, e)))
-      (λ e. absurd (cc (e))) (not_left z n v law (λ e. absurd (cc (at, e))))
-      (let q = law.can_start s at in omega arith) law.makes (λ x e. absurd (cc (e)))
-      (λ x le.
-      let r = law.range x le in
-      let other = one_other x s (omega arith) in
-      let p = in_blank v.phase x s at in
-      let e = times_push x s v.owned in
-      omega arith))
-      (omega arith)
-      (λ x ne.
-      let other = one_other x s (λ e. ne (sym e)) in
-      let p = in_blank v.phase x s at in
-      let e = times_push x s v.owned in
-      alike (omega arith) (omega arith) (omega arith) (omega arith) (omega arith) (omega arith)
-      (omega arith))
-      (λ sums wrote.
-      slot.start_live _ _ (numbers z c s) _ (so.slots s hs) sums.fit (omega arith) (omega arith)
+      let q = law.can_start s (inr at) in
+      strong_step z c n so hn s k 1 hs (omega arith)
+      (record {
+        here = not_left z n v law (λ f. absurd (cc (at, f)));
+        from = at_blank at;
+        to = at_idle refl;
+        adds = omega arith;
+        adds_most = omega arith;
+        makes = law.makes;
+        starts = λ x e. ⊎_elim (λ f. absurd (cc (f))) (λ f. absurd (cc (f))) e;
+        owed = omega arith;
+        others = λ x ne.
+            let other = one_other x s (λ e. ne (sym e)) in
+            let e = times_push x s v.owned in
+            let m = times_push x s v.made in
+            same_of (omega arith) refl (λ j. refl) refl refl (omega arith);
+        ripe = law.ripe s;
+        ripe_most = omega arith;
+        kinds = refl;
+      })
+      (λ _. omega arith)
+      (let l = is_low 1 (omega arith) in let m = live_most (strong z c s) in omega arith)
+      (λ sums wrote. slot.start_live _ _ (numbers z c s) _ (so.slots s hs) sums.fit
+      (omega arith) (omega arith)
       (omega arith) (omega arith) (omega arith) (omega arith) (omega arith) (omega arith)
-      (omega arith) (omega arith) (omega arith) (omega arith))
-      refl refl refl refl refl (omega arith)
+      (omega arith) (omega arith) (omega arith) (omega arith) (omega arith) (omega arith))
 
   -- a slot that is given back
   pub give_back : (s : SlotId) (t : List Move)
       → v.phase ≡ phase.Give s
-      → Sound z (put c n (record v { phase = phase.Idle; trail = t }) (weak_at z s) ZERO)
+      → Sound z (put c n (record v { phase = phase.Idle; trail = t }) (bits_at z s)
+      ((slice_index c.words (bits_at z s) + bit_alone s) % 2 ^ 64))
   give_back s t at =
-      let u : CoreView = record v { phase = phase.Idle; trail = t } in
-      let law = so.seats n hn in
+      let k : Having = record (having v) { phase = phase.Idle; trail = t } in
+      let w : ℕ = slice_index c.words (bits_at z s) in
       let o = one_same s s refl in
       let p = in_give v.phase s s at in
-      let hs : s.0 < z.slots = named_in_range z n v s law (omega arith) in
-      weak_step z c n so hn s u ZERO hs
-      (steady_seat z n v u law refl refl refl refl refl refl (λ e. absurd (cc (at, e)))
-      (λ e. absurd (cc (e))) (not_left z n v law (λ e. absurd (cc (at, e))))
-      (let q = law.adds in omega arith) law.makes (λ x e. absurd (cc (e)))
-      (λ x le.
-      let r = law.range x le in
-      let other = one_other x s (omega arith) in
-      let p = in_give v.phase x s at in
-      omega arith))
-      (omega arith)
-      (λ x ne.
-      let other = one_other x s (λ e. ne (sym e)) in
-      let p = in_give v.phase x s at in
-      alike (omega arith) (omega arith) (omega arith) (omega arith) (omega arith) (omega arith)
-      (omega arith))
+      let hs : s.0 < z.slots = named_in_range z n v s (so.seats n hn) (omega arith) in
+      let word : w < 2 ^ 64 = so.fit.fit (bits_at z s) in
+      let gives = total_at (λ (u : CoreView). giving s u.phase) c.views n (at_seat z c n so hn) in
+      let clear : bit_in s w ≡ 0 = giver_clear _ (numbers z c s) (so.slots s hs) (omega arith) in
+      let set' = given_bit s w word clear in
+      bit_step z c n so hn s k ((w + bit_alone s) % 2 ^ 64) hs (omega arith)
+      (turns z c n so hn s k (at_give at) (λ f. absurd (cc (at, f))) (at_idle refl)
+      (λ x f. ⊎_elim (λ g. absurd (cc (g))) (λ g. absurd (cc (g))) f) refl refl refl refl (omega arith)
+      (λ x ne. same_of refl refl (λ j. refl) refl refl refl))
+      (λ _. omega arith)
+      (λ x ne. given_other s x w word clear ne)
       (λ sums wrote.
-      slot.give_back _ _ (numbers z c s) _ (so.slots s hs) sums.fit
+      let b = ap (bit_in s) wrote.is in
+      slot.give_back _ _ (numbers z c s) _ (so.slots s hs)
       (same_strong (omega arith) (omega arith) (omega arith) (omega arith) (omega arith))
+      (omega arith) (omega arith)
       (omega arith) (omega arith) (omega arith) (omega arith) (omega arith) (omega arith)
       (omega arith))
-      refl refl refl refl refl (omega arith)
-
-  -- a slot is destroyed that weak references name
-  pub destroy_left : (s : SlotId) (t : List Move)
-      → IsIdle v → 0 < times s v.dying → HasNullFields z c.words s → weak z c s ≢ 1
-      → Sound z (put c n (record v { dying = without s v.dying; phase = phase.Idle; trail = t })
-      (weak_at z s) (minus_one (weak z c s)))
-  destroy_left s t idle dies nulls many =
-      let u : CoreView = record v { dying = without s v.dying; phase = phase.Idle; trail = t } in
-      let law = so.seats n hn in
-      let o = one_same s s refl in
-      let p = in_idle v.phase s idle.0 in
-      let e = times_without s s v.dying dies in
-      let hs : s.0 < z.slots = named_in_range z n v s law (omega arith) in
-      weak_step z c n so hn s u (minus_one (weak z c s)) hs
-      (steady_seat z n v u law refl refl refl refl refl refl (λ e. absurd (cc (idle.0, e)))
-      (λ e. absurd (cc (e))) (λ e. absurd (cc (idle.1, e))) (let q = law.adds in omega arith)
-      law.makes (λ x e. absurd (cc (e)))
-      (λ x le.
-      let r = law.range x le in
-      let other = one_other x s (omega arith) in
-      let p = in_idle v.phase x idle.0 in
-      let e = times_without x s v.dying dies in
-      omega arith))
-      (omega arith)
-      (λ x ne.
-      let other = one_other x s (λ e. ne (sym e)) in
-      let p = in_idle v.phase x idle.0 in
-      let e = times_without x s v.dying dies in
-      alike (omega arith) (omega arith) (omega arith) (omega arith) (omega arith) (omega arith)
-      (omega arith))
-      (λ sums wrote.
-      let n0 = nulls.0 in
-      let n1 = nulls.1 in
-      let n2 = nulls.2 in
-      slot.destroy_left _ _ (numbers z c s) _ (so.slots s hs) sums.fit
-      (same_strong (omega arith) (omega arith) (omega arith) (omega arith) (omega arith))
-      (omega arith) (omega arith) (omega arith) (omega arith) (omega arith) (omega arith)
-      (omega arith) (omega arith) (omega arith))
-      refl refl refl refl refl (omega arith)
-
-  -- a slot is destroyed that nothing names
-  pub destroy_last : (s : SlotId) (t : List Move)
-      → IsIdle v → 0 < times s v.dying → HasNullFields z c.words s → weak z c s ≡ 1
-      → Sound z (put c n (record v { dying = without s v.dying; phase = phase.Give s; trail = t })
-      (weak_at z s) (minus_one (weak z c s)))
-  destroy_last s t idle dies nulls last =
-      let u : CoreView = record v { dying = without s v.dying; phase = phase.Give s; trail = t } in
-      let law = so.seats n hn in
-      let o = one_same s s refl in
-      let p = in_idle v.phase s idle.0 in
-      let e = times_without s s v.dying dies in
-      let hs : s.0 < z.slots = named_in_range z n v s law (omega arith) in
-      weak_step z c n so hn s u (minus_one (weak z c s)) hs
-      (steady_seat z n v u law refl refl refl refl refl refl (λ e. absurd (cc (idle.0, e)))
-      (λ e. absurd (cc (e))) (λ e. absurd (cc (idle.1, e))) (let q = law.adds in omega arith)
-      law.makes (λ x e. absurd (cc (e)))
-      (λ x le.
-      let r = law.range x le in
-      let other = one_other x s (omega arith) in
-      let p = in_idle v.phase x idle.0 in
-      let e = times_without x s v.dying dies in
-      omega arith))
-      (omega arith)
-      (λ x ne.
-      let other = one_other x s (λ e. ne (sym e)) in
-      let p = in_idle v.phase x idle.0 in
-      let e = times_without x s v.dying dies in
-      alike (omega arith) (omega arith) (omega arith) (omega arith) (omega arith) (omega arith)
-      (omega arith))
-      (λ sums wrote.
-      let n0 = nulls.0 in
-      let n1 = nulls.1 in
-      let n2 = nulls.2 in
-      slot.destroy_last _ _ (numbers z c s) _ (so.slots s hs) sums.fit
-      (same_strong (omega arith) (omega arith) (omega arith) (omega arith) (omega arith))
-      (omega arith) (omega arith) (omega arith) (omega arith) (omega arith) (omega arith)
-      (omega arith) (omega arith) (omega arith))
-      refl refl refl refl refl (omega arith)

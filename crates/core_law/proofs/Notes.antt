@@ -19,10 +19,10 @@ use Rattle.core_events.specs.Steps.{IsIdle}
 use Rattle.core_events.specs.Runs.{Core, view_at}
 use Rattle.core_events.specs.Counts.{one, places, in_note}
 use Rattle.core_events.specs.Good.{SeatLaw, word_of_note}
-use Rattle.core_law.specs.Sound.{Sound}
-use Rattle.core_law.proofs.Kit.{noting_set, noting_at, in_word_same}
-use Rattle.core_law.proofs.Writes.{note_off, places_off, fields_sum_off, IsPlace, places_at}
-use Rattle.core_law.proofs.Put.{put, put_sound, step_sound, announced_put, protected_put, at_seat, law_alike, Alike}
+use Rattle.core_invariant.specs.Sound.{Sound}
+use Rattle.core_invariant.proofs.Kit.{noting_set, noting_at, in_word_same}
+use Rattle.core_invariant.proofs.Writes.{note_off, places_off, fields_sum_off, IsPlace, places_at}
+use Rattle.core_invariant.proofs.Put.{put, put_sound, step_sound, announced_put, protected_put, at_seat, law_alike, Alike}
 
 module _ (z : Shape) (c : Core) (n : ℕ) (so : Sound z c) (hn : n < z.seats) where
   abbrev v : CoreView

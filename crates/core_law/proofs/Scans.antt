@@ -16,12 +16,12 @@ use Rattle.core_events.specs.Views.{no_view}
 use Rattle.core_events.specs.Steps.{IsIdle}
 use Rattle.core_events.specs.Runs.{Core, view_at}
 use Rattle.core_events.specs.Counts.{guarding, has_passed}
-use Rattle.core_law.specs.Sound.{Sound}
-use Rattle.core_law.proofs.Kit.{entry_none}
-use Rattle.core_law.proofs.Splits.{seen_at, kept_times, split_times, split_length}
-use Rattle.core_law.proofs.Put.{put, step_sound, announced_put, protected_put, at_seat, law_alike}
-use Rattle.core_law.proofs.Steady.{Counted, in_idle, in_scan}
-use Rattle.core_law.proofs.Guards.{guards_all, guards_open, guards_passed, passed_cases, read_passed}
+use Rattle.core_invariant.specs.Sound.{Sound}
+use Rattle.core_invariant.proofs.Kit.{entry_none}
+use Rattle.core_invariant.proofs.Splits.{seen_at, kept_times, split_times, split_length}
+use Rattle.core_invariant.proofs.Put.{put, step_sound, announced_put, protected_put, at_seat, law_alike}
+use Rattle.core_invariant.proofs.Steady.{Counted, in_idle, in_scan}
+use Rattle.core_invariant.proofs.Guards.{guards_all, guards_open, guards_passed, passed_cases, read_passed}
 
 module _ (z : Shape) (c : Core) (n : ℕ) (so : Sound z c) (hn : n < z.seats) where
   abbrev v : CoreView

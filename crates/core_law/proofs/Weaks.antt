@@ -1,26 +1,32 @@
--- Each step that gains or gives up a weak reference keeps the invariant.
-use Rattle.std.proofs.Common.{◌≡◌, ◌≢◌, ℕ, ◌+◌, ◌<◌, List, [], ◌∷◌, ◌++◌, length, refl, ap, sym, arith}
-use Rattle.plain_state.specs.declared.slot.Kind.TheVariants.{Strong, Weak}
+-- Each step that gains or gives up a weak reference keeps the invariant, and each destruction.
+use Rattle.std.proofs.Common.{◌≡◌, ◌≢◌, ◌⊎◌, ⊎_elim, ℕ, true, ◌+◌, ◌-◌, ◌%◌, ◌^◌, ◌<◌, ◌≤◌, bit_and, List, [], ◌∷◌, ◌++◌, length, refl, ap, sym, ◌∙◌, arith}
+use Rattle.std.specs.Prelude.{slice_index}
+use Rattle.plain_state.specs.declared.slot.Kind.{Kind}
+use Rattle.plain_state.specs.declared.slot.Kind.TheVariants.{Strong, Weak, Disposal}
 use Rattle.plain_state.specs.declared.slot.SlotId.{SlotId}
 use Rattle.plain_state.specs.Lists.{Entry, times, entry_times}
 use Rattle.core_events.specs.declared.shape.Shape.{Shape}
 use Rattle.core_events.specs.declared.view.CoreView.{CoreView}
 use Rattle.core_events.specs.declared.view.Move.{Move}
+use Rattle.core_events.specs.declared.view.Phase.{Phase}
 use Rattle.core_events.specs.declared.view.Phase.TheVariants as phase
-use Rattle.core_events.specs.Words.{weak_at}
-use Rattle.core_events.specs.Views.{without, Holds}
-use Rattle.core_events.specs.Steps.{plus_one, minus_one, IsIdle, HasAdd}
-use Rattle.core_events.specs.Runs.{Core, view_at}
-use Rattle.core_events.specs.Counts.{weak}
-use Rattle.core_law.specs.Slots.{numbers}
-use Rattle.core_law.specs.Sound.{Sound}
-use Rattle.core_law.proofs.Kit.{one_same, one_other, times_push, times_without, entry_cons}
+use Rattle.core_events.specs.Words.{ZERO, HELP, strong_at, weak_at, bits_at, bit_alone, bit_in}
+use Rattle.core_events.specs.Views.{Holds, without}
+use Rattle.core_events.specs.Steps.{plus_one, minus_one, IsIdle, HasAdd, HasMake}
+use Rattle.core_events.specs.Runs.{Core, view_at, HasNullFields}
+use Rattle.core_events.specs.Counts.{one, strong, weak, free_bit, listed, total, dying_times}
+use Rattle.core_invariant.specs.Slots.{numbers}
+use Rattle.core_invariant.specs.Sound.{Sound}
+use Rattle.core_invariant.proofs.Kit.{one_same, one_other, times_push, times_without, total_at}
+use Rattle.core_invariant.proofs.Held.{held_taken, held_named}
+use Rattle.core_invariant.proofs.Put.{put, adds_fit, at_seat, ripe_times}
+use Rattle.core_invariant.proofs.SlotSame.{slot_same}
+use Rattle.core_invariant.proofs.Steady.{named_in_range, not_left, in_idle, in_finish, in_help, in_zero, in_bare, in_blank, in_give}
 use Rattle.core_law.proofs.WeakSteps as slot
-use Rattle.core_law.proofs.StrongSteps.{same_strong}
-use Rattle.core_law.proofs.Held.{held_refs, held_named}
-use Rattle.core_law.proofs.Put.{put, alike}
-use Rattle.core_law.proofs.Steady.{named_in_range, steady_seat, in_idle}
-use Rattle.core_law.proofs.OneWord.{weak_step}
+use Rattle.core_law.proofs.StrongSteps.{same_weak, same_strong}
+use Rattle.core_law.proofs.Live.{live_most, is_low, is_asked, weakly_counts, plus_fits, minus_fits}
+use Rattle.core_law.proofs.OneWord.{Having, having, with_having, IsAt, at_idle, at_finish, at_help, at_zero, at_bare, at_blank, at_give, SameOf, same_of, Touches, strong_step, weak_step, bit_step}
+use Rattle.core_law.proofs.Counters.{GivesUp, gains, loses, idle_here}
 
 module _ (z : Shape) (c : Core) (n : ℕ) (so : Sound z c) (hn : n < z.seats) where
   abbrev v : CoreView
@@ -32,201 +38,197 @@ module _ (z : Shape) (c : Core) (n : ℕ) (so : Sound z c) (hn : n < z.seats) wh
       → Sound z (put c n (record v { weaks = v.weaks ++ s ∷ []; adds = v.adds + 1; trail = t })
       (weak_at z s) (plus_one (weak z c s)))
   weak_add s t idle quota held =
-      let u : CoreView = record v { weaks = v.weaks ++ s ∷ []; adds = v.adds + 1; trail = t } in
-      let law = so.seats n hn in
+      let k : Having = record (having v) { weaks = v.weaks ++ s ∷ []; adds = v.adds + 1; trail = t } in
       let o = one_same s s refl in
       let p = in_idle v.phase s idle.0 in
       let e = times_push s s v.weaks in
-      let hs : s.0 < z.slots = named_in_range z n v s law (held_named s v held) in
-      weak_step z c n so hn s u (plus_one (weak z c s)) hs
-      (steady_seat z n v u law refl refl refl refl refl refl (λ e. absurd (cc (idle.0, e)))
-      (λ e. absurd (cc (idle.0, e))) (λ e. absurd (cc (idle.1, e)))
-      (let q = law.adds in omega arith) law.makes (λ x e. absurd (cc (idle.0, e)))
-      (λ x le.
-      let r = law.range x le in
-      let other = one_other x s (omega arith) in
-      let p = in_idle v.phase x idle.0 in
+      let hs : s.0 < z.slots = named_in_range z n v s (so.seats n hn) (held_named s v held) in
+      let taken = held_taken z c n s so hn hs held in
+      weak_step z c n so hn s k (plus_one (weak z c s)) hs (plus_fits (weak z c s))
+      (gains z c n so hn s k idle idle.0 quota refl refl refl refl refl (λ x ne.
+      let other = one_other x s (λ e. ne (sym e)) in
       let e = times_push x s v.weaks in
-      omega arith))
-      (omega arith)
-      (λ x ne.
-      let other = one_other x s (λ e. ne (sym e)) in
-      let p = in_idle v.phase x idle.0 in
-      let e = times_push x s v.weaks in
-      alike (omega arith) (omega arith) (omega arith) (omega arith) (omega arith) (omega arith)
-      (omega arith))
-      (λ sums wrote.
-      let held' = held_refs z c n s so hn held in
-      slot.weak_add _ _ (numbers z c s) _ (so.slots s hs) sums.fit
+      same_of refl (omega arith) (λ j. refl) refl refl refl))
+      (λ _. omega arith)
+      (λ sums wrote. slot.weak_add _ _ (numbers z c s) _ (so.slots s hs) sums.fit
       (same_strong (omega arith) (omega arith) (omega arith) (omega arith) (omega arith))
+      (omega arith) (omega arith)
       (omega arith) (omega arith) (omega arith) (omega arith) (omega arith) (omega arith)
       (omega arith))
-      refl refl refl refl refl (omega arith)
 
-  -- a weak reference of several that goes
-  pub weak_left : (s : SlotId) (t : List Move)
-      → IsIdle v → 0 < times s v.weaks → weak z c s ≢ 1
-      → Sound z (put c n (record v { weaks = without s v.weaks; phase = phase.Idle; trail = t })
-      (weak_at z s) (minus_one (weak z c s)))
-  weak_left s t idle own many =
-      let u : CoreView = record v { weaks = without s v.weaks; phase = phase.Idle; trail = t } in
-      let law = so.seats n hn in
+  -- one of several weak references goes
+  pub weak_left : (s : SlotId) (k : Having) → s.0 < z.slots → IsIdle v → k.phase ≡ phase.Idle
+      → GivesUp Weak v s k → weak z c s ≢ 1
+      → Sound z (put c n (with_having v k) (weak_at z s) (minus_one (weak z c s)))
+  weak_left s k hs idle to g many =
+      let p = in_idle v.phase s idle.0 in
+      let q = in_idle k.phase s to in
+      let lost = g.lost in
+      let kept = g.rest Strong (λ e. cc) in
+      let dy = ap (times s) g.dying in
+      let ad = g.adds in
+      weak_step z c n so hn s k (minus_one (weak z c s)) hs (minus_fits (weak z c s))
+      (loses z c n so hn Weak s k idle (at_idle to)
+      (λ x e. ⊎_elim (λ f. absurd (cc (to, f))) (λ f. absurd (cc (to, f))) e) g)
+      (λ _. omega arith)
+      (λ sums wrote. slot.weak_left _ _ (numbers z c s) _ (so.slots s hs) sums.fit
+      (same_strong (omega arith) (omega arith) (omega arith) (omega arith) (omega arith))
+      (omega arith) (omega arith) many
+      (omega arith) (omega arith) (omega arith) (omega arith) (omega arith) (omega arith)
+      (omega arith))
+
+  -- the last one goes
+  pub weak_last : (s : SlotId) (k : Having) → s.0 < z.slots → IsIdle v → k.phase ≡ phase.Give s
+      → GivesUp Weak v s k → weak z c s ≡ 1
+      → Sound z (put c n (with_having v k) (weak_at z s) (minus_one (weak z c s)))
+  weak_last s k hs idle to g last =
       let o = one_same s s refl in
       let p = in_idle v.phase s idle.0 in
-      let e = times_without s s v.weaks own in
-      let hs : s.0 < z.slots = named_in_range z n v s law (omega arith) in
-      weak_step z c n so hn s u (minus_one (weak z c s)) hs
-      (steady_seat z n v u law refl refl refl refl refl refl (λ e. absurd (cc (idle.0, e)))
-      (λ e. absurd (cc (e))) (λ e. absurd (cc (idle.1, e))) (let q = law.adds in omega arith)
-      law.makes (λ x e. absurd (cc (e)))
-      (λ x le.
-      let r = law.range x le in
-      let other = one_other x s (omega arith) in
-      let p = in_idle v.phase x idle.0 in
-      let e = times_without x s v.weaks own in
-      omega arith))
-      (omega arith)
-      (λ x ne.
-      let other = one_other x s (λ e. ne (sym e)) in
-      let p = in_idle v.phase x idle.0 in
-      let e = times_without x s v.weaks own in
-      alike (omega arith) (omega arith) (omega arith) (omega arith) (omega arith) (omega arith)
-      (omega arith))
-      (λ sums wrote.
-      slot.weak_left _ _ (numbers z c s) _ (so.slots s hs) sums.fit
+      let q = in_give k.phase s s to in
+      let lost = g.lost in
+      let kept = g.rest Strong (λ e. cc) in
+      let dy = ap (times s) g.dying in
+      let ad = g.adds in
+      weak_step z c n so hn s k (minus_one (weak z c s)) hs (minus_fits (weak z c s))
+      (loses z c n so hn Weak s k idle (at_give to)
+      (λ x e. ⊎_elim (λ f. absurd (cc (to, f))) (λ f. absurd (cc (to, f))) e) g)
+      (λ _. omega arith)
+      (λ sums wrote. slot.weak_last _ _ (numbers z c s) _ (so.slots s hs) sums.fit
       (same_strong (omega arith) (omega arith) (omega arith) (omega arith) (omega arith))
+      (omega arith) (omega arith) last
       (omega arith) (omega arith) (omega arith) (omega arith) (omega arith) (omega arith)
-      (omega arith) (omega arith))
-      refl refl refl refl refl (omega arith)
+      (omega arith))
 
-  -- the last weak reference that goes
-  pub weak_last : (s : SlotId) (t : List Move)
-      → IsIdle v → 0 < times s v.weaks → weak z c s ≡ 1
-      → Sound z (put c n (record v { weaks = without s v.weaks; phase = phase.Give s; trail = t })
-      (weak_at z s) (minus_one (weak z c s)))
-  weak_last s t idle own last =
-      let u : CoreView = record v { weaks = without s v.weaks; phase = phase.Give s; trail = t } in
+  -- what a weak drop gives up
+  pub weak_drops : (s : SlotId) (p : Phase) (t : List Move) → 0 < times s v.weaks
+      → GivesUp Weak v s (record (having v) { weaks = without s v.weaks; phase = p; trail = t })
+  weak_drops s p t own = record {
+    lost = let o = one_same s s refl in let e = times_without s s v.weaks own in omega arith;
+    rest = other_kinds;
+    others = λ x ne.
+        let other = one_other x s (λ e. ne (sym e)) in
+        let e = times_without x s v.weaks own in
+        same_of refl (omega arith) (λ j. refl) refl refl refl;
+    dying = refl;
+    ripe = refl;
+    kinds = refl;
+    owed = omega arith;
+    adds = refl;
+    makes = refl;
+  }
+    where
+      other_kinds : (j : Kind) → j ≢ Weak
+          → listed j s (record v { weaks = without s v.weaks; phase = p; trail = t }) ≡ listed j s v
+      other_kinds Strong ne = refl
+      other_kinds Weak ne = absurd (ne refl)
+      other_kinds Disposal ne = refl
+
+  -- a slot is destroyed: it leaves the dying list and the ripe one
+  destroys : (s : SlotId) (p : Phase) (t : List Move) → IsIdle v → 0 < times s v.ripe → IsAt s p
+      → ((x : SlotId) → (p ≡ phase.Bare x) ⊎ (p ≡ phase.Blank x) → ⊥)
+      → Touches z v s (record (having v) {
+        dying = without s v.dying;
+        ripe = without s v.ripe;
+        phase = p;
+        trail = t;
+      })
+  destroys s p t idle is_ripe to unclaimed =
       let law = so.seats n hn in
       let o = one_same s s refl in
-      let p = in_idle v.phase s idle.0 in
-      let e = times_without s s v.weaks own in
-      let hs : s.0 < z.slots = named_in_range z n v s law (omega arith) in
-      weak_step z c n so hn s u (minus_one (weak z c s)) hs
-      (steady_seat z n v u law refl refl refl refl refl refl (λ e. absurd (cc (idle.0, e)))
-      (λ e. absurd (cc (e))) (λ e. absurd (cc (idle.1, e))) (let q = law.adds in omega arith)
-      law.makes (λ x e. absurd (cc (e)))
-      (λ x le.
-      let r = law.range x le in
-      let other = one_other x s (omega arith) in
-      let p = in_idle v.phase x idle.0 in
-      let e = times_without x s v.weaks own in
-      omega arith))
-      (omega arith)
-      (λ x ne.
-      let other = one_other x s (λ e. ne (sym e)) in
-      let p = in_idle v.phase x idle.0 in
-      let e = times_without x s v.weaks own in
-      alike (omega arith) (omega arith) (omega arith) (omega arith) (omega arith) (omega arith)
-      (omega arith))
-      (λ sums wrote.
-      slot.weak_last _ _ (numbers z c s) _ (so.slots s hs) sums.fit
-      (same_strong (omega arith) (omega arith) (omega arith) (omega arith) (omega arith))
-      (omega arith) (omega arith) (omega arith) (omega arith) (omega arith) (omega arith)
-      (omega arith) (omega arith))
-      refl refl refl refl refl (omega arith)
+      let r = law.ripe s in
+      let re = times_without s s v.ripe is_ripe in
+      let dy = times_without s s v.dying (omega arith) in
+      record {
+        here = idle_here z c n so hn idle;
+        from = at_idle idle.0;
+        to = to;
+        adds = omega arith;
+        adds_most = law.adds;
+        makes = law.makes;
+        starts = λ x e. absurd (unclaimed x e);
+        owed = omega arith;
+        others = λ x ne.
+            let other = one_other x s (λ e. ne (sym e)) in
+            let e = times_without x s v.dying (omega arith) in
+            let f = times_without x s v.ripe is_ripe in
+            same_of refl refl (λ j. refl) (omega arith) (omega arith) refl;
+        ripe = omega arith;
+        ripe_most = omega arith;
+        kinds = refl;
+      }
 
-  -- a payment of one of several weak references
-  pub pay_weak_left : (rest : List Entry) (s : SlotId) (t : List Move)
-      → IsIdle v → v.owed ≡ (Weak, s) ∷ rest → weak z c s ≢ 1
-      → Sound z (put c n (record v { owed = rest; phase = phase.Idle; trail = t })
-      (weak_at z s) (minus_one (weak z c s)))
-  pay_weak_left rest s t idle owes many =
-      let u : CoreView = record v { owed = rest; phase = phase.Idle; trail = t } in
-      let law = so.seats n hn in
+  -- a ripe slot is under no weak snapshot
+  ripe_here : (s : SlotId) → 0 < times s v.ripe → ripe_times c s ≡ 0 → ⊥
+  ripe_here s is_ripe none =
+      let t = total_at (λ (u : CoreView). times s u.ripe) c.views n (at_seat z c n so hn) in
+      absurd (omega arith)
+
+  -- a slot is destroyed that weak references name
+  pub destroy_left : (s : SlotId) (t : List Move)
+      → IsIdle v → 0 < times s v.ripe → HasNullFields z c.words s → weak z c s ≢ 1
+      → Sound z (put c n (record v {
+        dying = without s v.dying;
+        ripe = without s v.ripe;
+        phase = phase.Idle;
+        trail = t;
+      }) (weak_at z s) (minus_one (weak z c s)))
+  destroy_left s t idle is_ripe nulls many =
+      let k : Having = record (having v) {
+        dying = without s v.dying;
+        ripe = without s v.ripe;
+        phase = phase.Idle;
+        trail = t;
+      } in
       let o = one_same s s refl in
       let p = in_idle v.phase s idle.0 in
-      let a = ap (entry_times Strong s) owes in
-      let b = ap (entry_times Weak s) owes in
-      let e = entry_cons Strong s (Weak, s) rest in
-      let f = entry_cons Weak s (Weak, s) rest in
-      let l = ap length owes in
-      let hs : s.0 < z.slots = named_in_range z n v s law (omega arith) in
-      weak_step z c n so hn s u (minus_one (weak z c s)) hs
-      (steady_seat z n v u law refl refl refl refl refl refl (λ e. absurd (cc (idle.0, e)))
-      (λ e. absurd (cc (e))) (λ e. absurd (cc (idle.1, e))) (let q = law.adds in omega arith)
-      law.makes (λ x e. absurd (cc (e)))
-      (λ x le.
-      let r = law.range x le in
-      let other = one_other x s (omega arith) in
-      let p = in_idle v.phase x idle.0 in
-      let a = ap (entry_times Strong x) owes in
-      let b = ap (entry_times Weak x) owes in
-      let e = entry_cons Strong x (Weak, s) rest in
-      let f = entry_cons Weak x (Weak, s) rest in
-      let l = ap length owes in
-      omega arith))
-      (omega arith)
-      (λ x ne.
-      let other = one_other x s (λ e. ne (sym e)) in
-      let p = in_idle v.phase x idle.0 in
-      let a = ap (entry_times Strong x) owes in
-      let b = ap (entry_times Weak x) owes in
-      let e = entry_cons Strong x (Weak, s) rest in
-      let f = entry_cons Weak x (Weak, s) rest in
-      let l = ap length owes in
-      alike (omega arith) (omega arith) (omega arith) (omega arith) (omega arith) (omega arith)
-      (omega arith))
+      let r = (so.seats n hn).ripe s in
+      let e = times_without s s v.dying (omega arith) in
+      let hs : s.0 < z.slots = named_in_range z n v s (so.seats n hn) (omega arith) in
+      weak_step z c n so hn s k (minus_one (weak z c s)) hs (minus_fits (weak z c s))
+      (destroys s phase.Idle t idle is_ripe (at_idle refl)
+      (λ x e. ⊎_elim (λ f. absurd (cc (f))) (λ f. absurd (cc (f))) e))
+      (λ none. absurd (ripe_here s is_ripe none))
       (λ sums wrote.
-      slot.weak_left _ _ (numbers z c s) _ (so.slots s hs) sums.fit
+      let n0 = nulls.0 in
+      let n1 = nulls.1 in
+      let n2 = nulls.2 in
+      slot.destroy_left _ _ (numbers z c s) _ (so.slots s hs) sums.fit
       (same_strong (omega arith) (omega arith) (omega arith) (omega arith) (omega arith))
+      (omega arith) (omega arith) (omega arith) many
       (omega arith) (omega arith) (omega arith) (omega arith) (omega arith) (omega arith)
-      (omega arith) (omega arith))
-      refl refl refl refl refl (omega arith)
+      (omega arith))
 
-  -- a payment of the last weak reference
-  pub pay_weak_last : (rest : List Entry) (s : SlotId) (t : List Move)
-      → IsIdle v → v.owed ≡ (Weak, s) ∷ rest → weak z c s ≡ 1
-      → Sound z (put c n (record v { owed = rest; phase = phase.Give s; trail = t })
-      (weak_at z s) (minus_one (weak z c s)))
-  pay_weak_last rest s t idle owes last =
-      let u : CoreView = record v { owed = rest; phase = phase.Give s; trail = t } in
-      let law = so.seats n hn in
+  -- a slot is destroyed that nothing names
+  pub destroy_last : (s : SlotId) (t : List Move)
+      → IsIdle v → 0 < times s v.ripe → HasNullFields z c.words s → weak z c s ≡ 1
+      → Sound z (put c n (record v {
+        dying = without s v.dying;
+        ripe = without s v.ripe;
+        phase = phase.Give s;
+        trail = t;
+      }) (weak_at z s) (minus_one (weak z c s)))
+  destroy_last s t idle is_ripe nulls last =
+      let k : Having = record (having v) {
+        dying = without s v.dying;
+        ripe = without s v.ripe;
+        phase = phase.Give s;
+        trail = t;
+      } in
       let o = one_same s s refl in
       let p = in_idle v.phase s idle.0 in
-      let a = ap (entry_times Strong s) owes in
-      let b = ap (entry_times Weak s) owes in
-      let e = entry_cons Strong s (Weak, s) rest in
-      let f = entry_cons Weak s (Weak, s) rest in
-      let l = ap length owes in
-      let hs : s.0 < z.slots = named_in_range z n v s law (omega arith) in
-      weak_step z c n so hn s u (minus_one (weak z c s)) hs
-      (steady_seat z n v u law refl refl refl refl refl refl (λ e. absurd (cc (idle.0, e)))
-      (λ e. absurd (cc (e))) (λ e. absurd (cc (idle.1, e))) (let q = law.adds in omega arith)
-      law.makes (λ x e. absurd (cc (e)))
-      (λ x le.
-      let r = law.range x le in
-      let other = one_other x s (omega arith) in
-      let p = in_idle v.phase x idle.0 in
-      let a = ap (entry_times Strong x) owes in
-      let b = ap (entry_times Weak x) owes in
-      let e = entry_cons Strong x (Weak, s) rest in
-      let f = entry_cons Weak x (Weak, s) rest in
-      let l = ap length owes in
-      omega arith))
-      (omega arith)
-      (λ x ne.
-      let other = one_other x s (λ e. ne (sym e)) in
-      let p = in_idle v.phase x idle.0 in
-      let a = ap (entry_times Strong x) owes in
-      let b = ap (entry_times Weak x) owes in
-      let e = entry_cons Strong x (Weak, s) rest in
-      let f = entry_cons Weak x (Weak, s) rest in
-      let l = ap length owes in
-      alike (omega arith) (omega arith) (omega arith) (omega arith) (omega arith) (omega arith)
-      (omega arith))
+      let r = (so.seats n hn).ripe s in
+      let e = times_without s s v.dying (omega arith) in
+      let hs : s.0 < z.slots = named_in_range z n v s (so.seats n hn) (omega arith) in
+      weak_step z c n so hn s k (minus_one (weak z c s)) hs (minus_fits (weak z c s))
+      (destroys s (phase.Give s) t idle is_ripe (at_give refl)
+      (λ x e. ⊎_elim (λ f. absurd (cc (f))) (λ f. absurd (cc (f))) e))
+      (λ none. absurd (ripe_here s is_ripe none))
       (λ sums wrote.
-      slot.weak_last _ _ (numbers z c s) _ (so.slots s hs) sums.fit
+      let n0 = nulls.0 in
+      let n1 = nulls.1 in
+      let n2 = nulls.2 in
+      slot.destroy_last _ _ (numbers z c s) _ (so.slots s hs) sums.fit
       (same_strong (omega arith) (omega arith) (omega arith) (omega arith) (omega arith))
+      (omega arith) (omega arith) (omega arith) last
       (omega arith) (omega arith) (omega arith) (omega arith) (omega arith) (omega arith)
-      (omega arith) (omega arith))
-      refl refl refl refl refl (omega arith)
+      (omega arith))

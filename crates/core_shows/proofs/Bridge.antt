@@ -17,9 +17,9 @@ use Rattle.core_events.specs.Views.{no_view, snapshots}
 use Rattle.core_events.specs.Runs.{Core, view_at}
 use Rattle.core_events.specs.Counts.{total, listed, refs, places, fields_holding, dying_times}
 use Rattle.core_events.specs.Shows.{shows, show_seat, show_slot}
-use Rattle.core_law.specs.Sound.{Sound}
-use Rattle.core_law.proofs.Kit.{entry_append}
-use Rattle.core_law.proofs.Writes.{weak_holding}
+use Rattle.core_invariant.specs.Sound.{Sound}
+use Rattle.core_invariant.proofs.Kit.{entry_append}
+use Rattle.core_invariant.proofs.Writes.{weak_holding}
 use Rattle.core_shows.proofs.Lists.{length_each, get_each, cells_sum, slots_sum, seats_sum, held_word, total_plus, total_same}
 
 module _ (z : Shape) (c : Core) where

@@ -11,8 +11,8 @@ use Rattle.core_events.specs.Words.{has_zero, cell_at, weak_cell_at, field_at, w
 use Rattle.core_events.specs.Runs.{Core, view_at}
 use Rattle.core_events.specs.Counts.{strong, stage}
 use Rattle.core_events.specs.Shows.{shows, show_seat, show_slot, lives}
-use Rattle.core_law.specs.Sound.{Sound}
-use Rattle.core_law.proofs.Put.{put}
+use Rattle.core_invariant.specs.Sound.{Sound}
+use Rattle.core_invariant.proofs.Put.{put}
 use Rattle.core_shows.proofs.Lists.{each_same}
 use Rattle.core_shows.proofs.Frames.{slot_made, shows_slot}
 use Rattle.core_shows.proofs.Quiet.{OffShown, strong_off, weak_off, Quiet, rest_same, slot_quiet}

@@ -6,9 +6,9 @@ use Rattle.core_events.specs.declared.act.Event.{Event}
 use Rattle.core_events.specs.declared.shape.Shape.{Shape}
 use Rattle.core_events.specs.declared.shape.Quota.{Quota}
 use Rattle.core_events.specs.Runs.{Core, Enabled, after, AreEnabled, start, IsShape, AreQuotas}
-use Rattle.core_law.specs.Sound.{Sound}
+use Rattle.core_invariant.specs.Sound.{Sound}
 use Rattle.core_law.proofs.Always.{step_keeps}
-use Rattle.core_law.proofs.Starts.{start_sound}
+use Rattle.core_invariant.proofs.Starts.{start_sound}
 use Rattle.core_shows.specs.Shown.{ShowsStep, AllShow}
 use Rattle.core_shows.proofs.Does.{ShowsRow}
 use Rattle.core_shows.proofs.Seats.{enabled_seat}

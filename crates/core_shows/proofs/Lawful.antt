@@ -19,12 +19,12 @@ use Rattle.core_events.specs.Views.{snapshots}
 use Rattle.core_events.specs.Runs.{Core, view_at}
 use Rattle.core_events.specs.Counts.{stage, adds_used, guarding, has_passed}
 use Rattle.core_events.specs.Shows.{shows}
-use Rattle.core_law.specs.Slots.{Numbers, numbers, SlotLaw, free, blank, counted, asked, over, husk}
-use Rattle.core_law.specs.Sound.{Sound}
-use Rattle.core_law.proofs.Held.{valid_find}
-use Rattle.core_law.proofs.Parts.{stage_in, stage_is, vacant_nulls}
-use Rattle.core_law.proofs.Put.{adds_fit}
-use Rattle.core_law.proofs.Held.{total_le}
+use Rattle.core_invariant.specs.Slots.{Numbers, numbers, SlotLaw, free, blank, counted, asked, over, husk}
+use Rattle.core_invariant.specs.Sound.{Sound}
+use Rattle.core_invariant.proofs.Held.{valid_find}
+use Rattle.core_invariant.proofs.Parts.{stage_in, stage_is, vacant_nulls}
+use Rattle.core_invariant.proofs.Put.{adds_fit}
+use Rattle.core_invariant.proofs.Held.{total_le}
 use Rattle.core_shows.proofs.Bridge.{shown_slot, shown_past, shown_places, shown_deferrals, shown_strong, shown_weak, shown_snapshots, shown_dying, total_find, refs_past, dying_past}
 
 -- what the law of a slot tells of its stage

@@ -8,7 +8,7 @@ use Rattle.plain_state.specs.Lists.{Entry, times, is_slot, Loses, Gains}
 use Rattle.core_events.specs.declared.view.Note.{Note}
 use Rattle.core_events.specs.declared.view.Note.TheVariants as note
 use Rattle.core_events.specs.Views.{valid_of, without}
-use Rattle.core_law.proofs.Kit.{slot_eq, times_none, times_cons, one_other}
+use Rattle.core_invariant.proofs.Kit.{slot_eq, times_none, times_cons, one_other}
 
 pub loses_without : (s : SlotId) (xs : List SlotId) → 0 < times s xs → Loses xs s (without s xs)
 loses_without s [] h = let e = times_none s in absurd (omega arith)

@@ -11,11 +11,11 @@ use Rattle.core_events.specs.Words.{has_zero, cell_at, weak_cell_at, field_at, w
 use Rattle.core_events.specs.Runs.{Core, view_at}
 use Rattle.core_events.specs.Counts.{strong, weak, stage_of, fillers, dying_times, filling, adds_used}
 use Rattle.core_events.specs.Shows.{shows, show_seat, show_slot, lives}
-use Rattle.core_law.specs.Slots.{numbers}
-use Rattle.core_law.specs.Sound.{Sound}
-use Rattle.core_law.proofs.Kit.{total_set, slot_cases}
-use Rattle.core_law.proofs.Put.{put, at_seat, adds_fit}
-use Rattle.core_law.proofs.Parts.{stage_is}
+use Rattle.core_invariant.specs.Slots.{numbers}
+use Rattle.core_invariant.specs.Sound.{Sound}
+use Rattle.core_invariant.proofs.Kit.{total_set, slot_cases}
+use Rattle.core_invariant.proofs.Put.{put, at_seat, adds_fit}
+use Rattle.core_invariant.proofs.Parts.{stage_is}
 use Rattle.core_shows.proofs.Lists.{each_same}
 use Rattle.core_shows.proofs.Frames.{SameRest, slot_kept, shows_seat}
 use Rattle.core_shows.proofs.Stages.{SameFlags, SameFree, mark_keeps, stage_keeps}

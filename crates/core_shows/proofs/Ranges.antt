@@ -2,7 +2,7 @@
 use Rattle.std.proofs.Common.{◌≡◌, ℕ, ◌+◌, ◌^◌, ◌<◌, ◌≤◌, arith}
 use Rattle.core_events.specs.Words.{ZERO, HELP}
 use Rattle.core_events.specs.Steps.{plus_one, minus_one}
-use Rattle.core_law.specs.Slots.{Numbers, SlotLaw, free, blank, counted, asked, over, husk}
+use Rattle.core_invariant.specs.Slots.{Numbers, SlotLaw, free, blank, counted, asked, over, husk}
 use Rattle.core_shows.proofs.Stages.{SameFlags, SameFree}
 
 pub record Ranges (a w : ℕ) : Type 0 where

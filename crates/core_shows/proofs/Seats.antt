@@ -12,8 +12,8 @@ use Rattle.core_events.specs.Good.{SeatLaw}
 use Rattle.core_events.specs.Runs.{Core, Enabled, view_at}
 use Rattle.core_events.specs.Shows.{shows, show_seat}
 use Rattle.core_events.specs.Steps.{May}
-use Rattle.core_law.specs.Sound.{Sound}
-use Rattle.core_law.proofs.Steady.{not_left}
+use Rattle.core_invariant.specs.Sound.{Sound}
+use Rattle.core_invariant.proofs.Steady.{not_left}
 use Rattle.core_shows.proofs.Bridge.{shown_seat}
 
 -- a seat that is in the middle of something hasn't left

@@ -25,13 +25,13 @@ use Rattle.core_events.specs.Counts.{strong, weak, adds_used, listed}
 use Rattle.core_events.specs.Shows.{shows, show_seat}
 use Rattle.core_events.specs.ShownSteps.{ejects}
 use Rattle.core_shows.proofs.Does.{ShowsRow}
-use Rattle.core_law.specs.Slots.{numbers}
-use Rattle.core_law.specs.Sound.{Sound}
-use Rattle.core_law.proofs.Kit.{total_at, entry_cons, one_same}
-use Rattle.core_law.proofs.Held.{held_named}
-use Rattle.core_law.proofs.Parts.{value_is}
-use Rattle.core_law.proofs.Put.{put, at_seat, adds_fit}
-use Rattle.core_law.proofs.Steady.{named_in_range, in_idle}
+use Rattle.core_invariant.specs.Slots.{numbers}
+use Rattle.core_invariant.specs.Sound.{Sound}
+use Rattle.core_invariant.proofs.Kit.{total_at, entry_cons, one_same}
+use Rattle.core_invariant.proofs.Held.{held_named}
+use Rattle.core_invariant.proofs.Parts.{value_is}
+use Rattle.core_invariant.proofs.Put.{put, at_seat, adds_fit}
+use Rattle.core_invariant.proofs.Steady.{named_in_range, in_idle}
 use Rattle.core_law.proofs.Always.{step_keeps}
 use Rattle.core_shows.proofs.Bridge.{shown_seat, shown_slot, shown_strong}
 use Rattle.core_shows.proofs.Does as does

@@ -24,13 +24,13 @@ use Rattle.core_events.specs.Steps.{noted, ended}
 use Rattle.core_events.specs.Runs.{Core, Enabled, view_at}
 use Rattle.core_events.specs.Counts.{strong, adds_used, stage, filling, total}
 use Rattle.core_events.specs.Shows.{shows, show_seat, show_slot, lives, filled}
-use Rattle.core_law.specs.Slots.{numbers}
-use Rattle.core_law.specs.Sound.{Sound}
-use Rattle.core_law.proofs.Kit.{one_same, one_other, times_push, total_set, total_at}
-use Rattle.core_law.proofs.Flags.{flags, cleared}
-use Rattle.core_law.proofs.Parts.{value_is, stage_is}
-use Rattle.core_law.proofs.Put.{put, at_seat, adds_fit}
-use Rattle.core_law.proofs.Steady.{named_in_range, in_finish, in_help, in_zero}
+use Rattle.core_invariant.specs.Slots.{numbers}
+use Rattle.core_invariant.specs.Sound.{Sound}
+use Rattle.core_invariant.proofs.Kit.{one_same, one_other, times_push, total_set, total_at}
+use Rattle.core_invariant.proofs.Flags.{flags, cleared}
+use Rattle.core_invariant.proofs.Parts.{value_is, stage_is}
+use Rattle.core_invariant.proofs.Put.{put, at_seat, adds_fit}
+use Rattle.core_invariant.proofs.Steady.{named_in_range, in_finish, in_help, in_zero}
 use Rattle.core_law.proofs.Always.{step_keeps}
 use Rattle.core_shows.proofs.Bridge.{shown_seat, shown_slot, shown_strong}
 use Rattle.core_shows.proofs.Changes.{strong_changes}

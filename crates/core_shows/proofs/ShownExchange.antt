@@ -15,9 +15,9 @@ use Rattle.core_events.specs.Words.{slot_in, place_at, cell_at, weak_cell_at, fi
 use Rattle.core_events.specs.Runs.{Core, view_at}
 use Rattle.core_events.specs.Counts.{strong, stage, stage_of}
 use Rattle.core_events.specs.Shows.{shows, show_seat, show_slot, lives, each_from}
-use Rattle.core_law.specs.Sound.{Sound}
-use Rattle.core_law.proofs.Put.{put}
-use Rattle.core_law.proofs.Writes.{IsPlace}
+use Rattle.core_invariant.specs.Sound.{Sound}
+use Rattle.core_invariant.proofs.Put.{put}
+use Rattle.core_invariant.proofs.Writes.{IsPlace}
 use Rattle.core_shows.proofs.Bridge.{shown_slot}
 use Rattle.core_shows.proofs.Frames.{plain_eq, slot_eq}
 use Rattle.core_shows.proofs.Lists.{each_same, each_set}

@@ -16,10 +16,10 @@ use Rattle.core_events.specs.Steps.{CanLeave, noted}
 use Rattle.core_events.specs.Runs.{Core, Enabled, view_at, taken_over, left_behind, views_after}
 use Rattle.core_events.specs.Counts.{total, stage_of, strong, weak, filling}
 use Rattle.core_events.specs.Shows.{shows, show_seat, show_slot}
-use Rattle.core_law.specs.Sound.{Sound}
-use Rattle.core_law.proofs.Kit.{times_none, times_append}
+use Rattle.core_invariant.specs.Sound.{Sound}
+use Rattle.core_invariant.proofs.Kit.{times_none, times_append}
 use Rattle.core_law.proofs.Leaves.{total_two}
-use Rattle.core_law.proofs.Put.{at_seat}
+use Rattle.core_invariant.proofs.Put.{at_seat}
 use Rattle.core_shows.proofs.Bridge.{shown_seat}
 use Rattle.core_shows.proofs.Frames.{plain_eq, slot_kept}
 use Rattle.core_shows.proofs.Lists.{each_same}

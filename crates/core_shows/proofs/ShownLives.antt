@@ -25,12 +25,12 @@ use Rattle.core_events.specs.Steps.{noted, minus_one}
 use Rattle.core_events.specs.Runs.{Core, Enabled, view_at}
 use Rattle.core_events.specs.Counts.{weak, adds_used, stage, stage_of, filling, giving, total}
 use Rattle.core_events.specs.Shows.{shows, show_seat, show_slot, lives, filled}
-use Rattle.core_law.specs.Slots.{numbers}
-use Rattle.core_law.specs.Sound.{Sound}
-use Rattle.core_law.proofs.Kit.{one_same, one_other, times_push, times_without, total_set, total_at}
-use Rattle.core_law.proofs.Parts.{stage_is}
-use Rattle.core_law.proofs.Put.{put, at_seat, adds_fit}
-use Rattle.core_law.proofs.Steady.{named_in_range, in_idle, in_blank, in_give}
+use Rattle.core_invariant.specs.Slots.{numbers}
+use Rattle.core_invariant.specs.Sound.{Sound}
+use Rattle.core_invariant.proofs.Kit.{one_same, one_other, times_push, times_without, total_set, total_at}
+use Rattle.core_invariant.proofs.Parts.{stage_is}
+use Rattle.core_invariant.proofs.Put.{put, at_seat, adds_fit}
+use Rattle.core_invariant.proofs.Steady.{named_in_range, in_idle, in_blank, in_give}
 use Rattle.core_law.proofs.Always.{step_keeps}
 use Rattle.core_shows.proofs.Bridge.{shown_seat, shown_slot, shown_weak}
 use Rattle.core_shows.proofs.Changes.{strong_changes, weak_changes}

@@ -25,13 +25,13 @@ use Rattle.core_events.specs.Runs.{Core, Enabled, view_at}
 use Rattle.core_events.specs.Counts.{weak, adds_used, listed, filling}
 use Rattle.core_events.specs.Shows.{shows, show_seat, filled}
 use Rattle.core_events.specs.ShownSteps.{releases}
-use Rattle.core_law.specs.Slots.{numbers}
-use Rattle.core_law.specs.Sound.{Sound}
-use Rattle.core_law.proofs.Kit.{total_at, entry_append, entry_none}
-use Rattle.core_law.proofs.Held.{held_refs, held_named}
-use Rattle.core_law.proofs.Put.{put, at_seat, adds_fit}
-use Rattle.core_law.proofs.Splits.{split_times}
-use Rattle.core_law.proofs.Steady.{named_in_range, in_idle, in_scan}
+use Rattle.core_invariant.specs.Slots.{numbers}
+use Rattle.core_invariant.specs.Sound.{Sound}
+use Rattle.core_invariant.proofs.Kit.{total_at, entry_append, entry_none}
+use Rattle.core_invariant.proofs.Held.{held_refs, held_named}
+use Rattle.core_invariant.proofs.Put.{put, at_seat, adds_fit}
+use Rattle.core_invariant.proofs.Splits.{split_times}
+use Rattle.core_invariant.proofs.Steady.{named_in_range, in_idle, in_scan}
 use Rattle.core_law.proofs.Keeps.{open_there}
 use Rattle.core_law.proofs.Always.{step_keeps}
 use Rattle.core_shows.proofs.Bridge.{shown_seat}

@@ -15,9 +15,9 @@ use Rattle.core_events.specs.Words.{slot_in, place_at, cell_at, weak_cell_at, fi
 use Rattle.core_events.specs.Views.{IsOpen, IsDyingField}
 use Rattle.core_events.specs.Runs.{Core, view_at}
 use Rattle.core_events.specs.Shows.{shows, show_slot}
-use Rattle.core_law.specs.Sound.{Sound}
-use Rattle.core_law.proofs.Put.{at_seat}
-use Rattle.core_law.proofs.Writes.{IsPlace}
+use Rattle.core_invariant.specs.Sound.{Sound}
+use Rattle.core_invariant.proofs.Put.{at_seat}
+use Rattle.core_invariant.proofs.Writes.{IsPlace}
 use Rattle.core_shows.proofs.Bridge.{shown_seat, shown_slot}
 use Rattle.core_shows.proofs.Lists.{length_each, get_each}
 

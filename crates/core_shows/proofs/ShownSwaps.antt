@@ -26,13 +26,13 @@ use Rattle.core_events.specs.Steps.{CanGive, exchanged, without_given, noted, is
 use Rattle.core_events.specs.Runs.{Core, Enabled, view_at, after}
 use Rattle.core_events.specs.Shows.{shows, show_seat}
 use Rattle.core_events.specs.ShownSteps.{is_dying_field}
-use Rattle.core_law.specs.Slots.{numbers}
-use Rattle.core_law.specs.Sound.{Sound}
-use Rattle.core_law.proofs.Kit.{total_at}
-use Rattle.core_law.proofs.Held.{strongly_refs}
+use Rattle.core_invariant.specs.Slots.{numbers}
+use Rattle.core_invariant.specs.Sound.{Sound}
+use Rattle.core_invariant.proofs.Kit.{total_at}
+use Rattle.core_invariant.proofs.Held.{strongly_refs}
 use Rattle.core_law.proofs.Keeps.{open_there, dying_there}
-use Rattle.core_law.proofs.Put.{put, at_seat}
-use Rattle.core_law.proofs.Writes.{IsPlace}
+use Rattle.core_invariant.proofs.Put.{put, at_seat}
+use Rattle.core_invariant.proofs.Writes.{IsPlace}
 use Rattle.core_shows.proofs.Bridge.{shown_seat}
 use Rattle.core_shows.proofs.Does as does
 use Rattle.core_shows.proofs.Does.{ShowsRow}

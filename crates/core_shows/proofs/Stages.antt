@@ -4,8 +4,8 @@ use Rattle.std.proofs.Common.{◌≡◌, ◌≢◌, ℕ, ◌+◌, ◌^◌, ◌<�
 use Rattle.std.proofs.lemmas.Bool.Decides.{nat_tests}
 use Rattle.plain_state.specs.declared.slot.Stage.TheVariants.{Free, Blank, Live, Ended, Husk}
 use Rattle.core_events.specs.Words.{ZERO, HELP, has_zero}
-use Rattle.core_law.specs.Slots.{Numbers, SlotLaw, free, blank, counted, asked, over, husk}
-use Rattle.core_law.proofs.Parts.{stage_in}
+use Rattle.core_invariant.specs.Slots.{Numbers, SlotLaw, free, blank, counted, asked, over, husk}
+use Rattle.core_invariant.proofs.Parts.{stage_in}
 
 -- the two strong words have the same flags
 pub record SameFlags (w w' : ℕ) : Type 0 where

@@ -13,11 +13,11 @@ use Rattle.core_events.specs.Runs.{Core}
 use Rattle.core_events.specs.Counts.{refs, weak, stage}
 use Rattle.core_events.specs.Good.{CountLaw}
 use Rattle.core_events.specs.Shows.{shows}
-use Rattle.core_law.specs.Slots.{numbers}
-use Rattle.core_law.specs.Sound.{Sound}
-use Rattle.core_law.proofs.Held.{held_refs, strongly_refs}
-use Rattle.core_law.proofs.Parts.{sound_good, stage_is}
-use Rattle.core_law.proofs.Put.{adds_fit}
+use Rattle.core_invariant.specs.Slots.{numbers}
+use Rattle.core_invariant.specs.Sound.{Sound}
+use Rattle.core_invariant.proofs.Held.{held_refs, strongly_refs}
+use Rattle.core_invariant.proofs.Parts.{sound_good, stage_is}
+use Rattle.core_invariant.proofs.Put.{adds_fit}
 use Rattle.core_shows.specs.Shown.{CountsShown, HeldStays}
 use Rattle.core_shows.proofs.Bridge.{shown_slot, shown_strong, shown_weak}
 use Rattle.core_shows.proofs.Lawful.{shows_lawful}

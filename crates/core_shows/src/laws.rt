@@ -8,7 +8,7 @@ ghost use Rattle.core_events.specs.declared.shape.Shape.{Shape};
 ghost use Rattle.core_events.specs.declared.shape.Quota.{Quota};
 ghost use Rattle.core_events.specs.Runs.{AreEnabled, AreQuotas, Core, Enabled, IsShape, run, start};
 ghost use Rattle.core_events.specs.Shows.{shows};
-ghost use Rattle.core_law.specs.Sound.{Sound};
+ghost use Rattle.core_invariant.specs.Sound.{Sound};
 ghost use Rattle.core_shows.specs.Shown.{AllShow, CountsShown, HeldStays, ShowsStep};
 
 /// After every list of events that are enabled in turn the core shows a lawful plain state.

@@ -23,7 +23,7 @@ use Rattle.core_events.specs.declared.view.CoreView.{CoreView}
 use Rattle.core_events.specs.Steps.{CanLeave, noted}
 use Rattle.core_events.specs.Runs.{Core, view_at, taken_over, left_behind, Enabled, after}
 use Rattle.core_events.specs.Shows.{show_seat, shows}
-use Rattle.core_law.specs.Sound.{Sound}
+use Rattle.core_invariant.specs.Sound.{Sound}
 use Rattle.core_law.proofs.Leaves.{parts, is_j, is_0, is_m}
 use Rattle.core_shows.proofs.Bridge.{shown_past}
 use Rattle.core_shows.proofs.Events.{event_shows}

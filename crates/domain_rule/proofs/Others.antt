@@ -16,11 +16,11 @@ use Rattle.core_events.specs.Counts.{one, total, naming, filling, in_phase, adds
 use Rattle.core_events.specs.Runs.{Core, Enabled, after, view_at}
 use Rattle.core_events.specs.Shows.{filled, show_seat, show_slot, shows}
 use Rattle.core_events.specs.Views.{held_times, no_view}
-use Rattle.core_law.specs.Slots.{Numbers, numbers, SlotLaw, free, blank, counted, asked, over, husk}
-use Rattle.core_law.specs.Sound.{Sound}
-use Rattle.core_law.proofs.Held.{held_named, held_refs}
-use Rattle.core_law.proofs.Kit.{one_same, total_at, total_set}
-use Rattle.core_law.proofs.Steady.{named_in_range}
+use Rattle.core_invariant.specs.Slots.{Numbers, numbers, SlotLaw, free, blank, counted, asked, over, husk}
+use Rattle.core_invariant.specs.Sound.{Sound}
+use Rattle.core_invariant.proofs.Held.{held_named, held_refs}
+use Rattle.core_invariant.proofs.Kit.{one_same, total_at, total_set}
+use Rattle.core_invariant.proofs.Steady.{named_in_range}
 use Rattle.core_shows.proofs.Events.{event_shows}
 use Rattle.core_shows.proofs.Lists.{length_each}
 use Rattle.domain_rule.proofs.Acts.{act_leaves}

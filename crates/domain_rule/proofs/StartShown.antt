@@ -13,8 +13,8 @@ use Rattle.core_events.specs.Views.{first_view, first_views}
 use Rattle.core_events.specs.Runs.{start, view_at, AreQuotas}
 use Rattle.core_events.specs.Shows.{each_from, shows, show_seat, show_slot}
 use Rattle.plain_state.specs.Lists.{times}
-use Rattle.core_law.proofs.Kit.{times_none}
-use Rattle.core_law.proofs.Starts.{low_at, strong_first, weak_first, field_first, field0, field1, weak_field, first_at, total_none}
+use Rattle.core_invariant.proofs.Kit.{times_none}
+use Rattle.core_invariant.proofs.Starts.{low_at, strong_first, weak_first, field_first, field0, field1, weak_field, first_at, total_none}
 use Rattle.core_shows.proofs.Frames.{plain_eq, slot_eq}
 use Rattle.core_shows.proofs.Lists.{each_same}
 use Rattle.domain_rule.specs.Views.{quota_at}

@@ -1,0 +1,16 @@
+pub mod Kit
+pub mod Writes
+pub mod Bits
+pub mod SlotSame
+pub mod Flags
+pub mod Guards
+pub mod Held
+pub mod InRange
+pub mod Put
+pub mod Steady
+pub mod Splits
+pub mod Parts
+pub mod Joined
+pub mod Each
+pub mod FirstWords
+pub mod Starts

@@ -1,5 +1,0 @@
-use Rattle.core_law.proofs.Starts as lemma
-use Rattle.core_law.proofs.laws.start_is_sound.Goals as goal
-
-pub returns : goal.returns
-returns c = lemma.start_sound
