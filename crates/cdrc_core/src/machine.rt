@@ -31,7 +31,7 @@ impl Model for Core {
 
     ghost view = { λ c. c.table };
 
-    ghost invariant = { λ c. Kept c.table };
+    ghost invariant = { λ c. Kept c.table.shape c.table.core };
 }
 
 impl Core {
@@ -57,7 +57,6 @@ impl Core {
     /// 1,024; Quotas are one for each seat, and no entry is above 2^40, nor is the sum of the grants.
     /// It takes 8 bytes for each word: 21 for each slot, one for 64 slots, one for each cell, four
     /// for each seat, and two more. Each seat has the grants.
-    #[tactic(auto, using(crate::proofs::Starting::start_kept))]
     pub fn start_granted(
         alloc: Global,
         shape: Shape,
@@ -142,7 +141,6 @@ impl Core {
 
     /// What holds of every core, whatever was done with it: the invariant of `core_events`. It does
     /// nothing.
-    #[tactic(auto, using(crate::proofs::Starting::core_good))]
     pub fn law(&self)
         ensures { Good self.now.shape self.now.core }
     {

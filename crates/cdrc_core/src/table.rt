@@ -63,7 +63,7 @@ impl Table {
     /// The strong word of a slot.
     pub fn strong_word(&self, slot: SlotId) -> u64
         requires there { slot.0 < self.now.shape.slots }
-        requires kept { Kept self.now }
+        requires kept { Kept self.now.shape self.now.core }
         ensures { result ≡ strong self.now.shape self.now.core slot }
     {
         self.words[slot_index(&self.shape, slot)]
@@ -72,7 +72,7 @@ impl Table {
     /// The weak word of a slot.
     pub fn weak_word(&self, slot: SlotId) -> u64
         requires there { slot.0 < self.now.shape.slots }
-        requires kept { Kept self.now }
+        requires kept { Kept self.now.shape self.now.core }
         ensures { result ≡ weak self.now.shape self.now.core slot }
     {
         self.words[slot_index(&self.shape, slot) + 1]
@@ -81,7 +81,7 @@ impl Table {
     /// Whether the bit of a slot is set.
     pub fn is_free(&self, slot: SlotId) -> bool
         requires there { slot.0 < self.now.shape.slots }
-        requires kept { Kept self.now }
+        requires kept { Kept self.now.shape self.now.core }
         ensures { result ≡ (free_bit self.now.shape self.now.core slot == 1) }
     {
         has_bit(self.words[bits_index(&self.shape, slot)], slot)
@@ -90,7 +90,7 @@ impl Table {
     /// What one seat knows.
     pub fn seat(&self, seat: u32) -> &SeatView
         requires there { seat < self.now.shape.seats }
-        requires kept { Kept self.now }
+        requires kept { Kept self.now.shape self.now.core }
         ensures { result.now ≡ view_at self.now.core seat }
     {
         &self.seats[seat as usize]
@@ -99,7 +99,7 @@ impl Table {
     /// Whether the three fields of a slot are null.
     pub fn has_null_fields(&self, slot: SlotId) -> bool
         requires there { slot.0 < self.now.shape.slots }
-        requires kept { Kept self.now }
+        requires kept { Kept self.now.shape self.now.core }
         ensures { IsTrue result ↔ HasNullFields self.now.shape self.now.core.words slot }
     {
         let first = slot_index(&self.shape, slot) + 2;
