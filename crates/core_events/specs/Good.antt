@@ -119,7 +119,7 @@ pub record SeatLaw (z : Shape) (n : ℕ) (v : CoreView) : Type 0 where
   pub same_shape : v.shape ≡ z
   pub quota : IsQuota v.quota
   pub adds : v.adds ≤ v.quota.adds
-  pub makes : v.makes ≤ allowed_makes v
+  pub makes : v.left ≡ false → v.makes ≤ allowed_makes v
   pub can_start :
       (s : SlotId) → (v.phase ≡ phase.Bare s) ⊎ (v.phase ≡ phase.Blank s) → v.adds < v.quota.adds
   pub four : length v.notes ≡ 4

@@ -3,9 +3,9 @@ use Rattle.std.proofs.Common.{◌≡◌, ◌≢◌, ⊎_elim, ℕ, ◌+◌, ◌-
 use Rattle.std.specs.Prelude.{slice_index}
 use Rattle.std.specs.Int.{bit_at}
 use Rattle.std.specs.Int.Bits.{bit_or, or_add_and}
-use Rattle.std.proofs.lemmas.Nat.{or_lt, one_shl}
+use Rattle.std.proofs.lemmas.Nat.{and_le_l, or_lt, one_shl}
 use native.Mathlib.Nat.{zero-mul}
-use Rattle.std.proofs.lemmas.Nat.Bits.{and_pow, bit_at_or, bit_at-lt, bit_at-pow_same, bit_at-pow_other, bit_at_clear_same, bit_at_clear_other}
+use Rattle.std.proofs.lemmas.Nat.Bits.{and_pow, bit_at_or, bit_at-lt, bit_at-pow_same, bit_at-pow_other, bit_at_clear_same, bit_at_clear_other, same_from_bits_below}
 use Rattle.std.proofs.lemmas.List.{get_or-set_same, get_or-set_other}
 use Rattle.std.proofs.lemmas.Bool.{cases_eq}
 use Rattle.plain_state.specs.declared.slot.SlotId.{SlotId}
@@ -30,6 +30,23 @@ pub taken_other : (s x : SlotId) (w : ℕ) → x.0 % 64 ≢ s.0 % 64
 taken_other s x w ne =
     ap (λ (m : ℕ). bit_at (bit_and w (2 ^ 64 - 1 - m)) (x.0 % 64)) (sym (one_shl (s.0 % 64) 64 (place_in s)))
     ∙ bit_at_clear_other w64 w (s.0 % 64) (place_in s) (x.0 % 64) (place_in x) ne
+
+-- and leaves the word where it is clear already
+pub clear_stays : (s : SlotId) (w : ℕ) → w < 2 ^ 64 → bit_in s w ≡ 0
+    → bit_and w (2 ^ 64 - 1 - bit_alone s) ≡ w
+clear_stays s w fits clear =
+    let le = and_le_l w (2 ^ 64 - 1 - bit_alone s) in
+    same_from_bits_below 64 (bit_and w (2 ^ 64 - 1 - bit_alone s)) w (omega arith) fits each
+  where
+    each : (i : ℕ) → i < 64 → bit_at (bit_and w (2 ^ 64 - 1 - bit_alone s)) i ≡ bit_at w i
+    each i h = ⊎_elim
+        (λ (e : i ≡ s.0 % 64).
+        ap (bit_at (bit_and w (2 ^ 64 - 1 - bit_alone s))) e
+        ∙ (taken_bit s w ∙ (sym clear ∙ ap (bit_at w) (sym e))))
+        (λ (ne : i ≢ s.0 % 64).
+        ap (λ (m : ℕ). bit_at (bit_and w (2 ^ 64 - 1 - m)) i) (sym (one_shl (s.0 % 64) 64 (place_in s)))
+        ∙ bit_at_clear_other w64 w (s.0 % 64) (place_in s) i h ne)
+        (cases_eq i (s.0 % 64))
 
 -- where the bit is clear, the sum with it sets it
 given_sum : (s : SlotId) (w : ℕ) → w < 2 ^ 64 → bit_in s w ≡ 0

@@ -5,6 +5,7 @@ use Rattle.std.proofs.lemmas.List.{get_or_append_left, get_or_at}
 use Rattle.std.proofs.lemmas.Bool.{cases_eq, cases_lt}
 use Rattle.std.proofs.lemmas.Bool.Decides.{nat_tests}
 use Rattle.plain_state.specs.declared.slot.Kind.{Kind}
+use Rattle.plain_state.specs.declared.slot.Kind.TheVariants.{Strong, Weak, Disposal}
 use Rattle.plain_state.specs.declared.slot.SlotId.{SlotId}
 use Rattle.core_events.specs.declared.view.CoreView.{CoreView}
 use Rattle.core_events.specs.Words.{code}
@@ -59,3 +60,10 @@ guards_open a k s v e = rw e refl
 pub guards_all : (a : ℕ) (k : Kind) (s : SlotId) (v : CoreView) → v.seen ≡ []
     → guarding a k s v ≡ waiting k s v
 guards_all a k s v e = guards_open a k s v (rw e (not_passed a (code k s) [] (omega arith)))
+
+-- the same retired entries, the same dying list and the same scan guard the same
+pub guards_same : (a : ℕ) (k : Kind) (s : SlotId) (v u : CoreView) → u.retired ≡ v.retired
+    → u.dying ≡ v.dying → u.seen ≡ v.seen → guarding a k s u ≡ guarding a k s v
+guards_same a Strong s v u retired dying seen = rw (retired, seen) refl
+guards_same a Weak s v u retired dying seen = rw (retired, seen) refl
+guards_same a Disposal s v u retired dying seen = rw (dying, seen) refl

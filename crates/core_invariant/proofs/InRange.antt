@@ -70,7 +70,7 @@ module _ (z : Shape) (n : ℕ) (v : CoreView) (law : SeatLaw z n v) where
   in_phase_there s is one = let P : SlotId → Type 0 = λ x. x.0 < z.slots in
       subst P (sym is) (named s (omega arith))
 
-  owed_named : (k : Kind) (s : SlotId) (es : List Entry) → v.owed ≡ (k, s) ∷ es → 0 < naming s v
+  pub owed_named : (k : Kind) (s : SlotId) (es : List Entry) → v.owed ≡ (k, s) ∷ es → 0 < naming s v
   owed_named Strong s es e =
       let a = ap (entry_times Strong s) e in
       let b = entry_cons Strong s (Strong, s) es in
@@ -109,7 +109,7 @@ module _ (z : Shape) (n : ℕ) (v : CoreView) (law : SeatLaw z n v) where
   bare_there s e = in_phase_there s (ap slot_of e)
       ((in_bare v.phase s s e).names ∙ one_same s s refl)
 
-  blank_there : (s : SlotId) → v.phase ≡ phase.Blank s → (slot_of v.phase).0 < z.slots
+  pub blank_there : (s : SlotId) → v.phase ≡ phase.Blank s → (slot_of v.phase).0 < z.slots
   blank_there s e = in_phase_there s (ap slot_of e)
       ((in_blank v.phase s s e).names ∙ one_same s s refl)
 

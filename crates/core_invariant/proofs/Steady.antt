@@ -1,6 +1,6 @@
 -- Steps that leave notes, retired entries and scans as they are, and write no place: the counters'
 -- steps.
-use Rattle.std.proofs.Common.{◌≡◌, ◌≢◌, ◌⊎◌, inl, ⊎_elim, ℕ, ◌+◌, ◌*◌, ◌%◌, ◌^◌, ◌<◌, ◌≤◌, true, List, [], length, get_or, set, refl, ap, sym, ◌∙◌, arith}
+use Rattle.std.proofs.Common.{◌≡◌, ◌≢◌, ◌⊎◌, inl, ⊎_elim, ℕ, ◌+◌, ◌*◌, ◌%◌, ◌^◌, ◌<◌, ◌≤◌, true, false, List, [], length, get_or, set, refl, ap, sym, ◌∙◌, arith}
 use Rattle.std.specs.Prelude.{slice_index}
 use Rattle.std.proofs.lemmas.List.{get_or-set_same, get_or-set_other}
 use Rattle.std.proofs.lemmas.Bool.{cases_lt}
@@ -72,7 +72,7 @@ pub record SameRest (v u : CoreView) : Type 0 where
 -- what holds of the seat by itself
 pub steady_seat : (z : Shape) (n : ℕ) (v u : CoreView) → SeatLaw z n v → SameRest v u
     → (v.phase ≡ phase.Scan → ⊥) → (u.phase ≡ phase.Scan → ⊥) → (v.left ≡ true → ⊥)
-    → u.adds ≤ v.quota.adds → u.makes ≤ allowed_makes v
+    → u.adds ≤ v.quota.adds → (v.left ≡ false → u.makes ≤ allowed_makes v)
     → ((s : SlotId) → (u.phase ≡ phase.Bare s) ⊎ (u.phase ≡ phase.Blank s) → u.adds < v.quota.adds)
     → ((s : SlotId) → times s u.ripe ≤ times s u.dying)
     → ((s : SlotId) → listed Disposal s u ≡ 0)
@@ -82,7 +82,7 @@ steady_seat z n v u law same ne ne' stays adds' makes' starts ripe' kinds' range
   same_shape = same.shape ∙ law.same_shape;
   quota = rw same.quota law.quota;
   adds = rw same.quota adds';
-  makes = rw (same.quota, same.grants, same.tickets) makes';
+  makes = λ l. rw (same.quota, same.grants, same.tickets) (makes' (sym same.left ∙ l));
   can_start = λ s e. rw same.quota (starts s e);
   four = rw same.notes law.four;
   scans = inl (same.seen ∙ nothing_seen z n v law ne);

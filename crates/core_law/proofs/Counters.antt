@@ -1,5 +1,5 @@
 -- Each add and drop of a strong reference, each payment of one, and each count keeps the invariant.
-use Rattle.std.proofs.Common.{◌≡◌, ◌≢◌, ◌⊎◌, ⊎_elim, true, ℕ, ◌+◌, ◌^◌, ◌<◌, ◌≤◌, List, [], ◌∷◌, ◌++◌, length, refl, ap, sym, ◌∙◌, arith}
+use Rattle.std.proofs.Common.{◌≡◌, ◌≢◌, ◌⊎◌, ⊎_elim, true, ℕ, ◌+◌, ◌<◌, ◌≤◌, List, [], ◌∷◌, ◌++◌, length, refl, ap, sym, ◌∙◌, arith}
 use Rattle.plain_state.specs.declared.slot.Kind.{Kind}
 use Rattle.plain_state.specs.declared.slot.Kind.TheVariants.{Strong, Weak, Disposal}
 use Rattle.plain_state.specs.declared.slot.SlotId.{SlotId}
@@ -26,7 +26,7 @@ use Rattle.core_law.proofs.StrongSteps.{same_weak, same_strong}
 use Rattle.core_law.proofs.Live.{live_most, is_low, dead_goes_on, count_few, owned_counts, plus_fits, minus_fits}
 use Rattle.core_law.proofs.OneWord.{Having, having, with_having, IsAt, at_idle, at_finish, at_zero, SameOf, same_of, Touches, strong_step}
 
-kind_none : (k kind : Kind) → kind_one k kind 0 ≡ 0
+pub kind_none : (k kind : Kind) → kind_one k kind 0 ≡ 0
 kind_none Strong Strong = refl
 kind_none Strong Weak = refl
 kind_none Strong Disposal = refl
@@ -73,7 +73,7 @@ module _ (z : Shape) (c : Core) (n : ℕ) (so : Sound z c) (hn : n < z.seats) wh
         to = at_idle to;
         adds = omega arith;
         adds_most = let q = law.adds in omega arith;
-        makes = let q = law.makes in omega arith;
+        makes = λ l. let q = law.makes l in omega arith;
         starts = λ x e. absurd (⊎_elim (λ f. absurd (cc (to, f))) (λ f. absurd (cc (to, f))) e);
         owed = omega arith;
         others = others;
@@ -99,7 +99,7 @@ module _ (z : Shape) (c : Core) (n : ℕ) (so : Sound z c) (hn : n < z.seats) wh
         to = to;
         adds = omega arith;
         adds_most = let q = law.adds in omega arith;
-        makes = let q = law.makes in omega arith;
+        makes = λ l. let q = law.makes l in omega arith;
         starts = λ x e. absurd (unclaimed x e);
         owed = g.owed;
         others = g.others;

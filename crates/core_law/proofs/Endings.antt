@@ -1,31 +1,26 @@
 -- Each finish, take and mark keeps the invariant.
-use Rattle.std.proofs.Common.{◌≡◌, ◌≢◌, ◌⊎◌, ⊎_elim, ℕ, true, ◌+◌, ◌-◌, ◌%◌, ◌^◌, ◌<◌, ◌≤◌, bit_and, List, [], ◌∷◌, ◌++◌, length, refl, ap, sym, ◌∙◌, arith}
-use Rattle.std.specs.Prelude.{slice_index}
-use Rattle.plain_state.specs.declared.slot.Kind.{Kind}
-use Rattle.plain_state.specs.declared.slot.Kind.TheVariants.{Strong, Weak, Disposal}
+use Rattle.std.proofs.Common.{◌≡◌, ◌≢◌, ◌⊎◌, ⊎_elim, ℕ, ◌+◌, ◌-◌, ◌^◌, ◌<◌, ◌≤◌, List, [], ◌∷◌, ◌++◌, length, refl, ap, sym, arith}
+use Rattle.plain_state.specs.declared.slot.Kind.TheVariants.{Disposal}
 use Rattle.plain_state.specs.declared.slot.SlotId.{SlotId}
-use Rattle.plain_state.specs.Lists.{Entry, times, entry_times}
+use Rattle.plain_state.specs.Lists.{times, entry_times}
 use Rattle.core_events.specs.declared.shape.Shape.{Shape}
 use Rattle.core_events.specs.declared.view.CoreView.{CoreView}
 use Rattle.core_events.specs.declared.view.Move.{Move}
 use Rattle.core_events.specs.declared.view.Phase.{Phase}
 use Rattle.core_events.specs.declared.view.Phase.TheVariants as phase
-use Rattle.core_events.specs.Words.{ZERO, HELP, strong_at, weak_at, bits_at, bit_alone, bit_in}
-use Rattle.core_events.specs.Views.{Holds, without}
-use Rattle.core_events.specs.Steps.{plus_one, minus_one, IsIdle, HasAdd, HasMake}
-use Rattle.core_events.specs.Runs.{Core, view_at, HasNullFields}
-use Rattle.core_events.specs.Counts.{one, strong, weak, free_bit, listed, total, dying_times}
+use Rattle.core_events.specs.Words.{ZERO, HELP, strong_at}
+use Rattle.core_events.specs.Runs.{Core, view_at}
+use Rattle.core_events.specs.Counts.{strong}
 use Rattle.core_invariant.specs.Slots.{numbers}
 use Rattle.core_invariant.specs.Sound.{Sound}
-use Rattle.core_invariant.proofs.Kit.{one_same, one_other, times_push, times_without, total_at}
-use Rattle.core_invariant.proofs.Held.{held_taken, held_named}
-use Rattle.core_invariant.proofs.Put.{put, adds_fit, at_seat, ripe_times}
+use Rattle.core_invariant.proofs.Kit.{one_same, one_other, times_push}
+use Rattle.core_invariant.proofs.Put.{put, adds_fit}
 use Rattle.core_invariant.proofs.SlotSame.{slot_same}
-use Rattle.core_invariant.proofs.Steady.{named_in_range, not_left, in_idle, in_finish, in_help, in_zero, in_bare, in_blank, in_give}
+use Rattle.core_invariant.proofs.Steady.{named_in_range, not_left, in_finish, in_help, in_zero}
 use Rattle.core_law.proofs.StrongSteps as slot
 use Rattle.core_law.proofs.StrongSteps.{same_weak, same_strong}
-use Rattle.core_law.proofs.Live.{live_most, is_low, is_asked, weakly_counts, plus_fits, minus_fits}
-use Rattle.core_law.proofs.OneWord.{Having, having, with_having, IsAt, at_idle, at_finish, at_help, at_zero, at_bare, at_blank, at_give, SameOf, same_of, Touches, strong_step, weak_step, bit_step}
+use Rattle.core_law.proofs.Live.{live_most, is_asked}
+use Rattle.core_law.proofs.OneWord.{Having, having, IsAt, at_idle, at_finish, at_help, at_zero, SameOf, same_of, Touches, strong_step}
 
 module _ (z : Shape) (c : Core) (n : ℕ) (so : Sound z c) (hn : n < z.seats) where
   abbrev v : CoreView
@@ -47,7 +42,7 @@ module _ (z : Shape) (c : Core) (n : ℕ) (so : Sound z c) (hn : n < z.seats) wh
         to = to;
         adds = omega arith;
         adds_most = let q = law.adds in omega arith;
-        makes = let q = law.makes in omega arith;
+        makes = λ l. let q = law.makes l in omega arith;
         starts = λ x e. let q = starts x e in omega arith;
         owed = omega arith;
         others = others;

@@ -6,3 +6,12 @@ pub mod Counters
 pub mod Endings
 pub mod Weaks
 pub mod Lives
+pub mod Notes
+pub mod Scans
+pub mod Exchange
+pub mod Leaves
+pub mod Tickets
+pub mod KeepsCounts
+pub mod Keeps
+pub mod Always
+pub mod Trails

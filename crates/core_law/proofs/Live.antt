@@ -87,3 +87,13 @@ giver_clear a m (counted h) gives = omega arith
 giver_clear a m (asked h) gives = omega arith
 giver_clear a m (over h) gives = omega arith
 giver_clear a m (husk h) gives = omega arith
+
+-- a slot waits in at most one dying list
+pub dying_once : (a : ℕ) (m : Numbers) → SlotLaw a m → m.dying ≤ 1
+dying_once a m (free h) = omega arith
+dying_once a m (bare h) = omega arith
+dying_once a m (blank h) = omega arith
+dying_once a m (counted h) = omega arith
+dying_once a m (asked h) = omega arith
+dying_once a m (over h) = omega arith
+dying_once a m (husk h) = omega arith

@@ -1,32 +1,25 @@
 -- Each step of a slot from life to life keeps the invariant: claim, arm, start, return.
-use Rattle.std.proofs.Common.{◌≡◌, ◌≢◌, ◌⊎◌, inl, inr, ⊎_elim, ℕ, true, ◌+◌, ◌-◌, ◌%◌, ◌^◌, ◌<◌, ◌≤◌, bit_and, List, [], ◌∷◌, ◌++◌, length, refl, ap, sym, ◌∙◌, arith}
+use Rattle.std.proofs.Common.{◌≡◌, inl, inr, ⊎_elim, ℕ, ◌+◌, ◌-◌, ◌%◌, ◌^◌, ◌<◌, bit_and, List, [], ◌∷◌, ◌++◌, refl, ap, sym, arith}
 use Rattle.std.specs.Prelude.{slice_index}
 use Rattle.std.proofs.lemmas.Nat.{and_le_l}
-use Rattle.plain_state.specs.declared.slot.Kind.{Kind}
-use Rattle.plain_state.specs.declared.slot.Kind.TheVariants.{Strong, Weak, Disposal}
 use Rattle.plain_state.specs.declared.slot.SlotId.{SlotId}
-use Rattle.plain_state.specs.Lists.{Entry, times, entry_times}
 use Rattle.core_events.specs.declared.shape.Shape.{Shape}
 use Rattle.core_events.specs.declared.view.CoreView.{CoreView}
 use Rattle.core_events.specs.declared.view.Move.{Move}
-use Rattle.core_events.specs.declared.view.Phase.{Phase}
 use Rattle.core_events.specs.declared.view.Phase.TheVariants as phase
-use Rattle.core_events.specs.Words.{ZERO, HELP, strong_at, weak_at, bits_at, bit_alone, bit_in}
-use Rattle.core_events.specs.Views.{Holds, without}
-use Rattle.core_events.specs.Steps.{plus_one, minus_one, IsIdle, HasAdd, HasMake}
-use Rattle.core_events.specs.Runs.{Core, view_at, HasNullFields}
-use Rattle.core_events.specs.Counts.{one, strong, weak, free_bit, listed, total, dying_times, giving}
+use Rattle.core_events.specs.Words.{strong_at, weak_at, bits_at, bit_alone, bit_in}
+use Rattle.core_events.specs.Steps.{IsIdle, HasAdd, HasMake}
+use Rattle.core_events.specs.Runs.{Core, view_at}
+use Rattle.core_events.specs.Counts.{strong, free_bit, giving}
 use Rattle.core_invariant.specs.Slots.{numbers}
 use Rattle.core_invariant.specs.Sound.{Sound}
-use Rattle.core_invariant.proofs.Kit.{one_same, one_other, times_push, times_without, total_at}
-use Rattle.core_invariant.proofs.Held.{held_taken, held_named}
-use Rattle.core_invariant.proofs.Put.{put, adds_fit, at_seat, ripe_times}
-use Rattle.core_invariant.proofs.SlotSame.{slot_same}
-use Rattle.core_invariant.proofs.Steady.{named_in_range, not_left, in_idle, in_finish, in_help, in_zero, in_bare, in_blank, in_give}
+use Rattle.core_invariant.proofs.Kit.{one_same, one_other, times_push, total_at}
+use Rattle.core_invariant.proofs.Put.{put, at_seat}
+use Rattle.core_invariant.proofs.Steady.{named_in_range, not_left, in_idle, in_bare, in_blank, in_give}
 use Rattle.core_law.proofs.WeakSteps as slot
-use Rattle.core_law.proofs.StrongSteps.{same_weak, same_strong}
-use Rattle.core_law.proofs.Live.{giver_clear, live_most, is_low, is_asked, weakly_counts, plus_fits, minus_fits}
-use Rattle.core_law.proofs.OneWord.{Having, having, with_having, IsAt, at_idle, at_finish, at_help, at_zero, at_bare, at_blank, at_give, SameOf, same_of, Touches, strong_step, weak_step, bit_step}
+use Rattle.core_law.proofs.StrongSteps.{same_strong}
+use Rattle.core_law.proofs.Live.{giver_clear, live_most, is_low}
+use Rattle.core_law.proofs.OneWord.{Having, having, at_idle, at_bare, at_blank, at_give, same_of, strong_step, weak_step, bit_step}
 use Rattle.core_invariant.proofs.Bits.{taken_bit, taken_other, given_bit, given_other}
 use Rattle.core_law.proofs.Counters.{idle_here}
 use Rattle.core_law.proofs.Endings.{turns}
@@ -56,7 +49,7 @@ module _ (z : Shape) (c : Core) (n : ℕ) (so : Sound z c) (hn : n < z.seats) wh
         to = at_bare refl;
         adds = omega arith;
         adds_most = law.adds;
-        makes = omega arith;
+        makes = λ l. omega arith;
         starts = λ x e. quota;
         owed = omega arith;
         others = λ x ne. same_of refl refl (λ j. refl) refl refl refl;

@@ -1,6 +1,6 @@
 -- A step by one seat that writes one counter word or one bit of one slot, and changes what its view has of that slot
 -- alone.
-use Rattle.std.proofs.Common.{◌≡◌, ◌≢◌, ◌⊎◌, ⊎_elim, ℕ, ◌+◌, ◌%◌, ◌^◌, ◌<◌, ◌≤◌, Bool, true, false, List, length, set, refl, ap, sym, ◌∙◌, subst, arith}
+use Rattle.std.proofs.Common.{◌≡◌, ◌≢◌, ◌⊎◌, inl, ⊎_elim, ℕ, ◌+◌, ◌*◌, ◌%◌, ◌^◌, ◌<◌, ◌≤◌, true, false, List, length, set, refl, ap, sym, subst, arith}
 use Rattle.std.specs.Prelude.{slice_index, if◌then◌else◌}
 use Rattle.std.proofs.lemmas.List.{set-get_or, get_or-set_other}
 use Rattle.plain_state.specs.declared.slot.Kind.{Kind}
@@ -10,19 +10,19 @@ use Rattle.plain_state.specs.Lists.{Entry, times, entry_times}
 use Rattle.core_events.specs.declared.shape.Shape.{Shape}
 use Rattle.core_events.specs.declared.view.CoreView.{CoreView}
 use Rattle.core_events.specs.declared.view.Move.{Move}
-use Rattle.core_events.specs.declared.view.Note.{Note}
 use Rattle.core_events.specs.declared.view.Phase.{Phase}
 use Rattle.core_events.specs.declared.view.Phase.TheVariants as phase
-use Rattle.core_events.specs.Words.{strong_at, weak_at, bits_at, bit_in, slot_at}
-use Rattle.core_events.specs.Views.{allowed_makes}
+use Rattle.core_events.specs.Words.{strong_at, weak_at, bits_at, bit_in}
+use Rattle.core_events.specs.Views.{allowed_makes, no_view}
 use Rattle.core_events.specs.Runs.{Core, view_at}
-use Rattle.core_events.specs.Counts.{adds_used, one, listed, naming, is_live_word, guarding}
+use Rattle.core_events.specs.Counts.{adds_used, listed, is_live_word}
 use Rattle.core_events.specs.Good.{SeatLaw}
 use Rattle.core_invariant.specs.Slots.{numbers, SlotLaw}
 use Rattle.core_invariant.specs.Sound.{Sound, covering}
 use Rattle.core_invariant.proofs.Kit.{slot_cases}
-use Rattle.core_invariant.proofs.Writes.{strong_off, weak_off, past_off}
-use Rattle.core_invariant.proofs.Put.{put, Totals, totals, Alike, alike, SameWords, laws_but, law_alike, ripe_times}
+use Rattle.core_invariant.proofs.Writes.{strong_off, weak_off}
+use Rattle.core_invariant.proofs.Put.{put, step_sound, announced_put, guarded_put, unripe_put, tickets_put, at_seat, Totals, totals, Alike, alike, laws_but, law_alike, ripe_times}
+use Rattle.core_invariant.proofs.Guards.{guards_same}
 use Rattle.core_invariant.proofs.Steady.{SameRest, IsAbout, about_idle, about_finish, about_help, about_zero, about_bare, about_blank, about_give, same_phase, steady_seat, steady_sound, keeps_live, KeepsLive, WroteStrong, wrote_strong, strong_other, strong_before, WroteWeak, wrote_weak, weak_other, weak_before, WroteBit, wrote_bit, bit_other, bits_past, off_rest}
 use Rattle.core_invariant.proofs.Bits.{bits_bound, bits_other}
 
@@ -119,7 +119,7 @@ pub record Touches (z : Shape) (v : CoreView) (s : SlotId) (k : Having) : Type 0
   pub to : IsAt s k.phase
   pub adds : v.adds ≤ k.adds
   pub adds_most : k.adds ≤ v.quota.adds
-  pub makes : k.makes ≤ allowed_makes v
+  pub makes : v.left ≡ false → k.makes ≤ allowed_makes v
   pub starts : (x : SlotId) → (k.phase ≡ phase.Bare x) ⊎ (k.phase ≡ phase.Blank x) → k.adds < v.quota.adds
   pub owed : length k.owed ≤ length v.owed
   pub others : (x : SlotId) → x.0 ≢ s.0 → SameOf x v k
@@ -296,3 +296,63 @@ module _ (z : Shape) (c : Core) (n : ℕ) (so : Sound z c) (hn : n < z.seats) wh
       ap (λ (i : ℕ). if is_live_word i then 1 else 0) (wrote_bit z c.words s w hs there).strong in
       omega arith))
       t.owed
+
+  -- nothing changes but the trail
+  pub trail_step : (t : List Move) (p : ℕ) → Sound z (put c n (record (view_at c n) { trail = t }) p
+      (slice_index c.words p))
+  trail_step t p =
+      let law = so.seats n hn in
+      let h = at_seat z c n so hn in
+      let u : CoreView = record v { trail = t } in
+      subst (λ (ws : List ℕ). Sound z (record { words = ws; views = set c.views n u }))
+      (sym (set-get_or c.words p 0))
+      (step_sound z c n u c.words so hn refl (record {
+        law = record {
+          number = law.number;
+          same_shape = law.same_shape;
+          quota = law.quota;
+          adds = law.adds;
+          makes = law.makes;
+          can_start = law.can_start;
+          four = law.four;
+          scans = law.scans;
+          reads = law.reads;
+          owes_nothing = law.owes_nothing;
+          ripe = law.ripe;
+          kinds = law.kinds;
+          range = law.range;
+          gone = law.gone;
+        };
+        slots = λ x hx. law_alike z c n u c.words x so hn (omega arith)
+            (record {
+              strong = refl;
+              weak = refl;
+              fin = refl;
+              hlp = refl;
+              bar = refl;
+              fill = refl;
+              giv = refl;
+              dyi = refl;
+            })
+            (record {
+              strong = refl;
+              weak = refl;
+              bit = refl;
+              strong_places = refl;
+              weak_places = refl;
+              fields = refl;
+            }) hx;
+        announced = announced_put z c n u c.words so hn (λ m i hm ne hi. refl)
+            (λ i hi. so.announced n i h hi);
+        guarded = guarded_put z c n u c.words so hn (λ i k s hi valid. inl valid)
+            (λ m i k s hm hi valid is.
+            let g = guards_same (4 * m + i) k s v u refl refl refl in
+            ((λ pos. omega arith), (λ pos. omega arith)));
+        unripe = unripe_put z c n u c.words so hn (λ i s hi valid. inl valid)
+            (λ m i s hm hi valid. omega arith);
+        range = so.range;
+        tickets = tickets_put z c n u c.words so hn refl refl (omega arith) refl;
+        fit = record { fit = so.fit.fit; spare = so.fit.spare };
+      })
+      refl refl
+      (so.room.each n no_view h))

@@ -1,31 +1,29 @@
 -- Each step that gains or gives up a weak reference keeps the invariant, and each destruction.
-use Rattle.std.proofs.Common.{◌≡◌, ◌≢◌, ◌⊎◌, ⊎_elim, ℕ, true, ◌+◌, ◌-◌, ◌%◌, ◌^◌, ◌<◌, ◌≤◌, bit_and, List, [], ◌∷◌, ◌++◌, length, refl, ap, sym, ◌∙◌, arith}
-use Rattle.std.specs.Prelude.{slice_index}
+use Rattle.std.proofs.Common.{◌≡◌, ◌≢◌, ◌⊎◌, ⊎_elim, ℕ, ◌+◌, ◌<◌, List, [], ◌∷◌, ◌++◌, refl, ap, sym, arith}
 use Rattle.plain_state.specs.declared.slot.Kind.{Kind}
 use Rattle.plain_state.specs.declared.slot.Kind.TheVariants.{Strong, Weak, Disposal}
 use Rattle.plain_state.specs.declared.slot.SlotId.{SlotId}
-use Rattle.plain_state.specs.Lists.{Entry, times, entry_times}
+use Rattle.plain_state.specs.Lists.{times}
 use Rattle.core_events.specs.declared.shape.Shape.{Shape}
 use Rattle.core_events.specs.declared.view.CoreView.{CoreView}
 use Rattle.core_events.specs.declared.view.Move.{Move}
 use Rattle.core_events.specs.declared.view.Phase.{Phase}
 use Rattle.core_events.specs.declared.view.Phase.TheVariants as phase
-use Rattle.core_events.specs.Words.{ZERO, HELP, strong_at, weak_at, bits_at, bit_alone, bit_in}
+use Rattle.core_events.specs.Words.{weak_at}
 use Rattle.core_events.specs.Views.{Holds, without}
-use Rattle.core_events.specs.Steps.{plus_one, minus_one, IsIdle, HasAdd, HasMake}
+use Rattle.core_events.specs.Steps.{plus_one, minus_one, IsIdle, HasAdd}
 use Rattle.core_events.specs.Runs.{Core, view_at, HasNullFields}
-use Rattle.core_events.specs.Counts.{one, strong, weak, free_bit, listed, total, dying_times}
+use Rattle.core_events.specs.Counts.{weak, listed}
 use Rattle.core_invariant.specs.Slots.{numbers}
 use Rattle.core_invariant.specs.Sound.{Sound}
 use Rattle.core_invariant.proofs.Kit.{one_same, one_other, times_push, times_without, total_at}
 use Rattle.core_invariant.proofs.Held.{held_taken, held_named}
-use Rattle.core_invariant.proofs.Put.{put, adds_fit, at_seat, ripe_times}
-use Rattle.core_invariant.proofs.SlotSame.{slot_same}
-use Rattle.core_invariant.proofs.Steady.{named_in_range, not_left, in_idle, in_finish, in_help, in_zero, in_bare, in_blank, in_give}
+use Rattle.core_invariant.proofs.Put.{put, at_seat, ripe_times}
+use Rattle.core_invariant.proofs.Steady.{named_in_range, in_idle, in_give}
 use Rattle.core_law.proofs.WeakSteps as slot
-use Rattle.core_law.proofs.StrongSteps.{same_weak, same_strong}
-use Rattle.core_law.proofs.Live.{live_most, is_low, is_asked, weakly_counts, plus_fits, minus_fits}
-use Rattle.core_law.proofs.OneWord.{Having, having, with_having, IsAt, at_idle, at_finish, at_help, at_zero, at_bare, at_blank, at_give, SameOf, same_of, Touches, strong_step, weak_step, bit_step}
+use Rattle.core_law.proofs.StrongSteps.{same_strong}
+use Rattle.core_law.proofs.Live.{plus_fits, minus_fits}
+use Rattle.core_law.proofs.OneWord.{Having, having, with_having, IsAt, at_idle, at_give, same_of, Touches, weak_step}
 use Rattle.core_law.proofs.Counters.{GivesUp, gains, loses, idle_here}
 
 module _ (z : Shape) (c : Core) (n : ℕ) (so : Sound z c) (hn : n < z.seats) where
