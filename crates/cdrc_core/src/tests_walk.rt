@@ -234,6 +234,10 @@ fn ten_thousand_random_events(rt: HostRuntime) -> Result<(), Fail> {
         found: (EventPlace::Cell(0), SlotId(0)),
     };
     assert_eq!(rt; walk(&rt, &mut core, &mut dice, 10_000, false)?, 10_000);
+    for outcome in [Outcome::Alive, Outcome::Zeroed, Outcome::Last, Outcome::Claimed] {
+        let trail = core.seat(0).trail();
+        assert!(rt; trail.iter().any(|made| made.outcome == outcome));
+    }
     walk(&rt, &mut core, &mut dice, 1_000, true)?;
     assert!(rt; core.seat(1).has_left() && core.seat(2).has_left());
     Ok(())
