@@ -151,6 +151,7 @@ fn leave_with_all_lists(rt: HostRuntime) -> Result<(), Fail> {
     assert_eq!(rt; root.ripe(), [SlotId(1)].as_slice());
     assert_eq!(rt; (root.made().len(), root.room()), (6, 24));
     assert_eq!(rt; root.tickets(), [0].as_slice());
+    assert_eq!(rt; root.left_seats().len(), 1);
     let kept = &root.left_seats()[0];
     assert_eq!(rt; (kept.seat(), kept.trail().len()), (1, 28));
     assert_eq!(rt; kept.tickets(), [1].as_slice());
