@@ -6,8 +6,8 @@ use Rattle.plain_state.specs.declared.slot.SlotId.{SlotId}
 use Rattle.core_events.specs.declared.act.Event.{Event}
 use Rattle.core_events.specs.declared.shape.Shape.{Shape}
 use Rattle.core_events.specs.declared.shape.Quota.{Quota}
-use Rattle.core_events.specs.Words.{ZERO}
-use Rattle.core_events.specs.Counts.{strong, weak}
+use Rattle.core_events.specs.Views.{Terms}
+use Rattle.core_events.specs.Counts.{free_bit, strong, weak}
 use Rattle.core_events.specs.Runs.{Core, Enabled, IsShape, after, outcome_of, start}
 use Rattle.line_words.specs.declared.reason.Reason.{Reason}
 use Rattle.line_words.specs.declared.reason.Reason.TheVariants.{Syntax, Range, NotEnabled}
@@ -18,12 +18,15 @@ use Rattle.step_lines.specs.Texts.{event_text}
 use Rattle.cdrc_steps.specs.Ranges.{IsInRange}
 use Rattle.cdrc_steps.specs.Runnings.{Running}
 
--- each seat may use up 2^40 makes and adds
+-- each seat may use up 2^40 makes and adds, and tickets grant nothing
 abbrev pub quotas_of : Shape → List Quota
 quotas_of z = replicate z.seats (record { makes = 2 ^ 40; adds = 2 ^ 40 })
 
+abbrev pub terms_of : Shape → Terms
+terms_of z = record { quotas = quotas_of z; grants = [] }
+
 abbrev pub opened : Shape → Running
-opened z = record { shape = z; core = start z (quotas_of z); events = 0 }
+opened z = record { shape = z; core = start z (terms_of z); events = 0 }
 
 abbrev pub moved_on : Running → Event → Running
 moved_on r e = record { shape = r.shape; core = after r.shape r.core e.seat e.act; events = r.events + 1 }
@@ -48,11 +51,11 @@ Refuses (Some r) words NotEnabled =
     × (Enabled r.shape r.core e.seat e.act → ⊥)
 Refuses _ words _ = ⊥
 
--- `slot S strong W weak W`, for a slot that isn't free
+-- `slot S strong W weak W`, for a slot whose bit is clear
 abbrev pub slot_line : Shape → Core → ℕ → List ℕ
 slot_line z c x =
     let s : SlotId = record { 0 = x } in
-    if weak z c s == ZERO
+    if free_bit z c s == 1
     then []
     else codes "slot " ++ decimal x ++ codes " strong " ++ decimal (strong z c s)
     ++ codes " weak " ++ decimal (weak z c s) ++ codes "\n"

@@ -29,6 +29,7 @@ HasNumbersOf z (act.Drop s) = HasSlot z s
 HasNumbersOf z (act.Count s) = HasSlot z s
 HasNumbersOf z (act.Announce j k s) = (j < 4) × HasSlot z s
 HasNumbersOf z (act.Release j) = j < 4
+HasNumbersOf z (act.Alive j) = j < 4
 HasNumbersOf z (act.Look p) = HasPlace z p
 HasNumbersOf z (act.Check j p) = (j < 4) × HasPlace z p
 HasNumbersOf z (act.Swap p new) = HasPlace z p × HasContent z new

@@ -7,9 +7,6 @@ use cdrc_text::push_number;
 use core_events::SlotId;
 use out_of_memory::OutOfMemory;
 
-/// The weak word of a free slot.
-const FREE: u64 = 1 << 63;
-
 impl Running {
     /// Appends the line of a slot that isn't free.
     fn push_slot(&self, slot: u32, text: &mut Vec<u8>) -> Result<(), OutOfMemory>
@@ -17,13 +14,12 @@ impl Running {
         ensures { OnOk result
             (text.new.items ≡ text.old.items ++ slot_line self.now.shape self.now.core slot) }
     {
-        let weak = self.core.weak_word(SlotId(slot));
-        if weak == FREE {
+        if self.core.is_free(SlotId(slot)) {
             return Ok(());
         }
         push_number(text, b"slot ", u64::from(slot))?;
         push_number(text, b" strong ", self.core.strong_word(SlotId(slot)))?;
-        push_number(text, b" weak ", weak)?;
+        push_number(text, b" weak ", self.core.weak_word(SlotId(slot)))?;
         text.push(b'\n')?;
         Ok(())
     }

@@ -9,11 +9,12 @@
 //! Nothing is promised of interleavings that a text doesn't list.
 //!
 //! ```text
-//! let written = steps(alloc, b"shape 1 1 0 0 4\n0 claim 0\n0 start\n")?;
+//! let written = steps(alloc, b"shape 1 1 0 0 4\n0 claim 0\n0 arm\n0 start\n")?;
 //! // claim claimed
+//! // arm ok
 //! // start ok
 //! // slot 0 strong 1 weak 1
-//! // events 2
+//! // events 3
 //! ```
 #![tactic(auto)]
 
@@ -25,6 +26,8 @@ mod ranges;
 mod running;
 #[cfg(test)]
 mod tests;
+#[cfg(test)]
+mod tests_disposal;
 mod text;
 
 pub use laws::steps_write_one;

@@ -42,7 +42,7 @@ fn has_numbers_of(shape: &Shape, act: Act) -> bool
         | Act::Destroy(slot)
         | Act::Wcount(slot) => has_slot(shape, slot),
         Act::Announce(note, _, slot) => note < 4 && has_slot(shape, slot),
-        Act::Release(note) => note < 4,
+        Act::Release(note) | Act::Alive(note) => note < 4,
         Act::Look(place) => has_place(shape, place),
         Act::Check(note, place) => note < 4 && has_place(shape, place),
         Act::Swap(place, new) => has_place(shape, place) && has_content(shape, new),
@@ -52,7 +52,15 @@ fn has_numbers_of(shape: &Shape, act: Act) -> bool
         Act::Fill(word, _) => word < 16,
         Act::See(slot, word) => has_slot(shape, slot) && word < 16,
         Act::Leave(seat) => seat < shape.seats,
-        Act::Pay | Act::Finish | Act::Take | Act::Mark | Act::Scan | Act::Start | Act::Free => true,
+        Act::Pay
+        | Act::Finish
+        | Act::Take
+        | Act::Mark
+        | Act::Scan
+        | Act::Arm
+        | Act::Start
+        | Act::Free
+        | Act::Ticket => true,
     }
 }
 

@@ -4,7 +4,7 @@ use std::alloc::Global;
 use std::test::Fail;
 
 /// Whether the text of steps writes these bytes, and tells whether a line was refused.
-fn writes(alloc: Global, text: &str, bytes: &str, refused: bool) -> Result<bool, Fail> {
+pub fn writes(alloc: Global, text: &str, bytes: &str, refused: bool) -> Result<bool, Fail> {
     let written = steps(alloc, text.as_bytes())?;
     Ok(written.text.as_slice() == bytes.as_bytes() && written.refused == refused)
 }
@@ -13,6 +13,7 @@ fn writes(alloc: Global, text: &str, bytes: &str, refused: bool) -> Result<bool,
 fn two_copies(rt: HostRuntime) -> Result<(), Fail> {
     let text = "shape 1 1 2 0 4
 0 claim 0
+0 arm
 0 start
 0 add 0
 0 swap @0 0
@@ -28,6 +29,7 @@ fn two_copies(rt: HostRuntime) -> Result<(), Fail> {
 0 pay
 ";
     let bytes = "claim claimed
+arm ok
 start ok
 add up
 swap null
@@ -42,7 +44,7 @@ scan 0
 scan 0 kept 1 ejected 1
 pay left
 slot 0 strong 1 weak 1
-events 14
+events 15
 ";
     assert!(rt; writes(rt.alloc(), text, bytes, false)?);
     Ok(())
@@ -54,6 +56,7 @@ fn late_announcement(rt: HostRuntime) -> Result<(), Fail> {
 shape 1 1 1 0 4
 
 0 claim 0
+0 arm
   0\tstart
 0 swap @+00 000
 #
@@ -61,17 +64,19 @@ shape 1 1 1 0 4
 0 announce 1 strong 0
 0 check 1 @0";
     let bytes = "claim claimed
+arm ok
 start ok
 swap null
 swap 0
 announce ok
 check moved null
 slot 0 strong 1 weak 1
-events 6
+events 7
 ";
     assert!(rt; writes(rt.alloc(), text, bytes, false)?);
     let text = "shape 1 1 1 0 4
 0 claim 0
+0 arm
 0 start
 0 swap @0 0
 0 swap @0 null
@@ -81,21 +86,23 @@ events 6
 0 pay
 ";
     let bytes = "claim claimed
+arm ok
 start ok
 swap null
 swap 0
 announce ok
 check moved null
-line 8 refused: not enabled
+line 9 refused: not enabled
 ";
     assert!(rt; writes(rt.alloc(), text, bytes, true)?);
     Ok(())
 }
 
 #[test]
-fn late_finish_as_far_as_it_is_read(rt: HostRuntime) -> Result<(), Fail> {
+fn late_finish(rt: HostRuntime) -> Result<(), Fail> {
     let text = "shape 3 1 0 1 12
 1 claim 0
+1 arm
 1 start
 1 wadd 0
 1 swap ~0 0
@@ -110,10 +117,23 @@ fn late_finish_as_far_as_it_is_read(rt: HostRuntime) -> Result<(), Fail> {
 1 finish
 ";
     let bytes = "claim claimed
+arm ok
 start ok
-line 4 refused: syntax
+wadd ok
+swap null
+announce ok
+check valid
+wadd ok
+release ok
+drop zero
+add up
+drop zero
+finish ended
+finish lost
+slot 0 strong 9223372036854775808 weak 3
+events 14
 ";
-    assert!(rt; writes(rt.alloc(), text, bytes, true)?);
+    assert!(rt; writes(rt.alloc(), text, bytes, false)?);
     Ok(())
 }
 
@@ -121,6 +141,7 @@ line 4 refused: syntax
 fn several_seats(rt: HostRuntime) -> Result<(), Fail> {
     let text = "shape 2 2 1 0 4
 1 claim 1
+1 arm
 1 fill 0 18446744073709551615
 1 start
 1 see 1 0
@@ -136,11 +157,13 @@ fn several_seats(rt: HostRuntime) -> Result<(), Fail> {
 1 look @0
 0 drop 1
 0 claim 0
+0 arm
 0 start
 0 drop 0
 0 finish
 ";
     let bytes = "claim claimed
+arm ok
 fill ok
 start ok
 see 18446744073709551615
@@ -149,19 +172,20 @@ announce ok
 check valid
 add up
 release ok
-claim taken
+claim taken 1
 cas lost 1
 swap null
 count 2
 look 1
 drop left
 claim claimed
+arm ok
 start ok
 drop zero
 finish ended
 slot 0 strong 9223372036854775808 weak 1
 slot 1 strong 1 weak 1
-events 19
+events 21
 ";
     assert!(rt; writes(rt.alloc(), text, bytes, false)?);
     Ok(())
@@ -212,16 +236,19 @@ const REFUSED: [(&str, &str); 36] = [
         "shape 1 1 1 0 4\n0 cas @0 1 null",
         "line 2 refused: range\n",
     ),
-    ("shape 1 1 0 1 4\n0 look ~0", "line 2 refused: syntax\n"),
-    ("shape 1 1 0 1 4\n0 look 0:w", "line 2 refused: syntax\n"),
-    ("shape 1 1 0 0 4\n0 free", "line 2 refused: syntax\n"),
-    ("shape 1 1 0 0 4\n7 destroy 7", "line 2 refused: syntax\n"),
-    ("shape 2 1 0 0 4\n0 leave 1", "line 2 refused: syntax\n"),
-    ("shape 1 1 0 0 4\n0 wcount 0", "line 2 refused: syntax\n"),
-    ("shape 1 1 0 0 4\n0 wdrop 0", "line 2 refused: syntax\n"),
+    ("shape 1 1 0 0 4\n0 free", "line 2 refused: not enabled\n"),
+    ("shape 1 1 0 0 4\n7 destroy 7", "line 2 refused: range\n"),
+    ("shape 2 1 0 0 4\n0 leave 2", "line 2 refused: range\n"),
     (
-        "shape 1 1 0 0 4\n0 announce 1 disposal 0",
-        "line 2 refused: syntax\n",
+        "shape 1 1 0 0 4\n0 wcount 0",
+        "line 2 refused: not enabled\n",
+    ),
+    ("shape 1 1 0 1 4\n0 look ~1", "line 2 refused: range\n"),
+    ("shape 1 1 0 1 4\n0 look 1:w", "line 2 refused: range\n"),
+    ("shape 1 1 0 0 4\n0 alive 4", "line 2 refused: range\n"),
+    (
+        "shape 1 1 0 0 4\n0 announce 1 disposal 1",
+        "line 2 refused: range\n",
     ),
 ];
 
@@ -241,7 +268,7 @@ fn zeros(rt: HostRuntime) -> Result<(), Fail> {
     }
     text.extend_from_slice(b"7\n# \xff\n")?;
     let written = steps(rt.alloc(), &text)?;
-    let bytes = b"claim claimed\nslot 7 strong 9223372036854775808 weak 1\nevents 1\n";
+    let bytes = b"claim claimed\nslot 7 strong 9223372036854775808 weak 0\nevents 1\n";
     assert!(rt; written.text.as_slice() == bytes.as_slice() && !written.refused);
     Ok(())
 }

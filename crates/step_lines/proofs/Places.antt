@@ -2,7 +2,6 @@
 use Rattle.std.proofs.Common.{◌≡◌, ◌≢◌, inl, inr, ℕ, ◌+◌, ◌<◌, List, [], ◌∷◌, ◌++◌, length, refl, sym, ap, subst, ◌∙◌, arith, append_assoc, length-append, codes, Option, Some, None, Result, Ok, Err}
 use Rattle.std.proofs.lemmas.List.Elements.{All-head}
 use Rattle.std.specs.List.{All}
-use Rattle.std.proofs.lemmas.Bool.{cases_lt}
 use Rattle.std.specs.Char.{IsAsciiDigit}
 use Rattle.std.specs.Result.{IsErrAnd, IsOkAnd, MatchResult}
 use Rattle.plain_state.specs.declared.act.EventPlace.{EventPlace}
@@ -41,16 +40,16 @@ content_reads word some =
     only None spells = absurd (some spells)
     only (Some s) spells = (s, spells)
 
--- a number begins with no `@`
-pub number_first : (index rest word : List ℕ) (n : ℕ) → IsNumber word n → 64 ∷ index ≡ word ++ rest → ⊥
-number_first index rest [] n is same = elim is.sign [
+-- a number begins with no `@` and no `~`
+pub number_first : (c : ℕ) (index rest word : List ℕ) (n : ℕ) → 57 < c → IsNumber word n → c ∷ index ≡ word ++ rest → ⊥
+number_first c index rest [] n high is same = elim is.sign [
   | inl none ↦ omega (arith, ap length none, is.decimal.0)
   | inr none ↦ cc
 ]
-number_first index rest (byte ∷ bytes) n is same = elim is.sign [
+number_first c index rest (byte ∷ bytes) n high is same = elim is.sign [
   | inl whole ↦ let first : IsAsciiDigit byte = All-head IsAsciiDigit byte bytes (subst (All IsAsciiDigit) (sym whole) is.decimal.1) in
-      let is_it : 64 ≡ byte = cc in omega (arith, first)
-  | inr signed ↦ let wrong : ◌≡◌ {A = ℕ} 64 43 = cc in omega arith
+      let is_it : c ≡ byte = cc in omega (arith, first)
+  | inr signed ↦ let wrong : ◌≡◌ {A = ℕ} c 43 = cc in omega arith
 ]
 
 -- a number isn't `null`
@@ -74,6 +73,11 @@ same-ends (x ∷ xs) (y ∷ ys) a b c d same =
     (cc, ends.1)
 
 module _ (word : List ℕ) where
+  -- a word of a cell is no word of a field
+  cell_no_field : (c : ℕ) (index slot : List ℕ) (s b : ℕ) → 57 < c → word ≡ c ∷ index → IsNumber slot s
+      → word ≡ slot ++ 58 ∷ b ∷ [] → ⊥
+  cell_no_field c index slot s b high is spells same = number_first c index (58 ∷ b ∷ []) slot s high spells (sym is ∙ same)
+
   -- a word of a cell
   pub cell_reads : (index : List ℕ) → word ≡ codes "@" ++ index
       → (r : Result ℕ LineRefused) (m : Result EventPlace LineRefused)
@@ -85,38 +89,61 @@ module _ (word : List ℕ) where
     where
       only : (p : EventPlace) → Place p word → (i : ℕ) × Number i index
       only (Cell i) spells = (i, let same : spells.0 ≡ index = let e = sym spells.1 ∙ is in cc in subst (Number i) same spells.2)
-      only (Field s i) spells = absurd (number_first index (codes ":" ++ (48 + i) ∷ []) spells.0 s.0 spells.1
-          (sym is ∙ spells.3 ∙ append_assoc spells.0 (codes ":") ((48 + i) ∷ [])))
-      only (WeakCell i) spells = absurd spells
-      only (WeakField s) spells = absurd spells
+      only (Field s i) spells = absurd (cell_no_field 64 index spells.0 s.0 (48 + i) (omega arith) is spells.1
+          (spells.3 ∙ append_assoc spells.0 (codes ":") ((48 + i) ∷ [])))
+      only (WeakCell i) spells = absurd (let e = sym spells.1 ∙ is in let wrong : ◌≡◌ {A = ℕ} 126 64 = cc in omega arith)
+      only (WeakField s) spells = absurd (cell_no_field 64 index spells.0 s.0 119 (omega arith) is spells.1 spells.2)
 
-  -- a word of a field
-  module _ (slot : List ℕ) (k : ℕ) (within : k < 2) (is : word ≡ slot ++ 58 ∷ (48 + k) ∷ []) where
-    pub field_spelled : (s : SlotId) → Slot s slot → Place (Field s k) word
-    field_spelled s spells = (slot, spells, within, is ∙ sym (append_assoc slot (codes ":") ((48 + k) ∷ [])))
+  pub weak_cell_reads : (index : List ℕ) → word ≡ codes "~" ++ index
+      → (r : Result ℕ LineRefused) (m : Result EventPlace LineRefused)
+      → MatchResult r (λ i. IsOkAnd m (λ p. p ≡ WeakCell i)) (λ e. m ≡ Err e)
+      → Reads (λ i. Number i index) IsTooLarge r → Reads (λ p. Place p word) IsBeyondPlace m
+  weak_cell_reads index is =
+      reads_made (λ i. Number i index) IsTooLarge (λ p. Place p word) IsBeyondPlace WeakCell
+      (λ i spells. (index, is, spells)) only (λ i far. far)
+    where
+      only : (p : EventPlace) → Place p word → (i : ℕ) × Number i index
+      only (Cell i) spells = absurd (let e = sym spells.1 ∙ is in let wrong : ◌≡◌ {A = ℕ} 64 126 = cc in omega arith)
+      only (Field s i) spells = absurd (cell_no_field 126 index spells.0 s.0 (48 + i) (omega arith) is spells.1
+          (spells.3 ∙ append_assoc spells.0 (codes ":") ((48 + i) ∷ [])))
+      only (WeakCell i) spells = (i, let same : spells.0 ≡ index = let e = sym spells.1 ∙ is in cc in subst (Number i) same spells.2)
+      only (WeakField s) spells = absurd (cell_no_field 126 index spells.0 s.0 119 (omega arith) is spells.1 spells.2)
 
-    pub field_refused : ((index : List ℕ) → word ≢ codes "@" ++ index) → (r : Result EventPlace LineRefused) (e : LineRefused)
-        → IsErrAnd r (λ y. y ≡ e) → Reads (λ s. Slot s slot) IsBeyondSlot (Err e) → Reads (λ p. Place p word) IsBeyondPlace r
-    field_refused no_cell =
-        reads_refused (λ s. Slot s slot) IsBeyondSlot (λ p. Place p word) IsBeyondPlace (λ s. Field s k) field_spelled only (λ s far. far)
+  pub field_spelled : (slot : List ℕ) (k : ℕ) → k < 2 → word ≡ slot ++ 58 ∷ (48 + k) ∷ [] → (s : SlotId) → Slot s slot
+      → Place (Field s k) word
+  field_spelled slot k within is s spells = (slot, spells, within, is ∙ sym (append_assoc slot (codes ":") ((48 + k) ∷ [])))
+
+  -- the word of no cell
+  module _ (no_cell : (index : List ℕ) → word ≢ codes "@" ++ index) (no_weak : (index : List ℕ) → word ≢ codes "~" ++ index) where
+    -- a word of a field
+    module _ (slot : List ℕ) (k : ℕ) (within : k < 2) (is : word ≡ slot ++ 58 ∷ (48 + k) ∷ []) where
+      pub field_refused : (r : Result EventPlace LineRefused) (e : LineRefused)
+          → IsErrAnd r (λ y. y ≡ e) → Reads (λ s. Slot s slot) IsBeyondSlot (Err e) → Reads (λ p. Place p word) IsBeyondPlace r
+      field_refused =
+          reads_refused (λ s. Slot s slot) IsBeyondSlot (λ p. Place p word) IsBeyondPlace (λ s. Field s k) (field_spelled slot k within is) only (λ s far. far)
+        where
+          only : (p : EventPlace) → Place p word → (s : SlotId) × Slot s slot
+          only (Cell i) spells = absurd (no_cell spells.0 spells.1)
+          only (Field s i) spells =
+              let ends = same-ends spells.0 slot 58 (48 + i) 58 (48 + k) (sym (append_assoc spells.0 (codes ":") ((48 + i) ∷ [])) ∙ sym spells.3 ∙ is) in
+              (s, subst (λ w. Slot s w) ends.0 spells.1)
+          only (WeakCell i) spells = absurd (no_weak spells.0 spells.1)
+          only (WeakField s) spells =
+              absurd (let ends = same-ends spells.0 slot 58 119 58 (48 + k) (sym spells.2 ∙ is) in omega (arith, ends.1))
+
+    pub weak_field_reads : (slot : List ℕ) → word ≡ slot ++ codes ":w"
+        → (r : Result SlotId LineRefused) (m : Result EventPlace LineRefused)
+        → MatchResult r (λ s. IsOkAnd m (λ p. p ≡ WeakField s)) (λ e. m ≡ Err e)
+        → Reads (λ s. Slot s slot) IsBeyondSlot r → Reads (λ p. Place p word) IsBeyondPlace m
+    weak_field_reads slot is =
+        reads_made (λ s. Slot s slot) IsBeyondSlot (λ p. Place p word) IsBeyondPlace (λ s. WeakField s)
+        (λ s spells. (slot, spells, is)) only (λ s far. far)
       where
         only : (p : EventPlace) → Place p word → (s : SlotId) × Slot s slot
         only (Cell i) spells = absurd (no_cell spells.0 spells.1)
         only (Field s i) spells =
-            let ends = same-ends spells.0 slot 58 (48 + i) 58 (48 + k) (sym (append_assoc spells.0 (codes ":") ((48 + i) ∷ [])) ∙ sym spells.3 ∙ is) in
-            (s, subst (λ w. Slot s w) ends.0 spells.1)
-        only (WeakCell i) spells = absurd spells
-        only (WeakField s) spells = absurd spells
-
-  -- a word of neither
-  pub no_place : ((index : List ℕ) → word ≢ codes "@" ++ index) → ((slot : List ℕ) → word ≢ slot ++ codes ":0")
-      → ((slot : List ℕ) → word ≢ slot ++ codes ":1") → (p : EventPlace) → Place p word → ⊥
-  no_place no_cell no_first no_second (Cell i) spells = no_cell spells.0 spells.1
-  no_place no_cell no_first no_second (Field s i) spells =
-      let is = spells.3 ∙ append_assoc spells.0 (codes ":") ((48 + i) ∷ []) in
-      elim (cases_lt i 1) [
-        | inl h ↦ no_first spells.0 (let zero : i ≡ 0 = omega arith in rw zero at is)
-        | inr h ↦ no_second spells.0 (let one : i ≡ 1 = omega (arith, spells.2) in rw one at is)
-      ]
-  no_place no_cell no_first no_second (WeakCell i) spells = spells
-  no_place no_cell no_first no_second (WeakField s) spells = spells
+            absurd (let ends = same-ends spells.0 slot 58 (48 + i) 58 119 (sym (append_assoc spells.0 (codes ":") ((48 + i) ∷ [])) ∙ sym spells.3 ∙ is) in
+            omega (arith, ends.1, spells.2))
+        only (WeakCell i) spells = absurd (no_weak spells.0 spells.1)
+        only (WeakField s) spells =
+            let ends = same-ends spells.0 slot 58 119 58 119 (sym spells.2 ∙ is) in (s, subst (λ w. Slot s w) ends.0 spells.1)

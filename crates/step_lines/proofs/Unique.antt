@@ -1,70 +1,13 @@
 -- Words spell one event and one shape at most.
-use Rattle.std.proofs.Common.{◌≡◌, ℕ, ◌+◌, List, [], ◌∷◌, ◌++◌, Option, Some, None, codes, refl, sym, ap, subst, ◌∙◌, arith, append_assoc}
-use Rattle.plain_state.specs.declared.act.EventPlace.{EventPlace}
-use Rattle.plain_state.specs.declared.act.EventPlace.TheVariants.{Cell, Field, WeakCell, WeakField}
-use Rattle.plain_state.specs.declared.slot.Kind.{Kind}
-use Rattle.plain_state.specs.declared.slot.Kind.TheVariants.{Strong, Weak}
-use Rattle.plain_state.specs.declared.slot.SlotId.{SlotId}
+use Rattle.std.proofs.Common.{◌≡◌, ℕ, List, [], ◌∷◌, refl, sym, ap, ◌∙◌}
 use Rattle.core_events.specs.declared.act.Act.{Act}
 use Rattle.core_events.specs.declared.act.Act.TheVariants as act
 use Rattle.core_events.specs.declared.act.Event.{Event}
 use Rattle.core_events.specs.declared.shape.Shape.{Shape}
-use Rattle.line_words.proofs.Decimal.{one-number_of}
-use Rattle.line_words.specs.Number.{IsNumber}
 use Rattle.step_lines.specs.Spelling.{Content, Each, KindWord, Number, Place, Slot, SpellsAct, SpellsEvent, SpellsShape}
 use Rattle.step_lines.specs.Texts.{event_name}
-use Rattle.step_lines.proofs.Places.{number_first, number_no_null, same-ends}
-use Rattle.step_lines.proofs.Rows.{named, other}
-
--- ---- a word spells one thing of a form at most
-
-module _ (word : List ℕ) where
-  one-number : (n m : ℕ) → Number n word → Number m word → n ≡ m
-  one-number n m first second = one-number_of word n m first second
-
-  one-slot : (s t : SlotId) → Slot s word → Slot t word → s ≡ t
-  one-slot s t first second =
-      let made : ℕ → SlotId = λ n. record { 0 = n } in ap made (one-number s.0 t.0 first second)
-
-  one-kind : (k l : Kind) → KindWord k word → KindWord l word → k ≡ l
-  one-kind Strong Strong first second = refl
-  one-kind Strong Weak first second = absurd (other (codes "strong") (codes "weak") (sym first ∙ second) refl)
-  one-kind Weak Strong first second = absurd (other (codes "weak") (codes "strong") (sym first ∙ second) refl)
-  one-kind Weak Weak first second = refl
-
-  one-content : (x y : Option SlotId) → Content x word → Content y word → x ≡ y
-  one-content None None first second = refl
-  one-content None (Some t) first second = absurd (number_no_null word t.0 second first)
-  one-content (Some s) None first second = absurd (number_no_null word s.0 first second)
-  one-content (Some s) (Some t) first second = ap (λ (s : SlotId). Some s) (one-slot s t first second)
-
--- a field's word ends in a colon and a byte
-field-ends : (word slot : List ℕ) (k : ℕ) → word ≡ slot ++ codes ":" ++ (48 + k) ∷ [] → word ≡ slot ++ 58 ∷ (48 + k) ∷ []
-field-ends word slot k is = is ∙ append_assoc slot (codes ":") ((48 + k) ∷ [])
-
--- a cell's word isn't a field's
-no-field : (word index slot : List ℕ) (s k : ℕ) → word ≡ codes "@" ++ index → IsNumber slot s
-    → word ≡ slot ++ codes ":" ++ (48 + k) ∷ [] → ⊥
-no-field word index slot s k cell is field = number_first index (58 ∷ (48 + k) ∷ []) slot s is (sym cell ∙ field-ends word slot k field)
-
-one-place : (word : List ℕ) (p q : EventPlace) → Place p word → Place q word → p ≡ q
-one-place word (Cell i) (Cell j) first second =
-    let same : first.0 ≡ second.0 = let e = sym first.1 ∙ second.1 in cc in
-    ap (λ (i : ℕ). Cell i) (one-number second.0 i j (subst (Number i) same first.2) second.2)
-one-place word (Cell i) (Field t l) first second = absurd (no-field word first.0 second.0 t.0 l first.1 second.1 second.3)
-one-place word (Cell i) (WeakCell j) first second = absurd second
-one-place word (Cell i) (WeakField t) first second = absurd second
-one-place word (Field s k) (Cell j) first second = absurd (no-field word second.0 first.0 s.0 k second.1 first.1 first.3)
-one-place word (Field s k) (Field t l) first second =
-    let ends = same-ends first.0 second.0 58 (48 + k) 58 (48 + l)
-    (sym (field-ends word first.0 k first.3) ∙ field-ends word second.0 l second.3) in
-    let slot : s ≡ t = one-slot second.0 s t (subst (λ w. Slot s w) ends.0 first.1) second.1 in
-    let field : k ≡ l = omega (arith, ends.1) in
-    cc
-one-place word (Field s k) (WeakCell j) first second = absurd second
-one-place word (Field s k) (WeakField t) first second = absurd second
-one-place word (WeakCell i) q first second = absurd first
-one-place word (WeakField s) q first second = absurd first
+use Rattle.step_lines.proofs.Names.{named, other}
+use Rattle.step_lines.proofs.UniqueWords.{one-number, one-slot, one-kind, one-content, one-place}
 
 -- ---- words that have two lists of forms
 
@@ -145,6 +88,11 @@ module _ (name : List ℕ) (words : List (List ℕ)) where
       let p_is = one-place both.1.0 p p' both.1.1 both.1.2 in
       cc
   one-named (act.Check i p) b first second = absurd (other (event_name (act.Check i p)) (event_name b) (same-name (act.Check i p) b first second) refl)
+  one-named (act.Alive i) (act.Alive i') first second =
+      let both = both-one (Number i) (Number i') words first.1 second.1 in
+      let i_is = one-number both.0 i i' both.1 both.2 in
+      cc
+  one-named (act.Alive i) b first second = absurd (other (event_name (act.Alive i)) (event_name b) (same-name (act.Alive i) b first second) refl)
   one-named act.Scan act.Scan first second = refl
   one-named act.Scan b first second = absurd (other (event_name act.Scan) (event_name b) (same-name act.Scan b first second) refl)
   one-named (act.Swap p x) (act.Swap p' x') first second =
@@ -165,6 +113,8 @@ module _ (name : List ℕ) (words : List (List ℕ)) where
       let s_is = one-slot both.0 s s' both.1 both.2 in
       cc
   one-named (act.Claim s) b first second = absurd (other (event_name (act.Claim s)) (event_name b) (same-name (act.Claim s) b first second) refl)
+  one-named act.Arm act.Arm first second = refl
+  one-named act.Arm b first second = absurd (other (event_name act.Arm) (event_name b) (same-name act.Arm b first second) refl)
   one-named (act.Fill i j) (act.Fill i' j') first second =
       let both = both-two (Number i) (Number j) (Number i') (Number j') words first.1 second.1 in
       let i_is = one-number both.0.0 i i' both.0.1 both.0.2 in
@@ -179,12 +129,35 @@ module _ (name : List ℕ) (words : List (List ℕ)) where
       let i_is = one-number both.1.0 i i' both.1.1 both.1.2 in
       cc
   one-named (act.See s i) b first second = absurd (other (event_name (act.See s i)) (event_name b) (same-name (act.See s i) b first second) refl)
-  one-named act.Free b first second = absurd first
-  one-named (act.Wadd s) b first second = absurd first
-  one-named (act.Wdrop s) b first second = absurd first
-  one-named (act.Destroy s) b first second = absurd first
-  one-named (act.Wcount s) b first second = absurd first
-  one-named (act.Leave s) b first second = absurd first
+  one-named act.Free act.Free first second = refl
+  one-named act.Free b first second = absurd (other (event_name act.Free) (event_name b) (same-name act.Free b first second) refl)
+  one-named act.Ticket act.Ticket first second = refl
+  one-named act.Ticket b first second = absurd (other (event_name act.Ticket) (event_name b) (same-name act.Ticket b first second) refl)
+  one-named (act.Wadd s) (act.Wadd s') first second =
+      let both = both-one (Slot s) (Slot s') words first.1 second.1 in
+      let s_is = one-slot both.0 s s' both.1 both.2 in
+      cc
+  one-named (act.Wadd s) b first second = absurd (other (event_name (act.Wadd s)) (event_name b) (same-name (act.Wadd s) b first second) refl)
+  one-named (act.Wdrop s) (act.Wdrop s') first second =
+      let both = both-one (Slot s) (Slot s') words first.1 second.1 in
+      let s_is = one-slot both.0 s s' both.1 both.2 in
+      cc
+  one-named (act.Wdrop s) b first second = absurd (other (event_name (act.Wdrop s)) (event_name b) (same-name (act.Wdrop s) b first second) refl)
+  one-named (act.Destroy s) (act.Destroy s') first second =
+      let both = both-one (Slot s) (Slot s') words first.1 second.1 in
+      let s_is = one-slot both.0 s s' both.1 both.2 in
+      cc
+  one-named (act.Destroy s) b first second = absurd (other (event_name (act.Destroy s)) (event_name b) (same-name (act.Destroy s) b first second) refl)
+  one-named (act.Wcount s) (act.Wcount s') first second =
+      let both = both-one (Slot s) (Slot s') words first.1 second.1 in
+      let s_is = one-slot both.0 s s' both.1 both.2 in
+      cc
+  one-named (act.Wcount s) b first second = absurd (other (event_name (act.Wcount s)) (event_name b) (same-name (act.Wcount s) b first second) refl)
+  one-named (act.Leave i) (act.Leave i') first second =
+      let both = both-one (Number i) (Number i') words first.1 second.1 in
+      let i_is = one-number both.0 i i' both.1 both.2 in
+      cc
+  one-named (act.Leave i) b first second = absurd (other (event_name (act.Leave i)) (event_name b) (same-name (act.Leave i) b first second) refl)
 
 no-words : (a : Act) → SpellsAct [] a → ⊥
 no-words (act.Add s) spells = spells
@@ -198,14 +171,17 @@ no-words (act.Announce i k s) spells = spells
 no-words (act.Release i) spells = spells
 no-words (act.Look p) spells = spells
 no-words (act.Check i p) spells = spells
+no-words (act.Alive i) spells = spells
 no-words act.Scan spells = spells
 no-words (act.Swap p x) spells = spells
 no-words (act.Cas p x y) spells = spells
 no-words (act.Claim s) spells = spells
+no-words act.Arm spells = spells
 no-words (act.Fill i j) spells = spells
 no-words act.Start spells = spells
 no-words (act.See s i) spells = spells
 no-words act.Free spells = spells
+no-words act.Ticket spells = spells
 no-words (act.Wadd s) spells = spells
 no-words (act.Wdrop s) spells = spells
 no-words (act.Destroy s) spells = spells

@@ -20,14 +20,17 @@ event_name (act.Announce j k s) = codes "announce"
 event_name (act.Release j) = codes "release"
 event_name (act.Look p) = codes "look"
 event_name (act.Check j p) = codes "check"
+event_name (act.Alive j) = codes "alive"
 event_name act.Scan = codes "scan"
 event_name (act.Swap p new) = codes "swap"
 event_name (act.Cas p old new) = codes "cas"
 event_name (act.Claim s) = codes "claim"
+event_name act.Arm = codes "arm"
 event_name (act.Fill i value) = codes "fill"
 event_name act.Start = codes "start"
 event_name (act.See s i) = codes "see"
 event_name act.Free = codes "free"
+event_name act.Ticket = codes "ticket"
 event_name (act.Wadd s) = codes "wadd"
 event_name (act.Wdrop s) = codes "wdrop"
 event_name (act.Destroy s) = codes "destroy"
@@ -61,7 +64,8 @@ outcome_text (outcome.Split word kept ejected) =
 outcome_text outcome.Done = codes "done"
 outcome_text (outcome.LostTo content) = codes "lost " ++ content_text content
 outcome_text outcome.Claimed = codes "claimed"
-outcome_text outcome.Taken = codes "taken"
+outcome_text (outcome.Taken word) = codes "taken " ++ decimal word
+outcome_text outcome.Alive = codes "alive"
 
 -- the line: the event's name, a space, its outcome, and a line feed
 abbrev pub event_text : Act → Outcome → List ℕ

@@ -1,9 +1,9 @@
 //! The act that the words after a seat's number spell.
 ghost use Rattle.std.specs.Prelude.{◌≡◌, [], ◌∷◌, codes};
 ghost use Rattle.line_words.specs.Words.{texts_of};
-ghost use Rattle.step_lines.specs.Beyond.{IsBeyondAct, IsBeyondSlot};
+ghost use Rattle.step_lines.specs.Beyond.{IsBeyondAct, IsBeyondSlot, IsTooLarge};
 ghost use Rattle.step_lines.specs.Reading.{Reads};
-ghost use Rattle.step_lines.specs.Spelling.{Each, Slot, SpellsAct};
+ghost use Rattle.step_lines.specs.Spelling.{Each, Number, Slot, SpellsAct};
 
 use crate::arguments::{
     parse_content, parse_kind, parse_number, parse_place, parse_slot, parse_value,
@@ -35,16 +35,25 @@ fn named(name: &[u8], words: &[&[u8]]) -> Result<Act, LineRefused>
         b"count" => slot(words).map(Act::Count),
         b"mark" => alone(words, Act::Mark),
         b"announce" => announce(words),
-        b"release" => release(words),
+        b"release" => one_number(words).map(Act::Release),
         b"look" => look(words),
         b"check" => check(words),
+        b"alive" => one_number(words).map(Act::Alive),
         b"scan" => alone(words, Act::Scan),
         b"swap" => swap(words),
         b"cas" => cas(words),
         b"claim" => slot(words).map(Act::Claim),
+        b"arm" => alone(words, Act::Arm),
         b"fill" => fill(words),
         b"start" => alone(words, Act::Start),
         b"see" => see(words),
+        b"free" => alone(words, Act::Free),
+        b"ticket" => alone(words, Act::Ticket),
+        b"wadd" => slot(words).map(Act::Wadd),
+        b"wdrop" => slot(words).map(Act::Wdrop),
+        b"destroy" => slot(words).map(Act::Destroy),
+        b"wcount" => slot(words).map(Act::Wcount),
+        b"leave" => one_number(words).map(Act::Leave),
         _ => Err(LineRefused::Syntax),
     }
 }
@@ -82,14 +91,14 @@ fn announce(words: &[&[u8]]) -> Result<Act, LineRefused>
     Ok(Act::Announce(note, kind, slot))
 }
 
-// `release` with its argument.
-fn release(words: &[&[u8]]) -> Result<Act, LineRefused>
-    ensures { Reads (SpellsAct (codes "release" ∷ texts_of words.now)) IsBeyondAct result }
+// The one argument of an act on a note or a seat.
+fn one_number(words: &[&[u8]]) -> Result<u32, LineRefused>
+    ensures { Reads (λ n. Each (Number n ∷ []) (texts_of words.now)) IsTooLarge result }
 {
-    let [note] = words else {
+    let [number] = words else {
         return Err(LineRefused::Syntax);
     };
-    Ok(Act::Release(parse_number(note)?))
+    parse_number(number)
 }
 
 // `look` with its argument.

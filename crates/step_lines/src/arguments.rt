@@ -41,13 +41,14 @@ pub fn parse_slot(word: &[u8]) -> Result<SlotId, LineRefused>
     parse_number(word).map(SlotId)
 }
 
-/// `strong` or `weak`.
+/// `strong`, `weak` or `disposal`.
 pub fn parse_kind(word: &[u8]) -> Result<Kind, LineRefused>
     ensures { Reads (λ k. KindWord k word.now) (λ k. ⊥) result }
 {
     match word {
         b"strong" => Ok(Kind::Strong),
         b"weak" => Ok(Kind::Weak),
+        b"disposal" => Ok(Kind::Disposal),
         _ => Err(LineRefused::Syntax),
     }
 }
@@ -62,18 +63,24 @@ pub fn parse_content(word: &[u8]) -> Result<Option<SlotId>, LineRefused>
     parse_slot(word).map(Some)
 }
 
-/// A strong cell, or a field of a slot.
+/// A cell, or a field of a slot.
 pub fn parse_place(word: &[u8]) -> Result<EventPlace, LineRefused>
     ensures { Reads (λ p. Place p word.now) IsBeyondPlace result }
 {
     if let Some(index) = word.strip_prefix(b"@") {
         return parse_number(index).map(EventPlace::Cell);
     }
+    if let Some(index) = word.strip_prefix(b"~") {
+        return parse_number(index).map(EventPlace::WeakCell);
+    }
     if let Some(slot) = word.strip_suffix(b":0") {
         return Ok(EventPlace::Field(parse_slot(slot)?, 0));
     }
     if let Some(slot) = word.strip_suffix(b":1") {
         return Ok(EventPlace::Field(parse_slot(slot)?, 1));
+    }
+    if let Some(slot) = word.strip_suffix(b":w") {
+        return parse_slot(slot).map(EventPlace::WeakField);
     }
     Err(LineRefused::Syntax)
 }

@@ -6,8 +6,7 @@
 //! the types can't hold: 2^32 or more, or 2^64 or more for the value of a payload word. `push_event` writes the line
 //! of an event.
 //!
-//! Nothing is promised of whether what an event names is there: that depends on the core. The events `free`, `wadd`,
-//! `wdrop`, `destroy`, `wcount` and `leave`, and the weak places, are written but not yet read.
+//! Nothing is promised of whether what an event names is there: that depends on the core.
 //!
 //! ```text
 //! let words = words(alloc, b"0 claim 3")?;

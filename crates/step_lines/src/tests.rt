@@ -32,6 +32,22 @@ fn events(rt: HostRuntime) -> Result<(), Fail> {
             Act::Announce(1, Kind::Strong, S),
         ),
         ("0 announce 4 weak 7", 0, Act::Announce(4, Kind::Weak, S)),
+        (
+            "0 announce 0 disposal 7",
+            0,
+            Act::Announce(0, Kind::Disposal, S),
+        ),
+        ("0 alive 1", 0, Act::Alive(1)),
+        ("0 arm", 0, Act::Arm),
+        ("0 free", 0, Act::Free),
+        ("0 ticket", 0, Act::Ticket),
+        ("0 wadd 7", 0, Act::Wadd(S)),
+        ("0 wdrop 7", 0, Act::Wdrop(S)),
+        ("0 destroy 7", 0, Act::Destroy(S)),
+        ("0 wcount 7", 0, Act::Wcount(S)),
+        ("0 leave 31", 0, Act::Leave(31)),
+        ("0 look ~12", 0, Act::Look(EventPlace::WeakCell(12))),
+        ("0 look 7:w", 0, Act::Look(EventPlace::WeakField(S))),
         ("0 release 3", 0, Act::Release(3)),
         ("0 look @12", 0, Act::Look(EventPlace::Cell(12))),
         ("0 look 7:0", 0, Act::Look(EventPlace::Field(S, 0))),
@@ -61,7 +77,7 @@ fn events(rt: HostRuntime) -> Result<(), Fail> {
 }
 
 /// Lines in which no event is spelled.
-const NO_EVENTS: [&str; 47] = [
+const NO_EVENTS: [&str; 48] = [
     "",
     "0",
     "+",
@@ -78,7 +94,6 @@ const NO_EVENTS: [&str; 47] = [
     "0 add 7a",
     "0 pay 0",
     "0 announce 1 Strong 7",
-    "0 announce 1 disposal 7",
     "0 announce 1 7 strong",
     "0 look 7",
     "0 look @",
@@ -89,24 +104,26 @@ const NO_EVENTS: [&str; 47] = [
     "0 look 7:2",
     "0 look 7:00",
     "0 look +:0",
-    "0 look 7:w",
-    "0 look ~0",
-    "0 check 1 ~0",
     "0 swap @0",
     "0 swap @0 nil",
     "0 swap null @0",
-    "0 swap ~0 0",
     "0 cas @0 null",
     "0 cas @0 null null null",
     "0 fill 0",
+    "0 announce 1 Disposal 7",
+    "0 alive",
+    "0 alive 1 7",
+    "0 arm 7",
+    "0 free 7",
+    "0 ticket 0",
+    "0 destroy",
+    "0 leave",
+    "0 leave ~1",
+    "0 look ~",
+    "0 look ~0:w",
+    "0 look :w",
+    "0 look 7:W",
     "0 see 7",
-    "0 free",
-    "0 wadd 0",
-    "0 wdrop 0",
-    "0 destroy 0",
-    "0 wcount 0",
-    "0 leave 1",
-    "4294967296 wadd 0",
     "0 fill 18446744073709551616 x",
     "shape 1 1 1 1 1",
 ];
@@ -133,6 +150,11 @@ fn ranges(rt: HostRuntime) -> Result<(), Fail> {
         "0 release 18446744073709551616",
         "0 look @4294967296",
         "0 look 4294967296:1",
+        "0 look ~4294967296",
+        "0 look 4294967296:w",
+        "0 alive 4294967296",
+        "0 leave 4294967296",
+        "0 destroy 4294967296",
         "0 swap @0 4294967296",
         "0 cas @0 4294967296 null",
         "0 cas @0 null 340282366920938463463374607431768211456",
@@ -218,7 +240,11 @@ fn texts(rt: HostRuntime) -> Result<(), Fail> {
         (Act::Cas(place, None, None), Outcome::Done),
         (Act::Cas(place, None, None), Outcome::LostTo(None)),
         (Act::Claim(S), Outcome::Claimed),
-        (Act::Claim(S), Outcome::Taken),
+        (Act::Claim(S), Outcome::Taken(2)),
+        (Act::Arm, Outcome::Plain),
+        (Act::Ticket, Outcome::Number(7)),
+        (Act::Alive(1), Outcome::Alive),
+        (Act::Alive(1), Outcome::Zeroed),
         (Act::Fill(0, 1), Outcome::Plain),
         (Act::Start, Outcome::Plain),
         (Act::See(S, 0), Outcome::Word(9)),
@@ -251,7 +277,11 @@ swap 7
 cas done
 cas lost null
 claim claimed
-claim taken
+claim taken 2
+arm ok
+ticket 7
+alive alive
+alive zero
 fill ok
 start ok
 see 9

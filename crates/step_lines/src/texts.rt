@@ -37,14 +37,17 @@ fn name_of(act: Act) -> &'static [u8]
         Act::Release(_) => b"release",
         Act::Look(_) => b"look",
         Act::Check(..) => b"check",
+        Act::Alive(_) => b"alive",
         Act::Scan => b"scan",
         Act::Swap(..) => b"swap",
         Act::Cas(..) => b"cas",
         Act::Claim(_) => b"claim",
+        Act::Arm => b"arm",
         Act::Fill(..) => b"fill",
         Act::Start => b"start",
         Act::See(..) => b"see",
         Act::Free => b"free",
+        Act::Ticket => b"ticket",
         Act::Wadd(_) => b"wadd",
         Act::Wdrop(_) => b"wdrop",
         Act::Destroy(_) => b"destroy",
@@ -78,7 +81,8 @@ fn push_outcome(text: &mut Vec<u8>, outcome: Outcome) -> Result<(), OutOfMemory>
         Outcome::Done => push(text, b"done"),
         Outcome::LostTo(content) => push_content(text, b"lost ", content),
         Outcome::Claimed => push(text, b"claimed"),
-        Outcome::Taken => push(text, b"taken"),
+        Outcome::Taken(word) => push_number(text, b"taken ", word),
+        Outcome::Alive => push(text, b"alive"),
     }
 }
 

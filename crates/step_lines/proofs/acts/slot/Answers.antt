@@ -1,5 +1,5 @@
 use Rattle.std.proofs.Common.{arith}
-use Rattle.step_lines.proofs.Rows.{slot_alone}
+use Rattle.step_lines.proofs.ShortRows.{slot_alone}
 use Rattle.step_lines.proofs.acts.slot.Goals as goal
 
 pub returns : goal.returns
