@@ -5,10 +5,9 @@ use Rattle.std.proofs.lemmas.List.Sums.{sum_by-cons}
 use Rattle.std.proofs.lemmas.Bool.{cases_eq}
 use Rattle.std.proofs.lemmas.Bool.Decides.{nat_tests}
 use Rattle.core_events.specs.declared.shape.Shape.{Shape}
-use Rattle.core_events.specs.declared.view.CoreView.{CoreView}
 use Rattle.core_events.specs.Views.{granted}
 use Rattle.core_events.specs.Runs.{Core, view_at}
-use Rattle.core_events.specs.Counts.{number_times, ticket_times, total, tickets_drawn}
+use Rattle.core_events.specs.Counts.{number_times, ticket_times, tickets_drawn}
 use Rattle.core_events.specs.Good.{TicketLaw}
 use Rattle.core_invariant.proofs.Kit.{total_at}
 

@@ -1,5 +1,5 @@
 -- What tickets grant stays as it was at the start.
-use Rattle.std.proofs.Common.{◌≡◌, ◌≢◌, ◌∙◌, ⊎_elim, ℕ, zero, suc, ◌+◌, ◌^◌, ◌<◌, ◌≤◌, Bool, true, false, List, [], ◌∷◌, length, get_or, set, sum, refl, ap, sym, subst, arith}
+use Rattle.std.proofs.Common.{◌≡◌, ◌≢◌, ◌∙◌, ⊎_elim, ℕ, zero, suc, ◌+◌, ◌^◌, ◌<◌, ◌≤◌, Bool, true, false, List, [], ◌∷◌, length, get_or, set, sum, refl, ap, sym, arith}
 use Rattle.std.specs.Prelude.{◌==◌, if◌then◌else◌, nat_lt, Option, Some, None}
 use Rattle.std.proofs.lemmas.Bool.{cases_eq, cases_lt}
 use Rattle.std.proofs.lemmas.List.{get_or-set_same, get_or-set_other, set_past}
@@ -16,10 +16,10 @@ use Rattle.core_events.specs.declared.shape.Quota.{Quota}
 use Rattle.core_events.specs.declared.view.CoreView.{CoreView}
 use Rattle.core_events.specs.declared.view.Phase.{Phase}
 use Rattle.core_events.specs.Words.{ZERO, has_help, value, bit_in}
-use Rattle.core_events.specs.Views.{Terms, first_views, no_view, note_of, slot_of, without}
+use Rattle.core_events.specs.Views.{first_views, no_view, note_of, slot_of}
 use Rattle.core_events.specs.Steps.{changed, ended, exchanged, given_up, is_last, is_valid, paid}
 use Rattle.core_events.specs.Steps.{moved, noted}
-use Rattle.core_events.specs.Runs.{Core, found, left_behind, start, taken_over, view_at, views_after}
+use Rattle.core_events.specs.Runs.{Core, found, left_behind, taken_over, view_at, views_after}
 use Rattle.core_events.specs.declared.outcome.Outcome.TheVariants as outcome
 
 either_way : (b : Bool) (x y : CoreView) (gs : List ℕ) → x.grants ≡ gs → y.grants ≡ gs

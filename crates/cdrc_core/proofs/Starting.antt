@@ -1,12 +1,12 @@
 -- What is kept of a core: at the start, and after an event or a refusal.
-use Rattle.std.proofs.Common.{◌≡◌, ℕ, ◌≤◌, ◌^◌, List, [], ◌∷◌, Bool, true, false, Result, Ok, Err, length, sum, ap, sym, subst, arith}
-use Rattle.std.specs.Prelude.{OnOk, OnErr, nat_lt, if◌then◌else◌}
+use Rattle.std.proofs.Common.{◌≡◌, ℕ, ◌≤◌, ◌^◌, List, Result, Ok, Err, sum, sym, subst}
+use Rattle.std.specs.Prelude.{OnOk, OnErr}
 use Rattle.core_events.specs.declared.act.Act.{Act}
 use Rattle.core_events.specs.declared.act.Event.{Event}
 use Rattle.core_events.specs.declared.shape.Shape.{Shape}
 use Rattle.core_events.specs.Good.{Good}
 use Rattle.core_events.specs.Views.{Terms}
-use Rattle.core_events.specs.Runs.{AreTerms, Enabled, Core, IsShape, after, start, view_at}
+use Rattle.core_events.specs.Runs.{AreTerms, Enabled, Core, IsShape, after, start}
 use Rattle.core_law.proofs.Always.{step_keeps}
 use Rattle.core_invariant.proofs.Parts.{sound_good}
 use Rattle.core_invariant.proofs.Starts.{start_sound}

@@ -1,12 +1,11 @@
 -- The quotas of every seat are in their ranges.
-use Rattle.std.proofs.Common.{◌≡◌, ◌≤◌, ◌^◌, List, [], ap, sym, subst, ◌∙◌, length, lit≤}
+use Rattle.std.proofs.Common.{◌≡◌, ◌^◌, List, [], ap, sym, subst, ◌∙◌, length, lit≤}
 use Rattle.std.proofs.lemmas.List.{length-replicate}
 use Rattle.std.proofs.lemmas.List.Elements.{All-replicate}
 use Rattle.std.specs.List.{All}
 use Rattle.core_events.specs.declared.shape.Quota.{Quota}
 use Rattle.core_events.specs.declared.shape.Shape.{Shape}
 use Rattle.core_events.specs.Runs.{AreTerms, IsQuota}
-use Rattle.core_events.specs.Views.{Terms}
 use Rattle.cdrc_steps.specs.Meaning.{quotas_of}
 
 pub quotas_fit : (z : Shape) (qs : List Quota) → qs ≡ quotas_of z

@@ -1,5 +1,5 @@
 -- Which numbers of an event are in their ranges, in a domain of this shape.
-use Rattle.std.specs.Prelude.{ℕ, ◌<◌, ◌^◌, ⊤, Option, Some, None}
+use Rattle.std.specs.Prelude.{◌<◌, ◌^◌, ⊤, Option, Some, None}
 use Rattle.plain_state.specs.declared.act.EventPlace.{EventPlace}
 use Rattle.plain_state.specs.declared.act.EventPlace.TheVariants.{Cell, Field, WeakCell, WeakField}
 use Rattle.plain_state.specs.declared.slot.SlotId.{SlotId}

@@ -136,9 +136,9 @@ fn scripts_and_steps(rt: HostRuntime) -> Result<(), Fail> {
         ),
         (
             "steps f",
-            "shape 1 1 0 0 4\n0 claim 0\n0 start",
+            "shape 1 1 0 0 4\n0 claim 0\n0 arm\n0 start",
             0,
-            "claim claimed\nstart ok\nslot 0 strong 1 weak 1\nevents 2\n",
+            "claim claimed\narm ok\nstart ok\nslot 0 strong 1 weak 1\nevents 3\n",
         ),
         (
             "steps f",

@@ -1,5 +1,4 @@
-use Rattle.std.proofs.Common.{◌≡◌, subst, sym, None, Err}
-use Rattle.line_words.specs.declared.reason.Reason.{Reason}
+use Rattle.std.proofs.Common.{◌≡◌, subst, None, Err}
 use Rattle.line_words.specs.declared.reason.Reason.TheVariants.{Syntax}
 use Rattle.line_words.specs.Words.{texts_of}
 use Rattle.step_lines.specs.declared.refused.LineRefused.TheVariants as refused
