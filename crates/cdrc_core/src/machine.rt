@@ -7,6 +7,7 @@ ghost use Rattle.core_events.specs.Runs.{AreTerms, Enabled, IsShape, after, outc
 ghost use Rattle.core_parts.specs.Fields.{IsFirstBad};
 ghost use Rattle.cdrc_core.specs.declared.errors.StartError.TheVariants.{BadShape};
 ghost use Rattle.cdrc_core.specs.declared.errors.StepError.TheVariants.{NotEnabled, OutOfMemory};
+ghost use Rattle.cdrc_core.specs.State.{terms};
 
 use crate::errors::{StartError, StepError};
 use crate::table::Table;
@@ -39,12 +40,12 @@ impl Core {
     pub fn start(alloc: Global, shape: Shape, quotas: &[Quota]) -> Result<Core, StartError>
         ensures ok { IfOk result (λ c. c ≡ record {
           shape = shape;
-          core = start shape (record { quotas = quotas.now; grants = [] });
+          core = start shape (terms quotas.now []);
         }) }
         ensures ranges { OnOk result
-            (IsShape shape × AreTerms shape (record { quotas = quotas.now; grants = [] })) }
+            (IsShape shape × AreTerms shape (terms quotas.now [])) }
         ensures bad { (f : ShapeField) → (result ≡ Err (BadShape f))
-            ↔ IsFirstBad shape (record { quotas = quotas.now; grants = [] }) f }
+            ↔ IsFirstBad shape (terms quotas.now []) f }
     {
         Core::start_granted(alloc, shape, quotas, &[])
     }
@@ -65,12 +66,12 @@ impl Core {
     ) -> Result<Core, StartError>
         ensures ok { IfOk result (λ c. c ≡ record {
           shape = shape;
-          core = start shape (record { quotas = quotas.now; grants = grants.now });
+          core = start shape (terms quotas.now grants.now);
         }) }
         ensures ranges { OnOk result (IsShape shape
-            × AreTerms shape (record { quotas = quotas.now; grants = grants.now })) }
+            × AreTerms shape (terms quotas.now grants.now)) }
         ensures bad { (f : ShapeField) → (result ≡ Err (BadShape f))
-            ↔ IsFirstBad shape (record { quotas = quotas.now; grants = grants.now }) f }
+            ↔ IsFirstBad shape (terms quotas.now grants.now) f }
     {
         if let Some(field) = first_bad(&shape, quotas, grants) {
             return Err(StartError::BadShape(field));

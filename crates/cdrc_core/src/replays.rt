@@ -7,6 +7,7 @@ ghost use Rattle.cdrc_core.specs.Replays.{IsFirstRefused};
 ghost use Rattle.cdrc_core.specs.declared.errors.StartError.TheVariants.{BadShape};
 ghost use Rattle.cdrc_core.specs.declared.errors.StepError.TheVariants.{NotEnabled, OutOfMemory};
 ghost use Rattle.cdrc_core.specs.declared.errors.ReplayError.TheVariants.{At, Start};
+ghost use Rattle.cdrc_core.specs.State.{terms};
 
 use crate::errors::ReplayError;
 use crate::machine::Core;
@@ -21,20 +22,20 @@ impl Core {
         quotas: &[Quota],
         events: &[Event],
     ) -> Result<(Core, Vec<Outcome>), ReplayError>
-        ensures enabled { OnOk result (IsShape shape × AreTerms shape (record { quotas = quotas.now; grants = [] })
-            × AreEnabled shape (start shape (record { quotas = quotas.now; grants = [] })) events.now) }
+        ensures enabled { OnOk result (IsShape shape × AreTerms shape (terms quotas.now [])
+            × AreEnabled shape (start shape (terms quotas.now [])) events.now) }
         ensures ok { IfOk result (λ p. p.0 ≡ record {
           shape = shape;
-          core = run shape (start shape (record { quotas = quotas.now; grants = [] })) events.now;
+          core = run shape (start shape (terms quotas.now [])) events.now;
         }) }
         ensures told { IfOk result (λ p. p.1.items
-            ≡ outcomes shape (start shape (record { quotas = quotas.now; grants = [] })) events.now) }
+            ≡ outcomes shape (start shape (terms quotas.now [])) events.now) }
         ensures bad { (f : ShapeField) → (result ≡ Err (Start (BadShape f)))
-            ↔ IsFirstBad shape (record { quotas = quotas.now; grants = [] }) f }
+            ↔ IsFirstBad shape (terms quotas.now []) f }
         ensures refused { (i : ℕ) → result ≡ Err (At i NotEnabled)
-            → IsFirstRefused shape (start shape (record { quotas = quotas.now; grants = [] })) events.now i }
+            → IsFirstRefused shape (start shape (terms quotas.now [])) events.now i }
         ensures memory { (i : ℕ) → result ≡ Err (At i OutOfMemory) → (i < length events.now)
-            × AreEnabled shape (start shape (record { quotas = quotas.now; grants = [] }))
+            × AreEnabled shape (start shape (terms quotas.now []))
             (take (i + 1) events.now) }
     {
         Core::replay_granted(alloc, shape, quotas, &[], events)
@@ -50,20 +51,20 @@ impl Core {
         grants: &[u64],
         events: &[Event],
     ) -> Result<(Core, Vec<Outcome>), ReplayError>
-        ensures enabled { OnOk result (IsShape shape × AreTerms shape (record { quotas = quotas.now; grants = grants.now })
-            × AreEnabled shape (start shape (record { quotas = quotas.now; grants = grants.now })) events.now) }
+        ensures enabled { OnOk result (IsShape shape × AreTerms shape (terms quotas.now grants.now)
+            × AreEnabled shape (start shape (terms quotas.now grants.now)) events.now) }
         ensures ok { IfOk result (λ p. p.0 ≡ record {
           shape = shape;
-          core = run shape (start shape (record { quotas = quotas.now; grants = grants.now })) events.now;
+          core = run shape (start shape (terms quotas.now grants.now)) events.now;
         }) }
         ensures told { IfOk result (λ p. p.1.items
-            ≡ outcomes shape (start shape (record { quotas = quotas.now; grants = grants.now })) events.now) }
+            ≡ outcomes shape (start shape (terms quotas.now grants.now)) events.now) }
         ensures bad { (f : ShapeField) → (result ≡ Err (Start (BadShape f)))
-            ↔ IsFirstBad shape (record { quotas = quotas.now; grants = grants.now }) f }
+            ↔ IsFirstBad shape (terms quotas.now grants.now) f }
         ensures refused { (i : ℕ) → result ≡ Err (At i NotEnabled)
-            → IsFirstRefused shape (start shape (record { quotas = quotas.now; grants = grants.now })) events.now i }
+            → IsFirstRefused shape (start shape (terms quotas.now grants.now)) events.now i }
         ensures memory { (i : ℕ) → result ≡ Err (At i OutOfMemory) → (i < length events.now)
-            × AreEnabled shape (start shape (record { quotas = quotas.now; grants = grants.now }))
+            × AreEnabled shape (start shape (terms quotas.now grants.now))
             (take (i + 1) events.now) }
     {
         let mut core = Core::start_granted(alloc, shape, quotas, grants)?;

@@ -2,6 +2,7 @@
 ghost use Rattle.std.specs.Prelude.{◌≡◌, IfOk};
 ghost use Rattle.core_events.specs.Views.{first_views};
 ghost use Rattle.core_events.specs.Runs.{AreTerms, IsShape};
+ghost use Rattle.cdrc_core.specs.State.{terms};
 
 use core_events::{Quota, Shape};
 use core_seats::SeatView;
@@ -17,7 +18,7 @@ pub fn first_seats(
     grants: &[u64],
 ) -> Result<Vec<SeatView>, OutOfMemory>
     requires sizes { IsShape shape }
-    requires terms { AreTerms shape (record { quotas = quotas.now; grants = grants.now }) }
+    requires terms { AreTerms shape (terms quotas.now grants.now) }
     ensures { IfOk result (λ seats. seats.items ≡ first_views shape 0 quotas.now grants.now) }
 {
     let mut seats = Vec::with_capacity(alloc, quotas.len())?;

@@ -3,7 +3,7 @@ ghost use Rattle.std.specs.Prelude.{◌≡◌, ◌==◌, ◌↔◌, ◌<◌, IsT
 ghost use Rattle.core_events.specs.Counts.{free_bit, strong, weak};
 ghost use Rattle.core_events.specs.Runs.{AreTerms, HasNullFields, IsShape, start, view_at};
 ghost use Rattle.cdrc_core.specs.Kept.{Kept};
-ghost use Rattle.cdrc_core.specs.State.{State};
+ghost use Rattle.cdrc_core.specs.State.{State, terms};
 
 use crate::seats::first_seats;
 use core_events::{Quota, Shape, SlotId};
@@ -39,10 +39,10 @@ impl Table {
         grants: &[u64],
     ) -> Result<Table, OutOfMemory>
         requires sizes { IsShape shape }
-        requires terms { AreTerms shape (record { quotas = quotas.now; grants = grants.now }) }
+        requires terms { AreTerms shape (terms quotas.now grants.now) }
         ensures { IfOk result (λ t. t ≡ record {
           shape = shape;
-          core = start shape (record { quotas = quotas.now; grants = grants.now });
+          core = start shape (terms quotas.now grants.now);
         }) }
     {
         let words = first_words(alloc, &shape)?;

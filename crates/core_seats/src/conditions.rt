@@ -178,7 +178,8 @@ impl Holdings {
     /// Whether a slot that the seat holds is announced for disposal there, and was not found alive yet.
     fn has_announced_disposal(&self, at: u32) -> bool
         ensures { IsTrue result ↔ ((at < 4)
-            × ((s : SlotId) × (note_of self.now at ≡ note.Announced Disposal s) × Holds self.now s)) }
+            × ((s : SlotId) × (note_of self.now at ≡ note.Announced Disposal s)
+            × Holds self.now s)) }
     {
         at < 4
             && match self.notes[at as usize] {

@@ -71,7 +71,8 @@ impl Holdings {
     /// Has given the claimed slot its own weak reference.
     pub(crate) fn arm(&mut self) -> Outcome
         ensures told { result ≡ outcome.Plain }
-        ensures changed { self.new ≡ record self.old { phase = phase.Blank (slot_of self.old.phase) } }
+        ensures changed { self.new
+            ≡ record self.old { phase = phase.Blank (slot_of self.old.phase) } }
     {
         let slot = slot_in_phase(self.phase);
         self.enter(Phase::Blank(slot))

@@ -37,6 +37,8 @@ mod table;
 mod tests;
 #[cfg(test)]
 mod tests_disposal;
+#[cfg(test)]
+mod tests_places;
 
 pub use core_events::{Act, EventPlace, Kind, Move, Note, Outcome, Phase, Quota, Shape, SlotId};
 pub use fits::is_word_for;
