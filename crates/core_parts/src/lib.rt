@@ -1,6 +1,6 @@
 //! The parts of a seat's half of the table of events, as functions over plain values: what a word says, where a word
-//! is, the slot of a phase, the first copy in a list, the split of what is retired, and what gets ripe. Beside them, what
-//! a core and a running domain begin with: the test of their sizes, and the first words.
+//! is, the slot of a phase, the first copy in a list, the split of what is retired, and what gets ripe. Beside them,
+//! what a core and a running domain begin with: the test of their sizes, and the first words.
 //!
 //! Each answers what the definition of that name in `core_events` says, and the test what `specs/Fields` says;
 //! `core_seats` makes of the others what a seat does. Nothing is promised of a word that its callers don't ask for.
