@@ -3,3 +3,5 @@ pub mod Deferred
 pub mod Ledger
 pub mod Destroys
 pub mod Always
+pub mod Records
+pub mod Trails

@@ -1,11 +1,11 @@
 //! Promises about histories, and about each event that is enabled where the invariant holds.
-ghost use Rattle.std.specs.Prelude.{ℕ, ◌<◌, List};
+ghost use Rattle.std.specs.Prelude.{ℕ, ◌≡◌, ◌<◌, List};
 ghost use Rattle.plain_state.specs.Lawful.{Lawful};
 ghost use Rattle.plain_state.specs.declared.slot.SlotId.{SlotId};
 ghost use Rattle.core_events.specs.declared.act.Act.{Act};
 ghost use Rattle.core_events.specs.declared.act.Event.{Event};
 ghost use Rattle.core_events.specs.declared.shape.Shape.{Shape};
-ghost use Rattle.core_events.specs.Runs.{AreEnabled, AreTerms, Core, Enabled, History, IsShape, found, run, start, view_at};
+ghost use Rattle.core_events.specs.Runs.{AreEnabled, AreTerms, Core, Enabled, History, IsShape, found, moves_of, run, start, view_at};
 ghost use Rattle.core_events.specs.Shows.{shows};
 ghost use Rattle.core_events.specs.Steps.{answer};
 ghost use Rattle.core_events.specs.Views.{Terms};
@@ -13,6 +13,7 @@ ghost use Rattle.core_invariant.specs.Sound.{Sound};
 ghost use Rattle.core_shows.specs.Shown.{AllShow};
 ghost use Rattle.core_promises.specs.Finds.{DeferredFit, NeverWraps, TellsTruly};
 ghost use Rattle.core_promises.specs.Destroyed.{DestroyedOnce};
+ghost use Rattle.core_promises.specs.Trails.{trail_of};
 
 /// After every list of events that are enabled in turn the core shows a lawful plain state.
 pub fn always_lawful()
@@ -43,6 +44,14 @@ pub fn never_wraps()
 pub fn answers_tell_truly()
     ensures { (z : Shape) (c : Core) (n : ℕ) (a : Act) → Sound z c → Enabled z c n a
         → TellsTruly z c n a (answer z a (found z c n a) (view_at c n)) }
+{}
+
+/// The trail of every seat is its events, with their answers, in order: also of one that has left, whose trail stands
+/// with seat 0.
+pub fn trails_tell()
+    ensures { (z : Shape) (ts : Terms) (es : List Event) (n : ℕ) → IsShape z → AreTerms z ts
+        → AreEnabled z (start z ts) es → n < z.seats
+        → trail_of (run z (start z ts) es) n ≡ moves_of z (start z ts) n es }
 {}
 
 /// What is deferred is bounded by the sizes of the domain.

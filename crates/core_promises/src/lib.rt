@@ -13,5 +13,5 @@ mod laws;
 
 pub use laws::{
     always_lawful, always_shows, answers_tell_truly, deferred_fit, destroyed_once, history_lawful,
-    never_wraps,
+    never_wraps, trails_tell,
 };

@@ -1,0 +1,15 @@
+-- The trail of every seat, those that have left among them.
+use Rattle.std.specs.Prelude.{ℕ, ◌==◌, List, [], ◌∷◌, if◌then◌else◌}
+use Rattle.core_events.specs.declared.view.LeftSeat.{LeftSeat}
+use Rattle.core_events.specs.declared.view.Move.{Move}
+use Rattle.core_events.specs.Runs.{Core, view_at}
+
+-- the trail that was kept of seat n as it left
+abbrev pub left_trail : ℕ → List LeftSeat → List Move
+left_trail n [] = []
+left_trail n (l ∷ ls) = if l.seat == n then l.trail else left_trail n ls
+
+-- the trail of seat n: it stands in the seat's own view, and with seat 0 once the seat has left
+abbrev pub trail_of : Core → ℕ → List Move
+trail_of c n =
+    if (view_at c n).left then left_trail n (view_at c 0).left_seats else (view_at c n).trail
