@@ -1,5 +1,5 @@
 -- The line that a command writes, by what it answered.
-use Rattle.std.specs.Prelude.{ℕ, ◌<◌, ◌^◌, ⊤, ◌==◌, List, [], ◌∷◌, ◌++◌, codes, string_bytes, if◌then◌else◌}
+use Rattle.std.specs.Prelude.{ℕ, ◌<◌, ◌^◌, ⊤, ◌==◌, List, [], ◌++◌, codes, string_bytes, if◌then◌else◌}
 use Rattle.std.specs.Fmt.{decimal}
 use Rattle.std.specs.List.{flat_map}
 use Rattle.cdrc_text.specs.Report.{audit_line}

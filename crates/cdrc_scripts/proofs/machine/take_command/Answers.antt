@@ -1,4 +1,4 @@
-use Rattle.std.proofs.Common.{◌≡◌, rules}
+use Rattle.std.proofs.Common.{rules}
 use Rattle.line_words.specs.Words.{texts_of}
 use Rattle.script_lines.specs.Spelling.{SpellsCommand}
 use Rattle.cdrc_scripts.proofs.Taking.{command_taken, command_refused}

@@ -1,4 +1,4 @@
-use Rattle.std.proofs.Common.{◌≡◌, ◌++◌, codes, string_bytes, length, ap, ◌∙◌, arith}
+use Rattle.std.proofs.Common.{◌++◌, codes, string_bytes, ap, ◌∙◌, arith}
 use Rattle.std.proofs.lemmas.List.{take_all}
 use Rattle.std.specs.List.{flat_map}
 use Rattle.cdrc_scripts.proofs.shown.push_names.Goals as goal

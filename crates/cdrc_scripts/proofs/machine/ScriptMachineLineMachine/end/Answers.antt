@@ -1,4 +1,4 @@
-use Rattle.std.proofs.Common.{◌≡◌, ◌++◌, Bool, false, Ok, List, [], Option, Some, ℕ, refl, rules, subst, sym}
+use Rattle.std.proofs.Common.{◌≡◌, false, [], Option, Some, refl, rules, subst, sym}
 use Rattle.std.proofs.lemmas.List.{append-nil}
 use Rattle.script_desk.specs.Desks.{Desk}
 use Rattle.cdrc_scripts.specs.Meaning.{Ends}

@@ -1,4 +1,4 @@
-use Rattle.std.proofs.Common.{◌≡◌, List, [], ℕ, Option, None, Some, Ok, subst, sym, rules}
+use Rattle.std.proofs.Common.{◌≡◌, [], Option, None, Some, Ok, subst, sym, rules}
 use Rattle.std.proofs.lemmas.List.{append-nil}
 use Rattle.line_words.specs.Words.{texts_of}
 use Rattle.plain_store.specs.Settling.{IsSettled}
