@@ -1,5 +1,5 @@
 -- The word that an event is on is there, and a place holds null or a slot that is there.
-use Rattle.std.proofs.Common.{◌<◌, ℕ, length, arith}
+use Rattle.std.proofs.Common.{inr, ◌<◌, ℕ, length, arith}
 use Rattle.std.specs.Prelude.{slice_index}
 use Rattle.plain_state.specs.declared.slot.SlotId.{SlotId}
 use Rattle.core_events.specs.declared.act.Act.{Act}
@@ -11,11 +11,16 @@ use Rattle.core_events.specs.Views.{no_view}
 use Rattle.core_events.specs.Steps.{May, place}
 use Rattle.core_events.specs.Runs.{Core, view_at}
 use Rattle.core_invariant.specs.Sound.{Sound}
-use Rattle.core_invariant.proofs.InRange.{content_in, open_in_range, place_in, put_in_range}
+use Rattle.core_invariant.proofs.InRange.{content_in, open_in_range, place_in, put_in_range, readable_in_range}
 use Rattle.core_invariant.proofs.Steady.{named_in_range}
+use Rattle.cdrc_core.specs.Kept.{Kept}
+use Rattle.cdrc_core.proofs.Granted.{seat_granted}
 use Rattle.core_seats.specs.Fits.{IsFit, IsWordFor}
 
-module _ (z : Shape) (c : Core) (n : ℕ) (so : Sound z c) (there : n < length c.views) where
+module _ (z : Shape) (c : Core) (n : ℕ) (k : Kept z c) (there : n < length c.views) where
+  so : Sound z c
+  so = k.sound
+
   hn : n < z.seats
   hn = let views = so.views in omega arith
 
@@ -30,13 +35,15 @@ module _ (z : Shape) (c : Core) (n : ℕ) (so : Sound z c) (there : n < length c
   pub seat_fit : IsFit v
   seat_fit = record {
     room = so.room.each n no_view there;
-    can_start = (so.seats n hn).can_start;
+    makes = let few = (so.seats n hn).quota.0 in
+        let own = seat_granted z c n so.tickets there in let most = k.grants n in omega arith;
+    can_start = λ s e. (so.seats n hn).can_start s (inr e);
   }
 
   -- what an act finds in a place
   pub word_for : (a : Act) → May z a v → IsWordFor z a (slice_index c.words (place z a v))
-  word_for (act.Look q) may = content_in z c so q (open_in_range z n v (so.seats n hn) q may.1)
-  word_for (act.Check j q) may = content_in z c so q (open_in_range z n v (so.seats n hn) q may.3)
+  word_for (act.Look q) may = content_in z c so q (readable_in_range z n v (so.seats n hn) q may.1)
+  word_for (act.Check j q) may = content_in z c so q (readable_in_range z n v (so.seats n hn) q may.3)
   word_for (act.Swap q new) may =
       content_in z c so q (put_in_range z n v (so.seats n hn) q new may)
   word_for (act.Cas q old new) may =
@@ -50,12 +57,15 @@ module _ (z : Shape) (c : Core) (n : ℕ) (so : Sound z c) (there : n < length c
   word_for act.Mark may = tt
   word_for (act.Announce j k s) may = tt
   word_for (act.Release j) may = tt
+  word_for (act.Alive j) may = tt
   word_for act.Scan may = tt
   word_for (act.Claim s) may = tt
+  word_for act.Arm may = tt
   word_for (act.Fill i x) may = tt
   word_for act.Start may = tt
   word_for (act.See s i) may = tt
   word_for act.Free may = tt
+  word_for act.Ticket may = tt
   word_for (act.Wadd s) may = tt
   word_for (act.Wdrop s) may = tt
   word_for (act.Destroy s) may = tt
@@ -63,11 +73,12 @@ module _ (z : Shape) (c : Core) (n : ℕ) (so : Sound z c) (there : n < length c
   word_for (act.Leave j) may = tt
 
 -- what a seat destroys is there
-pub destroy_there : (z : Shape) (c : Core) (n : ℕ) (s : SlotId) → Sound z c → n < length c.views
+pub destroy_there : (z : Shape) (c : Core) (n : ℕ) (s : SlotId) → Kept z c → n < length c.views
     → May z (act.Destroy s) (view_at c n) → s.0 < z.slots
-destroy_there z c n s so hn may =
-    let views = so.views in
-    let p = may.1 in named_in_range z n (view_at c n) s (so.seats n (omega arith)) (omega arith)
+destroy_there z c n s k there may =
+    let law = k.sound in
+    let views = law.views in
+    let p = may.1 in named_in_range z n (view_at c n) s (law.seats n (omega arith)) (omega arith)
 
 -- what the event of a seat needs of the numbers
 pub ruleset in_range = (place_there, word_for, seat_fit)

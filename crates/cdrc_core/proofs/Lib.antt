@@ -5,3 +5,5 @@ pub mod Replaying
 pub mod Starting
 pub mod Starts
 pub mod Stays
+pub mod Granted
+pub mod Grants

@@ -1,29 +1,47 @@
--- The invariant of a core: at the start, and after an event or a refusal.
-use Rattle.std.proofs.Common.{◌≡◌, List, Result, Ok, Err, sym, subst}
-use Rattle.std.specs.Prelude.{OnOk, OnErr}
+-- What is kept of a core: at the start, and after an event or a refusal.
+use Rattle.std.proofs.Common.{◌≡◌, ℕ, ◌≤◌, ◌^◌, List, [], ◌∷◌, Bool, true, false, Result, Ok, Err, length, sum, ap, sym, subst, arith}
+use Rattle.std.specs.Prelude.{OnOk, OnErr, nat_lt, if◌then◌else◌}
+use Rattle.core_events.specs.declared.act.Act.{Act}
 use Rattle.core_events.specs.declared.act.Event.{Event}
 use Rattle.core_events.specs.declared.shape.Shape.{Shape}
-use Rattle.core_events.specs.declared.shape.Quota.{Quota}
 use Rattle.core_events.specs.Good.{Good}
-use Rattle.core_events.specs.Runs.{AreQuotas, Enabled, Core, IsShape, after, start}
-use Rattle.core_invariant.specs.Sound.{Sound}
+use Rattle.core_events.specs.Views.{Terms}
+use Rattle.core_events.specs.Runs.{AreTerms, Enabled, Core, IsShape, after, start, view_at}
 use Rattle.core_law.proofs.Always.{step_keeps}
 use Rattle.core_invariant.proofs.Parts.{sound_good}
-use Rattle.core_invariant.proofs.Starts as starts
+use Rattle.core_invariant.proofs.Starts.{start_sound}
+use Rattle.cdrc_core.specs.Kept.{Kept}
 use Rattle.cdrc_core.specs.State.{State}
+use Rattle.cdrc_core.proofs.Grants.{first_few, grants_after}
 
-pub start_sound : (z : Shape) (qs : List Quota) → IsShape z → AreQuotas z qs → Sound z (start z qs)
-start_sound z qs h q = starts.start_sound z qs h q
+start_kept : (z : Shape) (ts : Terms) → IsShape z → AreTerms z ts → Kept z (start z ts)
+start_kept z ts h q = record {
+  sound = start_sound z ts h q;
+  grants = λ n. first_few z 0 ts.quotas ts.grants n q.2;
+}
 
-pub step_sound : (s t : State) (e : Event) {T E : Type 0} (r : Result T E)
+pub started_kept : (s : State) (z : Shape) (ts : Terms) → s ≡ record { shape = z; core = start z ts }
+    → IsShape z × AreTerms z ts → Kept s.shape s.core
+started_kept s z ts is h =
+    subst (λ (u : State). Kept u.shape u.core) (sym is) (start_kept z ts h.0 h.1)
+
+kept_after : (z : Shape) (c : Core) (n : ℕ) (a : Act) → Kept z c → Enabled z c n a
+    → Kept z (after z c n a)
+kept_after z c n a k on = record {
+  sound = step_keeps z c n a k.sound on;
+  grants = λ m. let P : List ℕ → Type 0 = λ gs. sum gs ≤ 2 ^ 40 in
+      subst P (sym (grants_after z c n m a)) (k.grants m);
+}
+
+pub step_kept : (s t : State) (e : Event) {T E : Type 0} (r : Result T E)
     → OnOk r (Enabled s.shape s.core e.seat e.act)
     → OnOk r (t ≡ record s { core = after s.shape s.core e.seat e.act }) → OnErr r (t ≡ s)
-    → Sound s.shape s.core → Sound t.shape t.core
-step_sound s t e (Ok x) on is same so =
-    subst (λ (u : State). Sound u.shape u.core) (sym is)
-    (step_keeps s.shape s.core e.seat e.act so on)
-step_sound s t e (Err x) on is same so =
-    subst (λ (u : State). Sound u.shape u.core) (sym same) so
+    → Kept s.shape s.core → Kept t.shape t.core
+step_kept s t e (Ok x) on is same k =
+    subst (λ (u : State). Kept u.shape u.core) (sym is)
+    (kept_after s.shape s.core e.seat e.act k on)
+step_kept s t e (Err x) on is same k =
+    subst (λ (u : State). Kept u.shape u.core) (sym same) k
 
-pub core_good : (z : Shape) (c : Core) → Sound z c → Good z c
-core_good z c so = sound_good z c so
+pub core_good : (z : Shape) (c : Core) → Kept z c → Good z c
+core_good z c k = sound_good z c k.sound

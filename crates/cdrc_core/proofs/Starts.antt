@@ -4,20 +4,20 @@ use Rattle.core_events.specs.declared.shape.Shape.{Shape}
 use Rattle.core_events.specs.declared.shape.Quota.{Quota}
 use Rattle.core_events.specs.Views.{first_view, first_views}
 
-next_seat : (z : Shape) (n : ℕ) (qs : List Quota) (i : ℕ) (d : Quota) → i < length qs
-    → first_views z n (take (suc i) qs)
-    ≡ first_views z n (take i qs) ++ first_view z (n + i) (get_or qs i d) ∷ []
-next_seat z n [] i d h = absurd (omega arith)
-next_seat z n (q ∷ qs) zero d h = rw (add-zero n) refl
-next_seat z n (q ∷ qs) (suc i) d h =
+next_seat : (z : Shape) (n : ℕ) (qs : List Quota) (gs : List ℕ) (i : ℕ) (d : Quota) → i < length qs
+    → first_views z n (take (suc i) qs) gs
+    ≡ first_views z n (take i qs) gs ++ first_view z (n + i) (get_or qs i d) gs ∷ []
+next_seat z n [] gs i d h = absurd (omega arith)
+next_seat z n (q ∷ qs) gs zero d h = rw (add-zero n) refl
+next_seat z n (q ∷ qs) gs (suc i) d h =
     let e : n + 1 + i ≡ n + suc i = omega arith in
-    let r = next_seat z (n + 1) qs i d (omega arith) in
-    ap (λ vs. first_view z n q ∷ vs) (rw e at r)
+    let r = next_seat z (n + 1) qs gs i d (omega arith) in
+    ap (λ vs. first_view z n q gs ∷ vs) (rw e at r)
 
 -- the seat of the next quota comes last
-pub more_seats : (z : Shape) (qs : List Quota) (i : ℕ) (d : Quota) → i < length qs
-    → first_views z 0 (take (i + 1) qs)
-    ≡ first_views z 0 (take i qs) ++ first_view z i (get_or qs i d) ∷ []
-more_seats z qs i d h =
+pub more_seats : (z : Shape) (qs : List Quota) (gs : List ℕ) (i : ℕ) (d : Quota) → i < length qs
+    → first_views z 0 (take (i + 1) qs) gs
+    ≡ first_views z 0 (take i qs) gs ++ first_view z i (get_or qs i d) gs ∷ []
+more_seats z qs gs i d h =
     let e : 0 + i ≡ i = omega arith in
-    rw (add-one i) (rw e at (next_seat z 0 qs i d h))
+    rw (add-one i) (rw e at (next_seat z 0 qs gs i d h))

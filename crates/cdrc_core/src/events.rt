@@ -3,7 +3,7 @@ ghost use Rattle.std.specs.Prelude.{ℕ, ◌≡◌, ◌↔◌, ◌<◌, IsTrue, 
 ghost use Rattle.core_events.specs.declared.act.Act.TheVariants as act;
 ghost use Rattle.core_events.specs.Steps.{May};
 ghost use Rattle.core_events.specs.Runs.{Enabled, RestMay, after, outcome_of, view_at};
-ghost use Rattle.core_invariant.specs.Sound.{Sound};
+ghost use Rattle.cdrc_core.specs.Kept.{Kept};
 ghost use Rattle.cdrc_core.specs.declared.errors.StepError.TheVariants.{NotEnabled, OutOfMemory};
 
 use crate::errors::StepError;
@@ -16,7 +16,7 @@ impl Table {
     /// Whether the part of an event's condition holds that its seat's own view doesn't tell.
     #[tactic(auto, using(crate::proofs::InRange::destroy_there, crate::proofs::Stays::rest_other))]
     fn rest_may(&self, event: &Event) -> bool
-        requires sound { Sound self.now.shape self.now.core }
+        requires kept { Kept self.now.shape self.now.core }
         requires there { event.now.seat < length self.now.core.views }
         requires may { May self.now.shape event.now.act (view_at self.now.core event.now.seat) }
         ensures { IsTrue result ↔ RestMay self.now.shape self.now.core event.now.act }
@@ -30,7 +30,7 @@ impl Table {
 
     /// Whether the event is enabled.
     pub fn is_enabled(&self, event: &Event) -> bool
-        requires { Sound self.now.shape self.now.core }
+        requires { Kept self.now.shape self.now.core }
         ensures { IsTrue result
             ↔ Enabled self.now.shape self.now.core event.now.seat event.now.act }
     {
@@ -44,7 +44,7 @@ impl Table {
     /// has changed.
     #[tactic(auto, using(crate::proofs::InRange::in_range, crate::proofs::Stays::stays_views))]
     fn make(&mut self, event: &Event) -> Result<Outcome, NoMemory>
-        requires sound { Sound self.old.shape self.old.core }
+        requires kept { Kept self.old.shape self.old.core }
         requires enabled { Enabled self.old.shape self.old.core event.now.seat event.now.act }
         requires stays { (j : ℕ) → event.now.act ≡ act.Leave j → ⊥ }
         ensures told { IfOk result (λ o. o ≡ outcome_of self.old.shape self.old.core event.now) }
@@ -56,14 +56,15 @@ impl Table {
         let seat = event.seat as usize;
         let at = self.seats[seat].place(&self.shape, &event.act);
         let word = self.words[at];
+        let next = next_word(&event.act, &self.seats[seat], word);
         let outcome = self.seats[seat].moves(&self.shape, &event.act, word)?;
-        self.words[at] = next_word(&event.act, word);
+        self.words[at] = next;
         Ok(outcome)
     }
 
     /// The first seat takes over what another one has. After an error nothing has changed.
     fn leave(&mut self, leaver: u32) -> Result<(), NoMemory>
-        requires sound { Sound self.old.shape self.old.core }
+        requires kept { Kept self.old.shape self.old.core }
         requires enabled { Enabled self.old.shape self.old.core 0 (act.Leave leaver) }
         ensures ok { OnOk result (self.new ≡ record self.old {
           core = after self.old.shape self.old.core 0 (act.Leave leaver);
@@ -76,7 +77,7 @@ impl Table {
 
     /// Makes an event, if it is enabled. After an error nothing has changed.
     pub fn step(&mut self, event: &Event) -> Result<Outcome, StepError>
-        requires { Sound self.old.shape self.old.core }
+        requires { Kept self.old.shape self.old.core }
         ensures enabled { OnOk result
             (Enabled self.old.shape self.old.core event.now.seat event.now.act) }
         ensures told { IfOk result (λ o. o ≡ outcome_of self.old.shape self.old.core event.now) }

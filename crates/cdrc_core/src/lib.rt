@@ -12,6 +12,7 @@
 //! ```text
 //! let mut core = Core::start(alloc, shape, &quotas)?;
 //! core.step(&Event { seat: 0, act: Act::Claim(SlotId(3)) })?;    // Outcome::Claimed
+//! core.step(&Event { seat: 0, act: Act::Arm })?;                 // slot 3 has its own weak reference
 //! core.step(&Event { seat: 0, act: Act::Start })?;               // slot 3 is live
 //! core.strong_word(SlotId(3));                                   // 1
 //! let (core, outcomes) = Core::replay(alloc, shape, &quotas, &events)?;
@@ -28,6 +29,8 @@ mod table;
 mod tests;
 #[cfg(test)]
 mod tests_check;
+#[cfg(test)]
+mod tests_rows;
 #[cfg(test)]
 mod tests_walk;
 mod words;

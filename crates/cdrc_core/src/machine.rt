@@ -1,9 +1,9 @@
 //! The core: its invariant, and its public calls.
-ghost use Rattle.std.specs.Prelude.{◌≡◌, ◌↔◌, ◌<◌, IsTrue, IfOk, OnOk, OnErr, Err};
+ghost use Rattle.std.specs.Prelude.{◌≡◌, ◌==◌, ◌↔◌, ◌<◌, [], IsTrue, IfOk, OnOk, OnErr, Err};
 ghost use Rattle.core_events.specs.declared.shape.ShapeField.{ShapeField};
-ghost use Rattle.core_events.specs.Counts.{strong, weak};
+ghost use Rattle.core_events.specs.Counts.{free_bit, strong, weak};
 ghost use Rattle.core_events.specs.Good.{Good};
-ghost use Rattle.core_events.specs.Runs.{AreQuotas, Enabled, IsShape, after, outcome_of, start, view_at};
+ghost use Rattle.core_events.specs.Runs.{AreTerms, Enabled, IsShape, after, outcome_of, start, view_at};
 ghost use Rattle.core_parts.specs.Fields.{IsFirstBad};
 ghost use Rattle.cdrc_core.specs.declared.errors.StartError.TheVariants.{BadShape};
 ghost use Rattle.cdrc_core.specs.declared.errors.StepError.TheVariants.{NotEnabled, OutOfMemory};
@@ -24,42 +24,65 @@ pub struct Core {
 }
 
 impl Model for Core {
-    ghost use Rattle.core_invariant.specs.Sound.{Sound};
+    ghost use Rattle.cdrc_core.specs.Kept.{Kept};
     ghost use Rattle.cdrc_core.specs.State.{State};
 
     ghost Value = { State };
 
     ghost view = { λ c. c.table };
 
-    ghost invariant = { λ c. Sound c.table.shape c.table.core };
+    ghost invariant = { λ c. Kept c.table.shape c.table.core };
 }
 
 impl Core {
-    /// A core in which nothing has happened, with a seat for each quota.
+    /// `start_granted`, where tickets grant nothing.
+    pub fn start(alloc: Global, shape: Shape, quotas: &[Quota]) -> Result<Core, StartError>
+        ensures ok { IfOk result (λ c. c ≡ record {
+          shape = shape;
+          core = start shape (record { quotas = quotas.now; grants = [] });
+        }) }
+        ensures ranges { OnOk result
+            (IsShape shape × AreTerms shape (record { quotas = quotas.now; grants = [] })) }
+        ensures bad { (f : ShapeField) → (result ≡ Err (BadShape f))
+            ↔ IsFirstBad shape (record { quotas = quotas.now; grants = [] }) f }
+    {
+        Core::start_granted(alloc, shape, quotas, &[])
+    }
+
+    /// A core in which nothing has happened, with a seat for each quota. Who draws ticket t has `grants[t]` makes
+    /// more, or none where there is no such grant.
     ///
     /// `BadShape` names the first field, in the order of `ShapeField`, that is out of its range:
     /// Seats 1 to 32, Slots 1 to 4,194,304, Cells 0 to 65,536, WeakCells 0 to 4,194,304, Batch 1 to
-    /// 1,024; Quotas are one for each seat, and no entry is above 2^40. It takes 8 bytes for each
-    /// word: 21 for each slot, one for each cell, four for each seat, and one more.
-    #[tactic(auto, using(crate::proofs::Starting::start_sound))]
-    pub fn start(alloc: Global, shape: Shape, quotas: &[Quota]) -> Result<Core, StartError>
-        ensures ok { IfOk result
-            (λ c. c ≡ record { shape = shape; core = start shape quotas.now }) }
-        ensures ranges { OnOk result (IsShape shape × AreQuotas shape quotas.now) }
-        ensures bad { (f : ShapeField)
-            → (result ≡ Err (BadShape f)) ↔ IsFirstBad shape quotas.now f }
+    /// 1,024; Quotas are one for each seat, and no entry is above 2^40, nor is the sum of the grants.
+    /// It takes 8 bytes for each word: 21 for each slot, one for 64 slots, one for each cell, four
+    /// for each seat, and two more. Each seat has the grants.
+    pub fn start_granted(
+        alloc: Global,
+        shape: Shape,
+        quotas: &[Quota],
+        grants: &[u64],
+    ) -> Result<Core, StartError>
+        ensures ok { IfOk result (λ c. c ≡ record {
+          shape = shape;
+          core = start shape (record { quotas = quotas.now; grants = grants.now });
+        }) }
+        ensures ranges { OnOk result (IsShape shape
+            × AreTerms shape (record { quotas = quotas.now; grants = grants.now })) }
+        ensures bad { (f : ShapeField) → (result ≡ Err (BadShape f))
+            ↔ IsFirstBad shape (record { quotas = quotas.now; grants = grants.now }) f }
     {
-        if let Some(field) = first_bad(&shape, quotas) {
+        if let Some(field) = first_bad(&shape, quotas, grants) {
             return Err(StartError::BadShape(field));
         }
-        let table = Table::first(alloc, shape, quotas)?;
+        let table = Table::first(alloc, shape, quotas, grants)?;
         Ok(Core { table })
     }
 
     /// Makes one event of one seat, and answers what the event answers. Refused as `NotEnabled`
     /// exactly where the event isn't enabled, and as `OutOfMemory` where there was no memory for
     /// what the seat keeps. A refusal changes nothing. It looks through the lists of the seat.
-    #[tactic(auto, using(crate::proofs::Starting::step_sound))]
+    #[tactic(auto, using(crate::proofs::Starting::step_kept))]
     pub fn step(&mut self, event: &Event) -> Result<Outcome, StepError>
         ensures enabled { OnOk result
             (Enabled self.old.shape self.old.core event.now.seat event.now.act) }
@@ -92,12 +115,20 @@ impl Core {
         self.table.strong_word(slot)
     }
 
-    /// The weak word of a slot: its count, or 2^63 where the slot is free.
+    /// The weak word of a slot: its count.
     pub fn weak_word(&self, slot: SlotId) -> u64
         requires { slot.0 < self.now.shape.slots }
         ensures { result ≡ weak self.now.shape self.now.core slot }
     {
         self.table.weak_word(slot)
+    }
+
+    /// Whether a slot is free: its bit is set.
+    pub fn is_free(&self, slot: SlotId) -> bool
+        requires { slot.0 < self.now.shape.slots }
+        ensures { result ≡ (free_bit self.now.shape self.now.core slot == 1) }
+    {
+        self.table.is_free(slot)
     }
 
     /// What one seat knows.
@@ -110,7 +141,6 @@ impl Core {
 
     /// What holds of every core, whatever was done with it: the invariant of `core_events`. It does
     /// nothing.
-    #[tactic(auto, using(crate::proofs::Starting::core_good))]
     pub fn law(&self)
         ensures { Good self.now.shape self.now.core }
     {

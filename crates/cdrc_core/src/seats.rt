@@ -1,27 +1,29 @@
 //! The seats at the start.
 ghost use Rattle.std.specs.Prelude.{◌≡◌, IfOk};
 ghost use Rattle.core_events.specs.Views.{first_views};
-ghost use Rattle.core_events.specs.Runs.{AreQuotas, IsShape};
+ghost use Rattle.core_events.specs.Runs.{AreTerms, IsShape};
 
 use core_events::{Quota, Shape};
 use core_seats::SeatView;
 use out_of_memory::OutOfMemory;
 use std::alloc::Global;
 
-/// A seat for each quota, that has done nothing.
+/// A seat for each quota, that has done nothing. Each knows what tickets grant.
 #[tactic(auto, using(crate::proofs::Starts::more_seats))]
 pub fn first_seats(
     alloc: Global,
     shape: Shape,
     quotas: &[Quota],
+    grants: &[u64],
 ) -> Result<Vec<SeatView>, OutOfMemory>
     requires sizes { IsShape shape }
-    requires quotas { AreQuotas shape quotas.now }
-    ensures { IfOk result (λ seats. seats.items ≡ first_views shape 0 quotas.now) }
+    requires terms { AreTerms shape (record { quotas = quotas.now; grants = grants.now }) }
+    ensures { IfOk result (λ seats. seats.items ≡ first_views shape 0 quotas.now grants.now) }
 {
     let mut seats = Vec::with_capacity(alloc, quotas.len())?;
     for (seat, quota) in quotas.iter().enumerate() {
-        seats.push_reserved(SeatView::first(alloc, shape, seat as u32, *quota));
+        let view = SeatView::first(alloc, shape, seat as u32, *quota, grants)?;
+        seats.push_reserved(view);
     }
     Ok(seats)
 }

@@ -1,14 +1,13 @@
 //! All words and all seats, and one event of them.
-ghost use Rattle.std.specs.Prelude.{◌≡◌, ◌↔◌, ◌<◌, IsTrue, IfOk};
-ghost use Rattle.core_events.specs.Counts.{strong, weak};
-ghost use Rattle.core_events.specs.Runs.{AreQuotas, HasNullFields, IsShape, start, view_at};
-ghost use Rattle.core_invariant.specs.Sound.{Sound};
+ghost use Rattle.std.specs.Prelude.{◌≡◌, ◌==◌, ◌↔◌, ◌<◌, IsTrue, IfOk};
+ghost use Rattle.core_events.specs.Counts.{free_bit, strong, weak};
+ghost use Rattle.core_events.specs.Runs.{AreTerms, HasNullFields, IsShape, start, view_at};
+ghost use Rattle.cdrc_core.specs.Kept.{Kept};
 ghost use Rattle.cdrc_core.specs.State.{State};
 
 use crate::seats::first_seats;
-use crate::words::slot_index;
 use core_events::{Quota, Shape, SlotId};
-use core_parts::first_words;
+use core_parts::{bits_index, first_words, has_bit, slot_index};
 use core_seats::SeatView;
 use out_of_memory::OutOfMemory;
 use std::alloc::Global;
@@ -33,13 +32,21 @@ impl Model for Table {
 
 impl Table {
     /// Nothing has happened.
-    pub fn first(alloc: Global, shape: Shape, quotas: &[Quota]) -> Result<Table, OutOfMemory>
+    pub fn first(
+        alloc: Global,
+        shape: Shape,
+        quotas: &[Quota],
+        grants: &[u64],
+    ) -> Result<Table, OutOfMemory>
         requires sizes { IsShape shape }
-        requires quotas { AreQuotas shape quotas.now }
-        ensures { IfOk result (λ t. t ≡ record { shape = shape; core = start shape quotas.now }) }
+        requires terms { AreTerms shape (record { quotas = quotas.now; grants = grants.now }) }
+        ensures { IfOk result (λ t. t ≡ record {
+          shape = shape;
+          core = start shape (record { quotas = quotas.now; grants = grants.now });
+        }) }
     {
         let words = first_words(alloc, &shape)?;
-        let seats = first_seats(alloc, shape, quotas)?;
+        let seats = first_seats(alloc, shape, quotas, grants)?;
         Ok(Table {
             shape,
             words,
@@ -56,7 +63,7 @@ impl Table {
     /// The strong word of a slot.
     pub fn strong_word(&self, slot: SlotId) -> u64
         requires there { slot.0 < self.now.shape.slots }
-        requires sound { Sound self.now.shape self.now.core }
+        requires kept { Kept self.now.shape self.now.core }
         ensures { result ≡ strong self.now.shape self.now.core slot }
     {
         self.words[slot_index(&self.shape, slot)]
@@ -65,16 +72,25 @@ impl Table {
     /// The weak word of a slot.
     pub fn weak_word(&self, slot: SlotId) -> u64
         requires there { slot.0 < self.now.shape.slots }
-        requires sound { Sound self.now.shape self.now.core }
+        requires kept { Kept self.now.shape self.now.core }
         ensures { result ≡ weak self.now.shape self.now.core slot }
     {
         self.words[slot_index(&self.shape, slot) + 1]
     }
 
+    /// Whether the bit of a slot is set.
+    pub fn is_free(&self, slot: SlotId) -> bool
+        requires there { slot.0 < self.now.shape.slots }
+        requires kept { Kept self.now.shape self.now.core }
+        ensures { result ≡ (free_bit self.now.shape self.now.core slot == 1) }
+    {
+        has_bit(self.words[bits_index(&self.shape, slot)], slot)
+    }
+
     /// What one seat knows.
     pub fn seat(&self, seat: u32) -> &SeatView
         requires there { seat < self.now.shape.seats }
-        requires sound { Sound self.now.shape self.now.core }
+        requires kept { Kept self.now.shape self.now.core }
         ensures { result.now ≡ view_at self.now.core seat }
     {
         &self.seats[seat as usize]
@@ -83,7 +99,7 @@ impl Table {
     /// Whether the three fields of a slot are null.
     pub fn has_null_fields(&self, slot: SlotId) -> bool
         requires there { slot.0 < self.now.shape.slots }
-        requires sound { Sound self.now.shape self.now.core }
+        requires kept { Kept self.now.shape self.now.core }
         ensures { IsTrue result ↔ HasNullFields self.now.shape self.now.core.words slot }
     {
         let first = slot_index(&self.shape, slot) + 2;

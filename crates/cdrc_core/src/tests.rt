@@ -9,18 +9,18 @@ use std::alloc::{AllocError, Global};
 use std::process::Abort;
 use std::test::Fail;
 
-const SLOT: SlotId = SlotId(0);
+pub const SLOT: SlotId = SlotId(0);
 
-const WEAK_CELL: EventPlace = EventPlace::WeakCell(0);
+pub const WEAK_CELL: EventPlace = EventPlace::WeakCell(0);
 
-const WIDE: Quota = Quota {
+pub const WIDE: Quota = Quota {
     makes: 1 << 40,
     adds: 1 << 40,
 };
 
-const ZERO: u64 = 9_223_372_036_854_775_808;
+pub const ZERO: u64 = 9_223_372_036_854_775_808;
 
-const fn sizes(seats: u32, slots: u32, cells: u32, weak_cells: u32, batch: u32) -> Shape
+pub const fn sizes(seats: u32, slots: u32, cells: u32, weak_cells: u32, batch: u32) -> Shape
     ensures { result.slots ≡ slots }
 {
     Shape {
@@ -32,7 +32,7 @@ const fn sizes(seats: u32, slots: u32, cells: u32, weak_cells: u32, batch: u32) 
     }
 }
 
-fn events_of(alloc: Global, steps: &[(u32, Act, Outcome)]) -> Result<Vec<Event>, AllocError> {
+pub fn events_of(alloc: Global, steps: &[(u32, Act, Outcome)]) -> Result<Vec<Event>, AllocError> {
     let mut events = Vec::new(alloc);
     for &(seat, act, _answer) in steps {
         events.push(Event { seat, act })?;
@@ -41,7 +41,7 @@ fn events_of(alloc: Global, steps: &[(u32, Act, Outcome)]) -> Result<Vec<Event>,
 }
 
 /// From the start these seats make these acts, which answer so, and slot 0 has these words then.
-fn row(
+pub fn row(
     rt: &impl Abort,
     alloc: Global,
     shape: Shape,
@@ -68,6 +68,7 @@ fn row(
 fn late_finish(rt: HostRuntime) -> Result<(), Fail> {
     let steps = [
         (1, Act::Claim(SLOT), Outcome::Claimed),
+        (1, Act::Arm, Outcome::Plain),
         (1, Act::Start, Outcome::Plain),
         (1, Act::Wadd(SLOT), Outcome::Plain),
         (1, Act::Swap(WEAK_CELL, Some(SLOT)), Outcome::Found(None)),
@@ -89,6 +90,7 @@ fn late_finish(rt: HostRuntime) -> Result<(), Fail> {
 fn readers_help(rt: HostRuntime) -> Result<(), Fail> {
     let steps = [
         (1, Act::Claim(SLOT), Outcome::Claimed),
+        (1, Act::Arm, Outcome::Plain),
         (1, Act::Start, Outcome::Plain),
         (1, Act::Wadd(SLOT), Outcome::Plain),
         (1, Act::Swap(WEAK_CELL, Some(SLOT)), Outcome::Found(None)),
@@ -118,6 +120,7 @@ fn readers_help(rt: HostRuntime) -> Result<(), Fail> {
 fn two_copies(rt: HostRuntime) -> Result<(), Fail> {
     let steps = [
         (0, Act::Claim(SLOT), Outcome::Claimed),
+        (0, Act::Arm, Outcome::Plain),
         (0, Act::Start, Outcome::Plain),
         (0, Act::Add(SLOT), Outcome::Up),
         (
@@ -156,6 +159,7 @@ fn two_copies(rt: HostRuntime) -> Result<(), Fail> {
 fn late_announcement(rt: HostRuntime) -> Result<(), Fail> {
     let steps = [
         (0, Act::Claim(SLOT), Outcome::Claimed),
+        (0, Act::Arm, Outcome::Plain),
         (0, Act::Start, Outcome::Plain),
         (
             0,
@@ -179,7 +183,7 @@ fn late_announcement(rt: HostRuntime) -> Result<(), Fail> {
     })?;
     match Core::replay(rt.alloc(), shape, &[WIDE], &events) {
         Ok(_) => panic!(rt; "the add was made"),
-        Err(error) => assert_eq!(rt; error, ReplayError::At(6, StepError::NotEnabled)),
+        Err(error) => assert_eq!(rt; error, ReplayError::At(7, StepError::NotEnabled)),
     }
     Ok(())
 }
@@ -229,4 +233,18 @@ fn bad_shapes(rt: HostRuntime) {
             }
         }
     }
+}
+
+// Grants are too many where they add up to more than 2^40, and no sum of them wraps.
+#[test]
+fn bad_grants(rt: HostRuntime) -> Result<(), Fail> {
+    let shape = sizes(1, 1, 0, 0, 4);
+    for grants in [[1 << 40, 1], [u64::MAX, 1], [1, u64::MAX]] {
+        match Core::start_granted(rt.alloc(), shape, &[WIDE], &grants) {
+            Ok(_) => panic!(rt; "a core with these grants"),
+            Err(error) => assert_eq!(rt; error, StartError::BadShape(ShapeField::Quotas)),
+        }
+    }
+    let _core = Core::start_granted(rt.alloc(), shape, &[WIDE], &[1 << 39, 1 << 39])?;
+    Ok(())
 }

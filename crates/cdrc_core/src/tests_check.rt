@@ -9,11 +9,13 @@ const HELP: u64 = 1 << 62;
 /// Where one slot stands in lists, phases and places.
 #[derive(Clone, Copy, PartialEq, Eq, Debug, Drop)]
 struct Tally {
+    free: bool,
     strong: u64,
     weak: u64,
     dying: u64,
     finishing: u64,
     helping: u64,
+    baring: u64,
     filling: u64,
     giving: u64,
 }
@@ -74,6 +76,7 @@ fn in_places(core: &Core, kind: Kind, slot: SlotId) -> u64 {
             21,
             slot,
         )),
+        Kind::Disposal => 0,
     }
 }
 
@@ -95,6 +98,7 @@ fn add_phase(tally: &mut Tally, view: &SeatView, slot: SlotId) {
     match view.phase() {
         Phase::Finish(s) if s == slot => tally.finishing = tally.finishing.saturating_add(1),
         Phase::Help(s) if s == slot => tally.helping = tally.helping.saturating_add(1),
+        Phase::Bare(s) if s == slot => tally.baring = tally.baring.saturating_add(1),
         Phase::Blank(s) if s == slot => tally.filling = tally.filling.saturating_add(1),
         Phase::Give(s) if s == slot => tally.giving = tally.giving.saturating_add(1),
         _ => {}
@@ -103,11 +107,13 @@ fn add_phase(tally: &mut Tally, view: &SeatView, slot: SlotId) {
 
 fn tally_of(core: &Core, slot: SlotId) -> Tally {
     let mut tally = Tally {
+        free: slot.0 < core.shape().slots && core.is_free(slot),
         strong: in_places(core, Kind::Strong, slot),
         weak: in_places(core, Kind::Weak, slot),
         dying: 0,
         finishing: 0,
         helping: 0,
+        baring: 0,
         filling: 0,
         giving: 0,
     };
@@ -137,25 +143,31 @@ fn is_strong_good(word: u64, tally: &Tally, adds: u64) -> bool {
         && word % HELP <= adds
 }
 
-/// The weak word: it counts, or says that the slot is free; and one seat gives back what came to 0.
+/// The weak word counts; and of a slot that isn't free one seat arms or gives back what is 0.
 fn is_weak_good(strong: u64, weak: u64, tally: &Tally) -> bool {
     let over = strong >= ZERO && strong % ZERO < HELP;
     let is_husk = over && tally.filling == 0 && tally.dying == 0;
-    let own = if is_husk { 0 } else { 1 };
-    let is_free = weak == ZERO && tally.weak == 0 && tally.filling == 0 && tally.giving == 0;
-    (is_free && over || weak == tally.weak.saturating_add(own))
-        && (weak != 0 || tally.giving == 1)
-        && (tally.giving == 0 || weak == 0)
+    let own = if tally.free || tally.baring > 0 || is_husk {
+        0
+    } else {
+        1
+    };
+    weak == tally.weak.saturating_add(own)
+        && (weak != 0 || tally.free || tally.baring.saturating_add(tally.giving) == 1)
+        && (tally.baring.saturating_add(tally.giving) == 0 || weak == 0)
 }
 
-/// One seat ends a slot, one fills it, one gives it back.
+/// One seat ends a slot; one has it from its claim to its start, or is to give it back.
 fn has_one_ender(strong: u64, weak: u64, tally: &Tally) -> bool {
     let over = strong >= ZERO && strong % ZERO < HELP;
+    let claimers = tally.baring.saturating_add(tally.filling);
+    let keepers = claimers.saturating_add(tally.giving);
     tally.dying <= 1
-        && tally.filling <= 1
-        && tally.giving <= 1
-        && (tally.dying == 0 || over && weak != ZERO && tally.filling == 0)
-        && (tally.filling == 0 || over && weak == 1)
+        && keepers <= 1
+        && (tally.dying == 0 || over && !tally.free && claimers == 0)
+        && (keepers == 0 || over && !tally.free)
+        && (tally.filling == 0 || weak == 1)
+        && (!tally.free || over && weak == 0)
 }
 
 /// What the law says of one slot.
@@ -180,12 +192,21 @@ fn announced(note: Note) -> u64 {
             match kind {
                 Kind::Strong => first,
                 Kind::Weak => first + 1,
+                Kind::Disposal => first + 2,
             }
         }
     }
 }
 
-/// The retired entries of a kind and slot that no scan has passed the word of.
+/// What of a seat's lists keeps a snapshot of the kind valid.
+fn waiting(view: &SeatView, kind: Kind, slot: SlotId) -> u64 {
+    match kind {
+        Kind::Strong | Kind::Weak => entry_times(view.retired(), kind, slot),
+        Kind::Disposal => times(view.dying(), slot),
+    }
+}
+
+/// Of that, what no scan has passed the word of.
 fn guarding(core: &Core, at: usize, word: u64, kind: Kind, slot: SlotId) -> u64 {
     let mut times: u64 = 0;
     for view in core.table.seats.iter() {
@@ -194,17 +215,38 @@ fn guarding(core: &Core, at: usize, word: u64, kind: Kind, slot: SlotId) -> u64 
             None => false,
         };
         if !passed {
-            times = times.saturating_add(entry_times(view.retired(), kind, slot));
+            times = times.saturating_add(waiting(view, kind, slot));
         }
     }
     times
 }
 
-/// A note stands in its word, and what is under a valid one is in a place or guarded.
+/// Whether the object lives, by its strong word.
+fn is_live(core: &Core, slot: SlotId) -> bool {
+    if slot.0 >= core.shape().slots || core.is_free(slot) {
+        return false;
+    }
+    let word = core.strong_word(slot);
+    word < ZERO || word % ZERO >= HELP
+}
+
+/// Whether the slot is ripe for no seat.
+fn is_unripe(core: &Core, slot: SlotId) -> bool {
+    core.table
+        .seats
+        .iter()
+        .all(|view| times(view.ripe(), slot) == 0)
+}
+
+/// A note stands in its word, and what is under a valid one is in a place, or lives, or is guarded.
 fn is_note_good(core: &Core, note: Note, at: usize) -> bool {
     let word = announced(note);
     let held = match note {
         Note::Idle | Note::Announced(_, _) => true,
+        Note::Valid(Kind::Disposal, slot) => {
+            let guarded = guarding(core, at, word, Kind::Disposal, slot) > 0;
+            is_unripe(core, slot) && (is_live(core, slot) || guarded)
+        }
         Note::Valid(kind, slot) => {
             in_places(core, kind, slot) > 0 || guarding(core, at, word, kind, slot) > 0
         }
@@ -227,4 +269,27 @@ pub fn are_seats_good(core: &Core) -> bool {
         }
     }
     true
+}
+
+/// How often a ticket was drawn, by the lists of all seats.
+fn ticket_times(core: &Core, ticket: u64) -> usize {
+    let mut found: usize = 0;
+    for view in core.table.seats.iter() {
+        found = found.saturating_add(view.tickets().iter().filter(|t| **t == ticket).count());
+        for past in view.left_seats() {
+            found = found.saturating_add(past.tickets().iter().filter(|t| **t == ticket).count());
+        }
+    }
+    found
+}
+
+/// The tickets of all seats are the numbers below the last word, each once.
+pub fn are_tickets_good(core: &Core) -> bool {
+    let drawn = match core.table.words.last() {
+        Some(word) => *word,
+        None => u64::MAX,
+    };
+    drawn <= 100_000
+        && ticket_times(core, drawn) == 0
+        && (0..drawn).all(|ticket| ticket_times(core, ticket) == 1)
 }

@@ -1,7 +1,7 @@
 //! A walk of random events, after which the invariant is tested.
 ghost use Rattle.std.specs.Prelude.{◌≡◌, ◌<◌, ◌≤◌};
 
-use crate::tests_check::{are_seats_good, is_slot_good};
+use crate::tests_check::{are_seats_good, are_tickets_good, is_slot_good};
 use crate::{
     Act, Core, Event, EventPlace, Kind, Outcome, Phase, Quota, SeatView, Shape, SlotId, StepError,
 };
@@ -45,10 +45,10 @@ impl Dice {
     }
 
     fn kind(&mut self) -> Kind {
-        if self.below(2) == 0 {
-            Kind::Strong
-        } else {
-            Kind::Weak
+        match self.below(3) {
+            0 => Kind::Strong,
+            1 => Kind::Weak,
+            _ => Kind::Disposal,
         }
     }
 
@@ -89,7 +89,7 @@ impl Dice {
     /// An act of a seat that holds something.
     fn act_of_use(&mut self) -> Act {
         let (place, slot) = (self.place(), self.slot());
-        match self.below(32) {
+        match self.below(40) {
             0..3 => Act::Add(slot),
             3..8 => Act::Wadd(slot),
             8..14 => Act::Count(slot),
@@ -99,6 +99,9 @@ impl Dice {
             24..26 => Act::Cas(place, self.content(place), self.content(place)),
             26 => Act::Claim(slot),
             27 => Act::Look(place),
+            28 | 29 => Act::Announce(self.below(4), Kind::Disposal, slot),
+            30..34 => Act::Alive(self.below(4)),
+            34 => Act::Ticket,
             _ => self.act_of_loss(),
         }
     }
@@ -118,7 +121,7 @@ impl Dice {
     /// The more a seat has, the more it gives up.
     fn idle_act(&mut self, view: &SeatView) -> Act {
         let held = view.owned().len().saturating_add(view.weaks().len() / 4);
-        if !view.retired().is_empty() && self.below(40) == 0 {
+        if !(view.retired().is_empty() && view.dying().is_empty()) && self.below(40) == 0 {
             Act::Scan
         } else if (self.below(8) as usize) < held {
             self.act_of_loss()
@@ -143,6 +146,7 @@ impl Dice {
             Phase::Zero(_) => Act::Mark,
             Phase::Scan => Act::Scan,
             Phase::Give(_) => Act::Free,
+            Phase::Bare(_) => Act::Arm,
             Phase::Blank(_) => {
                 if self.below(4) == 0 {
                     Act::Start
@@ -171,7 +175,10 @@ fn kind_of(place: EventPlace) -> Kind {
 }
 
 fn is_good(core: &Core) -> bool {
-    is_slot_good(core, SlotId(0)) && is_slot_good(core, SlotId(1)) && are_seats_good(core)
+    is_slot_good(core, SlotId(0))
+        && is_slot_good(core, SlotId(1))
+        && are_seats_good(core)
+        && are_tickets_good(core)
 }
 
 /// Makes so many enabled events, and tests the invariant now and then.
@@ -221,12 +228,16 @@ fn walk(
 
 #[test]
 fn ten_thousand_random_events(rt: HostRuntime) -> Result<(), Fail> {
-    let mut core = Core::start(rt.alloc(), SHAPE, &[WIDE; 3])?;
+    let mut core = Core::start_granted(rt.alloc(), SHAPE, &[WIDE; 3], &[3, 0, 5])?;
     let mut dice = Dice {
         state: 3,
         found: (EventPlace::Cell(0), SlotId(0)),
     };
     assert_eq!(rt; walk(&rt, &mut core, &mut dice, 10_000, false)?, 10_000);
+    for outcome in [Outcome::Alive, Outcome::Zeroed, Outcome::Last, Outcome::Claimed] {
+        let trail = core.seat(0).trail();
+        assert!(rt; trail.iter().any(|made| made.outcome == outcome));
+    }
     walk(&rt, &mut core, &mut dice, 1_000, true)?;
     assert!(rt; core.seat(1).has_left() && core.seat(2).has_left());
     Ok(())

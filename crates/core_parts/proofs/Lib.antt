@@ -3,3 +3,4 @@ pub mod FirstWords
 pub mod Slots
 pub mod Snapshots
 pub mod Scans
+pub mod NextGrants

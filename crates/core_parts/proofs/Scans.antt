@@ -1,13 +1,16 @@
 -- Searches through the words of a scan.
-use Rattle.std.proofs.Common.{◌≡◌, ◌≢◌, ⊎_elim, ℕ, zero, suc, ◌+◌, ◌<◌, true, false, List, [], ◌∷◌, length, get_or, refl, ap, sym, ◌∙◌, arith}
+use Rattle.std.proofs.Common.{◌≡◌, ◌≢◌, ⊎_elim, ℕ, zero, suc, ◌+◌, ◌<◌, ◌≤◌, take, true, false, List, [], ◌∷◌, ◌++◌, eqb, length, get_or, refl, ap, sym, ◌∙◌, arith}
 use Rattle.std.specs.Prelude.{◌==◌, cond, if◌then◌else◌, nat_lt, remove}
-use Rattle.std.specs.List.{filter}
+use Rattle.std.specs.List.{filter, list_any}
 use Rattle.std.proofs.lemmas.List.Sums.{sum_by-cons}
+use Rattle.std.proofs.lemmas.List.{take_all}
 use Rattle.std.proofs.lemmas.Bool.{cases_eq}
 use Rattle.std.proofs.lemmas.Bool.Decides.{nat_tests}
-use Rattle.plain_state.specs.declared.slot.Kind.TheVariants.{Strong, Weak}
+use Rattle.plain_state.specs.declared.slot.SlotId.{SlotId}
+use Rattle.plain_state.specs.declared.slot.Kind.TheVariants.{Strong, Weak, Disposal}
 use Rattle.plain_state.specs.Lists.{Entry}
 use Rattle.core_events.specs.Ejection.{code_of, seen_times, without_word, is_seen, kept, ejected}
+use Rattle.core_events.specs.Steps.{ripened, ripens}
 use Rattle.core_parts.specs.Scans.{announces}
 
 -- 1 where the words are equal
@@ -101,6 +104,7 @@ left_without w (x ∷ xs) ne = ⊎_elim
 code_some : (e : Entry) → code_of e ≢ 0
 code_some (Strong, s) = λ z. absurd (omega arith)
 code_some (Weak, s) = λ z. absurd (omega arith)
+code_some (Disposal, s) = λ z. absurd (omega arith)
 
 left_is_seen : (e : Entry) (xs : List ℕ)
     → is_seen (code_of e) (filter announces xs) ≡ is_seen (code_of e) xs
@@ -119,3 +123,41 @@ ejected_left [] xs = refl
 ejected_left (e ∷ es) xs =
     rw (left_is_seen e xs, left_without (code_of e) xs (code_some e))
     (rw (ejected_left es (without_word (code_of e) xs), ejected_left es xs) refl)
+
+-- whether a word stands in the list
+pub any_word : (w : ℕ) (xs : List ℕ) → list_any (λ (x : ℕ). eqb x w) xs ≡ is_seen w xs
+any_word w [] = let z = seen_none w in grind (arith, nat_tests)
+any_word w (x ∷ xs) =
+    let c = seen_cons w x xs in
+    let ih = any_word w xs in
+    ⊎_elim
+    (λ (e : x ≡ w).
+    let o = word_same w x e in
+    let t : eqb x w ≡ true = grind (arith, nat_tests) in rw t (grind (arith, nat_tests)))
+    (λ (ne : x ≢ w).
+    let o = word_other w x ne in
+    let t : eqb x w ≡ false = grind (arith, nat_tests) in
+    let z : seen_times w (x ∷ xs) ≡ seen_times w xs = omega arith in rw (t, z) ih)
+    (cases_eq x w)
+
+-- words that announce nothing can be left out of what makes slots ripe
+ripens_same : (ripe : List SlotId) (xs : List ℕ) (s : SlotId)
+    → ripens ripe (filter announces xs) s ≡ ripens ripe xs s
+ripens_same ripe xs s = rw (left_is_seen (Disposal, s) xs) refl
+
+ripe_same : (ripe dying : List SlotId) (xs : List ℕ)
+    → filter (ripens ripe (filter announces xs)) dying ≡ filter (ripens ripe xs) dying
+ripe_same ripe [] xs = refl
+ripe_same ripe (s ∷ dying) xs = rw (ripens_same ripe xs s, ripe_same ripe dying xs) refl
+
+ripens_left : (ripe dying : List SlotId) (xs : List ℕ)
+    → ripened ripe dying (filter announces xs) ≡ ripened ripe dying xs
+ripens_left ripe dying xs = ap (λ (ss : List SlotId). ripe ++ ss) (ripe_same ripe dying xs)
+
+-- all dying slots were looked at
+pub ripe_all : (slots ripe dying : List SlotId) (words xs : List ℕ) (i : ℕ) → length dying ≤ i
+    → slots ≡ ripe ++ filter (ripens ripe words) (take i dying) → words ≡ filter announces xs
+    → slots ≡ ripened ripe dying xs
+ripe_all slots ripe dying words xs i h is same =
+    let whole : take i dying ≡ dying = take_all i dying h in
+    (rw (whole, same) at is) ∙ ripens_left ripe dying xs

@@ -1,19 +1,19 @@
--- Which field of a shape and its quotas is out of its range.
+-- Which field of a shape, its quotas and its grants is out of its range.
 use Rattle.std.specs.Prelude.{◌≤◌, List, [], ◌∷◌, All}
 use Rattle.core_events.specs.declared.shape.Shape.{Shape}
-use Rattle.core_events.specs.declared.shape.Quota.{Quota}
 use Rattle.core_events.specs.declared.shape.ShapeField.{ShapeField}
 use Rattle.core_events.specs.declared.shape.ShapeField.TheVariants.{Seats, Slots, Cells, WeakCells, Batch, Quotas}
-use Rattle.core_events.specs.Runs.{AreQuotas}
+use Rattle.core_events.specs.Views.{Terms}
+use Rattle.core_events.specs.Runs.{AreTerms}
 
--- the field is in its range. The quotas are one for each seat, none above 2^40
-abbrev pub IsInRange : Shape → List Quota → ShapeField → Type 0
-IsInRange z qs Seats = (1 ≤ z.seats) × (z.seats ≤ 32)
-IsInRange z qs Slots = (1 ≤ z.slots) × (z.slots ≤ 4194304)
-IsInRange z qs Cells = z.cells ≤ 65536
-IsInRange z qs WeakCells = z.weak_cells ≤ 4194304
-IsInRange z qs Batch = (1 ≤ z.batch) × (z.batch ≤ 1024)
-IsInRange z qs Quotas = AreQuotas z qs
+-- the field is in its range. The quotas are one for each seat, none above 2^40, and all grants make no more than that
+abbrev pub IsInRange : Shape → Terms → ShapeField → Type 0
+IsInRange z ts Seats = (1 ≤ z.seats) × (z.seats ≤ 32)
+IsInRange z ts Slots = (1 ≤ z.slots) × (z.slots ≤ 4194304)
+IsInRange z ts Cells = z.cells ≤ 65536
+IsInRange z ts WeakCells = z.weak_cells ≤ 4194304
+IsInRange z ts Batch = (1 ≤ z.batch) × (z.batch ≤ 1024)
+IsInRange z ts Quotas = AreTerms z ts
 
 -- the fields before it
 abbrev pub earlier : ShapeField → List ShapeField
@@ -25,5 +25,5 @@ earlier Batch = Seats ∷ Slots ∷ Cells ∷ WeakCells ∷ []
 earlier Quotas = Seats ∷ Slots ∷ Cells ∷ WeakCells ∷ Batch ∷ []
 
 -- it is the first that is out of its range
-abbrev pub IsFirstBad : Shape → List Quota → ShapeField → Type 0
-IsFirstBad z qs f = All (IsInRange z qs) (earlier f) × (IsInRange z qs f → ⊥)
+abbrev pub IsFirstBad : Shape → Terms → ShapeField → Type 0
+IsFirstBad z ts f = All (IsInRange z ts) (earlier f) × (IsInRange z ts f → ⊥)

@@ -1,6 +1,6 @@
-//! The test of a shape and its quotas.
-ghost use Rattle.std.specs.Prelude.{◌^◌, ◌≤◌, ◌↔◌, IsTrue, All, IfSome, IsNone};
-ghost use Rattle.core_events.specs.Runs.{AreQuotas, IsQuota, IsShape};
+//! The test of a shape, its quotas and its grants.
+ghost use Rattle.std.specs.Prelude.{◌^◌, ◌≤◌, ◌↔◌, IsTrue, All, IfSome, IsNone, sum};
+ghost use Rattle.core_events.specs.Runs.{AreTerms, IsShape};
 ghost use Rattle.core_parts.specs.Fields.{IsFirstBad};
 
 use core_events::{Quota, Shape, ShapeField};
@@ -17,17 +17,35 @@ const MOST_BATCH: u32 = 1_024;
 
 const MOST_USES: u64 = 1 << 40;
 
-fn are_quotas(shape: &Shape, quotas: &[Quota]) -> bool
-    ensures { IsTrue result ↔ AreQuotas shape.now quotas.now }
+/// Whether the grants add up to no more than a seat may use up.
+fn are_grants(grants: &[u64]) -> bool
+    ensures { IsTrue result ↔ (sum grants.now ≤ 2 ^ 40) }
+{
+    let mut left = MOST_USES;
+    for grant in grants {
+        if *grant > left {
+            return false;
+        }
+        left -= *grant;
+    }
+    true
+}
+
+fn are_terms(shape: &Shape, quotas: &[Quota], grants: &[u64]) -> bool
+    ensures { IsTrue result
+        ↔ AreTerms shape.now (record { quotas = quotas.now; grants = grants.now }) }
 {
     quotas.len() == shape.seats as usize
         && quotas.iter().all(|quota| quota.makes <= MOST_USES && quota.adds <= MOST_USES)
+        && are_grants(grants)
 }
 
 /// The first field, in the order of `ShapeField`, that is out of its range.
-pub fn first_bad(shape: &Shape, quotas: &[Quota]) -> Option<ShapeField>
-    ensures bad { IfSome result (IsFirstBad shape.now quotas.now) }
-    ensures good { IsNone result → IsShape shape.now × AreQuotas shape.now quotas.now }
+pub fn first_bad(shape: &Shape, quotas: &[Quota], grants: &[u64]) -> Option<ShapeField>
+    ensures bad { IfSome result
+        (IsFirstBad shape.now (record { quotas = quotas.now; grants = grants.now })) }
+    ensures good { IsNone result → IsShape shape.now
+        × AreTerms shape.now (record { quotas = quotas.now; grants = grants.now }) }
 {
     if shape.seats < 1 || shape.seats > MOST_SEATS {
         Some(ShapeField::Seats)
@@ -39,7 +57,7 @@ pub fn first_bad(shape: &Shape, quotas: &[Quota]) -> Option<ShapeField>
         Some(ShapeField::WeakCells)
     } else if shape.batch < 1 || shape.batch > MOST_BATCH {
         Some(ShapeField::Batch)
-    } else if !are_quotas(shape, quotas) {
+    } else if !are_terms(shape, quotas, grants) {
         Some(ShapeField::Quotas)
     } else {
         None

@@ -1,5 +1,5 @@
 //! The parts of a seat's half of the table of events, as functions over plain values: what a word says, where a word
-//! is, the slot of a phase, the first copy in a list, and the split of what is retired. Beside them, what a core and a
+//! is, the slot of a phase, the first copy in a list, the split of what is retired, and what gets ripe. Beside them, what a core and a
 //! running domain begin with: the test of their sizes, and the first words.
 //!
 //! Each answers what the definition of that name in `core_events` says, and the test what `specs/Fields` says;
@@ -13,8 +13,10 @@
 
 mod beginning;
 mod fields;
+mod grants;
 mod laws;
 mod lists;
+mod notes;
 mod phases;
 mod places;
 mod splitting;
@@ -22,9 +24,18 @@ mod words;
 
 pub use beginning::first_words;
 pub use fields::first_bad;
+pub use grants::grant_more;
 pub use laws::one_first_bad;
-pub use lists::{are_idle, has_slot, has_snapshot, take_first};
-pub use phases::{given_up, slot_in_phase};
-pub use places::{counter_index, kind_of, note_index, place_index, slot_index};
-pub use splitting::{Parts, split};
-pub use words::{HELP_FLAG, ZERO_FLAG, announced_as, counted, found_in, held_as, helps};
+pub use lists::{are_idle, has_slot, has_snapshot, move_all, retire, take_first};
+pub use notes::{is_valid, note_of, slot_in_note, validated};
+pub use phases::{
+    given_up, is_arming, is_filling, is_finishing, is_giving, is_helping, is_marking, slot_in_phase,
+};
+pub use places::{
+    announcement_words, bits_index, counter_index, is_content, kind_of, note_index, place_index,
+    room_for, slot_index, ticket_index,
+};
+pub use splitting::{Parts, ripened, split};
+pub use words::{
+    HELP_FLAG, ZERO_FLAG, announced_as, bit_alone, counted, found_in, has_bit, held_as, helps,
+};

@@ -1,10 +1,12 @@
 //! Lists of slots and of notes.
-ghost use Rattle.std.specs.Prelude.{◌≡◌, ◌↔◌, ◌<◌, ℕ, IsTrue, slice_index_or};
+ghost use Rattle.std.specs.Prelude.{◌≡◌, ◌↔◌, ◌<◌, ◌≤◌, ◌+◌, ◌++◌, [], ℕ, IsTrue, OnOk, OnErr, slice_index_or, vec_len, vec_capacity};
 ghost use Rattle.plain_state.specs.Lists.{times, entry_times};
+ghost use Rattle.plain_state.specs.Steps.{joined};
 ghost use Rattle.core_events.specs.declared.view.Note.TheVariants.{Idle, Valid};
 ghost use Rattle.core_events.specs.Views.{valid_of, without};
 
 use core_events::{Kind, Note, SlotId};
+use out_of_memory::OutOfMemory;
 
 /// Whether the slot stands in the list.
 pub fn has_slot(list: &[SlotId], slot: SlotId) -> bool
@@ -24,6 +26,31 @@ pub fn take_first(list: &mut Vec<SlotId>, slot: SlotId)
             return;
         }
     }
+}
+
+/// Joins what a place held to the retired entries.
+pub fn retire(
+    retired: &mut Vec<(Kind, SlotId)>,
+    kind: Kind,
+    old: Option<SlotId>,
+) -> Result<(), OutOfMemory>
+    ensures ok { OnOk result (retired.new.items ≡ joined kind old retired.old.items) }
+    ensures err { OnErr result (retired.new.items ≡ retired.old.items) }
+{
+    if let Some(slot) = old {
+        retired.reserve(1)?;
+        retired.push_reserved((kind, slot));
+    }
+    Ok(())
+}
+
+/// Moves all of a list behind another one, which has room for it: no memory is taken.
+pub fn move_all<T>(from: &mut Vec<T>, to: &mut Vec<T>)
+    requires { vec_len to.old + vec_len from.old ≤ vec_capacity to.old }
+    ensures taken { to.new.items ≡ to.old.items ++ from.old.items }
+    ensures given { from.new.items ≡ [] }
+{
+    let _ = to.append(from);
 }
 
 /// Whether a note is a valid one of this kind and slot.

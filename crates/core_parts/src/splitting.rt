@@ -1,10 +1,12 @@
-//! What a scan keeps of the retired entries, and what it ejects.
+//! What a scan keeps of the retired entries, what it ejects, and what gets ripe.
 ghost use Rattle.std.specs.Prelude.{◌≡◌, ◌+◌, ◌++◌, ◌∷◌, [], IsTrue, IfOk, false, length, vec_len};
 ghost use Rattle.std.specs.VecDeque.{deque_len};
 ghost use Rattle.std.specs.List.{filter};
 ghost use Rattle.core_events.specs.Ejection.{code_of, without_word, is_seen, kept, ejected};
+ghost use Rattle.core_events.specs.Steps.{ripened, ripens};
 ghost use Rattle.core_parts.specs.Scans.{announces};
 
+use crate::lists::has_slot;
 use crate::words::announced_as;
 use core_events::{Kind, SlotId};
 use out_of_memory::OutOfMemory;
@@ -77,4 +79,40 @@ pub fn split(
         }
     }
     Ok(Parts { kept, ejected })
+}
+
+/// Whether the word was seen.
+fn has_word(words: &[u64], word: u64) -> bool
+    ensures { result ≡ is_seen word words.now }
+{
+    words.contains(&word)
+}
+
+/// Whether a dying slot becomes ripe: it isn't yet, and none of the words announces it for disposal.
+fn ripens(ripe: &[SlotId], words: &[u64], slot: SlotId) -> bool
+    ensures { result ≡ ripens ripe.now words.now slot }
+{
+    !has_slot(ripe, slot) && !has_word(words, announced_as(Kind::Disposal, slot))
+}
+
+/// Those that were ripe, and behind them each dying slot that wasn't and that no word of a scan announces for disposal.
+pub fn ripened(
+    alloc: Global,
+    ripe: &[SlotId],
+    dying: &[SlotId],
+    seen: &[u64],
+    last: u64,
+) -> Result<Vec<SlotId>, OutOfMemory>
+    ensures { IfOk result (λ slots. slots.items
+        ≡ ripened ripe.now dying.now (seen.now ++ last ∷ [])) }
+{
+    let words = announcing(alloc, seen, last)?;
+    let mut slots = Vec::new(alloc);
+    slots.extend_from_slice(ripe)?;
+    for slot in dying {
+        if ripens(ripe, &words, *slot) {
+            slots.push(*slot)?;
+        }
+    }
+    Ok(slots)
 }

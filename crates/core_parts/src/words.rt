@@ -1,11 +1,11 @@
 //! Words that an act finds, and what they say.
-ghost use Rattle.std.specs.Prelude.{◌≡◌, ◌<◌, ◌≤◌, ◌+◌, ◌^◌};
+ghost use Rattle.std.specs.Prelude.{◌≡◌, ◌==◌, ◌<◌, ◌≤◌, ◌+◌, ◌^◌};
 ghost use Rattle.plain_state.specs.Steps.{word_of};
-ghost use Rattle.core_events.specs.Words.{has_help, value, slot_in, code};
+ghost use Rattle.core_events.specs.Words.{has_help, value, slot_in, code, bit_alone, bit_in};
 
 use core_events::{Kind, SlotId};
 
-/// The zero flag of a strong word, and the weak word of a free slot.
+/// The zero flag of a strong word.
 pub const ZERO_FLAG: u64 = 1 << 63;
 
 /// The help flag of a strong word.
@@ -54,5 +54,20 @@ pub fn announced_as(kind: Kind, slot: SlotId) -> u64
     match kind {
         Kind::Strong => 4 * (u64::from(slot.0) + 1),
         Kind::Weak => 4 * (u64::from(slot.0) + 1) + 1,
+        Kind::Disposal => 4 * (u64::from(slot.0) + 1) + 2,
     }
+}
+
+/// A word in which the bit of the slot stands alone.
+pub fn bit_alone(slot: SlotId) -> u64
+    ensures { result ≡ bit_alone slot }
+{
+    1 << (slot.0 % 64)
+}
+
+/// Whether the bit of the slot is set in its word.
+pub fn has_bit(word: u64, slot: SlotId) -> bool
+    ensures { result ≡ (bit_in slot word == 1) }
+{
+    word >> (slot.0 % 64) & 1 == 1
 }

@@ -1,53 +1,38 @@
-//! Announcements: written, found valid, taken back, read by a scan.
-ghost use Rattle.std.specs.Prelude.{◌≡◌, ◌<◌, ◌+◌, ◌^◌, ◌≤◌, ◌==◌, ◌++◌, ◌∷◌, [], IfOk, OnOk, OnErr, length, vec_len, if◌then◌else◌};
+//! Announcements: written, found valid or alive, taken back, read by a scan.
+ghost use Rattle.std.specs.Prelude.{◌≡◌, ◌<◌, ◌+◌, ◌^◌, ◌≤◌, ◌==◌, ◌++◌, ◌∷◌, [], nat_lt, IfOk, OnOk, OnErr, length, vec_len, if◌then◌else◌};
 ghost use Rattle.std.specs.VecDeque.{deque_len};
 ghost use Rattle.core_events.specs.declared.outcome.Outcome.TheVariants as outcome;
-ghost use Rattle.core_events.specs.declared.view.Note.TheVariants as note;
 ghost use Rattle.core_events.specs.declared.view.Phase.TheVariants as phase;
 ghost use Rattle.core_events.specs.Ejection.{kept, ejected};
-ghost use Rattle.core_events.specs.Words.{slot_in, announcements};
+ghost use Rattle.core_events.specs.Words.{slot_in, value};
 ghost use Rattle.core_events.specs.Views.{note_of};
-ghost use Rattle.core_events.specs.Steps.{is_valid, validated, with_note, is_last, all_seen, scanned};
+ghost use Rattle.core_events.specs.Steps.{is_valid, validated, with_note, is_last, all_seen, ripened, scanned};
 
 use crate::holdings::Holdings;
-use core_events::{Kind, Note, Outcome, Phase, Shape, SlotId};
-use core_parts::{Parts, found_in, held_as, split};
+use core_events::{Note, Outcome, Phase, Shape, SlotId};
+use core_parts::{
+    Parts, announcement_words, counted, found_in, is_valid, note_of, ripened, split, validated,
+};
 use out_of_memory::OutOfMemory;
-
-/// How many announcement words there are.
-fn announcement_words(shape: &Shape) -> usize
-    ensures { result ≡ announcements shape.now }
-{
-    4 * shape.seats as usize
-}
 
 impl Holdings {
     /// Another note for an announcement word.
-    fn set_note(&mut self, at: u32, note: Note)
+    pub(crate) fn set_note(&mut self, at: u32, note: Note) -> Outcome
         requires { at < 4 }
-        ensures { self.new ≡ with_note at note self.old }
+        ensures told { result ≡ outcome.Plain }
+        ensures changed { self.new ≡ with_note at note self.old }
     {
         self.notes[at as usize] = note;
-    }
-
-    /// Announces a reference.
-    pub(crate) fn announce(&mut self, at: u32, kind: Kind, slot: SlotId) -> Outcome
-        requires { at < 4 }
-        ensures told { result ≡ outcome.Plain }
-        ensures changed { self.new ≡ with_note at (note.Announced kind slot) self.old }
-    {
-        self.set_note(at, Note::Announced(kind, slot));
         Outcome::Plain
     }
 
-    /// Takes an announcement back.
-    pub(crate) fn release(&mut self, at: u32) -> Outcome
+    /// Comes under a snapshot of what was announced.
+    fn validate(&mut self, at: u32)
         requires { at < 4 }
-        ensures told { result ≡ outcome.Plain }
-        ensures changed { self.new ≡ with_note at note.Idle self.old }
+        ensures { self.new ≡ with_note at (validated (note_of self.old at)) self.old }
     {
-        self.set_note(at, Note::Idle);
-        Outcome::Plain
+        let note = validated(note_of(&self.notes, at));
+        let _ = self.set_note(at, note);
     }
 
     /// Comes under a snapshot, if the word of the place is that of the slot that was announced.
@@ -59,13 +44,26 @@ impl Holdings {
         ensures changed { self.new ≡ (if is_valid word (note_of self.old at)
             then with_note at (validated (note_of self.old at)) self.old else self.old) }
     {
-        if let Note::Announced(kind, slot) = self.notes[at as usize] {
-            if word == held_as(Some(slot)) {
-                self.set_note(at, Note::Valid(kind, slot));
-                return Outcome::Valid;
-            }
+        if !is_valid(word, note_of(&self.notes, at)) {
+            return Outcome::Moved(found_in(word));
         }
-        Outcome::Moved(found_in(word))
+        self.validate(at);
+        Outcome::Valid
+    }
+
+    /// Comes under a snapshot, if the strong word counts something.
+    pub(crate) fn revive(&mut self, at: u32, word: u64) -> Outcome
+        requires { at < 4 }
+        ensures told { result
+            ≡ (if nat_lt 0 (value word) then outcome.Alive else outcome.Zeroed) }
+        ensures changed { self.new ≡ (if nat_lt 0 (value word)
+            then with_note at (validated (note_of self.old at)) self.old else self.old) }
+    {
+        if counted(word) == 0 {
+            return Outcome::Zeroed;
+        }
+        self.validate(at);
+        Outcome::Alive
     }
 
     /// Whether the next word is the last one of a scan.
@@ -99,22 +97,24 @@ impl Holdings {
         split(self.alloc, &self.retired, &self.seen, word)
     }
 
-    /// Puts the parts in place, at the end of a scan.
-    fn settle(&mut self, parts: Parts)
+    /// Puts the parts and the ripe slots in place, at the end of a scan.
+    fn settle(&mut self, parts: Parts, ripe: Vec<SlotId>)
         ensures { self.new ≡ record self.old {
           phase = phase.Idle;
           seen = [];
           retired = parts.kept.items;
           owed = parts.ejected.items;
+          ripe = ripe.items;
         } }
     {
         self.seen.clear();
         self.retired = parts.kept;
         self.owed = parts.ejected;
+        self.ripe = ripe;
         self.phase = Phase::Idle;
     }
 
-    /// Reads the next announcement word. The last one splits the retired entries.
+    /// Reads the next announcement word. The last one splits the retired entries, and dying slots become ripe.
     pub(crate) fn scan(&mut self, shape: &Shape, word: u64) -> Result<Outcome, OutOfMemory>
         requires { length self.old.retired ≤ self.old.room }
         ensures told { IfOk result (λ o. o ≡ (if is_last shape.now self.old
@@ -129,9 +129,10 @@ impl Holdings {
             return Ok(Outcome::Word(word));
         }
         let parts = self.parts(word)?;
+        let ripe = ripened(self.alloc, &self.ripe, &self.dying, &self.seen, word)?;
         let stay = parts.kept.len() as u32;
         let go = parts.ejected.len() as u32;
-        self.settle(parts);
+        self.settle(parts, ripe);
         Ok(Outcome::Split(word, stay, go))
     }
 }

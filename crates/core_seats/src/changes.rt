@@ -4,7 +4,7 @@ ghost use Rattle.core_events.specs.Steps.{May, answer, changed};
 ghost use Rattle.core_seats.specs.Fits.{IsFit, IsWordFor};
 
 use crate::holdings::Holdings;
-use core_events::{Act, Outcome, Shape};
+use core_events::{Act, Kind, Note, Outcome, Phase, Shape};
 use core_parts::{found_in, kind_of};
 use out_of_memory::OutOfMemory;
 
@@ -27,24 +27,27 @@ impl Holdings {
         let _slots = shape.slots;
         match *act {
             Act::Add(slot) => self.add(slot, word),
-            Act::Drop(slot) => Ok(self.drop_strong(slot, word)),
+            Act::Drop(slot) => Ok(self.lose(Kind::Strong, slot, word)),
             Act::Pay => Ok(self.pay(word)),
             Act::Finish => self.finish(word),
             Act::Take => self.take(word),
             Act::Count(slot) => Ok(self.count(slot, word)),
             Act::Mark => Ok(self.mark(word)),
-            Act::Announce(at, kind, slot) => Ok(self.announce(at, kind, slot)),
-            Act::Release(at) => Ok(self.release(at)),
+            Act::Announce(at, kind, slot) => Ok(self.set_note(at, Note::Announced(kind, slot))),
+            Act::Release(at) => Ok(self.set_note(at, Note::Idle)),
             Act::Look(_) => Ok(Outcome::Found(found_in(word))),
             Act::Check(at, _) => Ok(self.check(at, word)),
+            Act::Alive(at) => Ok(self.revive(at, word)),
             Act::Scan => self.scan(shape, word),
             Act::Swap(place, new) => self.swap(kind_of(place), new, word),
             Act::Cas(place, old, new) => self.cas(kind_of(place), old, new, word),
             Act::Claim(slot) => Ok(self.claim(slot, word)),
+            Act::Arm => Ok(self.arm()),
             Act::Start => self.start(),
-            Act::Free => Ok(self.free()),
+            Act::Free => Ok(self.enter(Phase::Idle)),
+            Act::Ticket => self.draw(word),
             Act::Wadd(slot) => self.add_weak(slot),
-            Act::Wdrop(slot) => Ok(self.drop_weak(slot, word)),
+            Act::Wdrop(slot) => Ok(self.lose(Kind::Weak, slot, word)),
             Act::Destroy(slot) => Ok(self.destroy(slot, word)),
             Act::See(_, _) | Act::Wcount(_) => Ok(Outcome::Word(word)),
             Act::Fill(_, _) | Act::Leave(_) => Ok(Outcome::Plain),

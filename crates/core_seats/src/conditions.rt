@@ -1,26 +1,17 @@
 //! What a seat may do, by what it has.
-ghost use Rattle.std.specs.Prelude.{◌≡◌, ◌≢◌, ◌↔◌, ◌⊎◌, ◌+◌, ◌<◌, ◌≤◌, ℕ, IsTrue, [], length};
+ghost use Rattle.std.specs.Prelude.{◌≡◌, ◌≢◌, ◌↔◌, ◌⊎◌, ◌+◌, ◌<◌, ◌≤◌, ◌^◌, ℕ, IsTrue, [], length};
+ghost use Rattle.plain_state.specs.declared.slot.Kind.TheVariants.{Disposal};
 ghost use Rattle.plain_state.specs.declared.slot.SlotId.{SlotId};
 ghost use Rattle.plain_state.specs.Lists.{times};
 ghost use Rattle.core_events.specs.declared.act.Act.TheVariants as act;
 ghost use Rattle.core_events.specs.declared.view.Note.TheVariants as note;
 ghost use Rattle.core_events.specs.declared.view.Phase.TheVariants as phase;
-ghost use Rattle.core_events.specs.Views.{note_of, Holds, HoldsStrongly, IsOpen, IsDyingField};
-ghost use Rattle.core_events.specs.Steps.{IsIdle, HasAdd, HasRoom, CanGive, IsContent, CanLeave, May};
+ghost use Rattle.core_events.specs.Views.{allowed_makes, note_of, CanReadFields, Holds, HoldsStrongly, IsOpen, IsReadable, IsRipeField};
+ghost use Rattle.core_events.specs.Steps.{IsIdle, HasAdd, HasMake, HasRoom, CanGive, IsContent, CanLeave, May};
 
 use crate::holdings::Holdings;
 use core_events::{EventPlace, Kind, Note, Phase, Shape, SlotId};
-use core_parts::{are_idle, has_slot, has_snapshot, kind_of};
-
-/// Whether a content is null, or a slot of the domain.
-pub(crate) fn is_content(shape: &Shape, content: Option<SlotId>) -> bool
-    ensures { IsTrue result ↔ IsContent shape.now content }
-{
-    match content {
-        None => true,
-        Some(slot) => slot.0 < shape.slots,
-    }
-}
+use core_parts::{are_idle, grant_more, has_slot, has_snapshot, is_content, is_filling, kind_of};
 
 impl Holdings {
     /// Whether the seat is there, and in the middle of nothing.
@@ -37,9 +28,17 @@ impl Holdings {
     }
 
     pub(crate) fn has_make(&self) -> bool
-        ensures { IsTrue result ↔ (self.now.makes < self.now.quota.makes) }
+        ensures { IsTrue result ↔ HasMake self.now }
     {
         self.makes < self.quota.makes
+            || grant_more(&self.grants, &self.tickets, self.makes - self.quota.makes)
+    }
+
+    /// Whether all makes that it may ever use up are few enough to be counted.
+    pub(crate) fn has_few_makes(&self) -> bool
+        ensures { IsTrue result ↔ (allowed_makes self.now < 2 ^ 64) }
+    {
+        !grant_more(&self.grants, &self.tickets, u64::MAX - self.quota.makes)
     }
 
     /// Whether what it has retired and owes is within its room.
@@ -56,22 +55,11 @@ impl Holdings {
         self.retired.len() + self.owed.len() < self.room as usize
     }
 
-    pub(crate) fn owns(&self, slot: SlotId) -> bool
-        ensures { IsTrue result ↔ (0 < times slot self.now.owned) }
+    /// Whether the slot is one that the seat may destroy.
+    pub(crate) fn has_ripe(&self, slot: SlotId) -> bool
+        ensures { IsTrue result ↔ (0 < times slot self.now.ripe) }
     {
-        has_slot(&self.owned, slot)
-    }
-
-    pub(crate) fn owns_weakly(&self, slot: SlotId) -> bool
-        ensures { IsTrue result ↔ (0 < times slot self.now.weaks) }
-    {
-        has_slot(&self.weaks, slot)
-    }
-
-    pub(crate) fn has_dying(&self, slot: SlotId) -> bool
-        ensures { IsTrue result ↔ (0 < times slot self.now.dying) }
-    {
-        has_slot(&self.dying, slot)
+        has_slot(&self.ripe, slot)
     }
 
     pub(crate) fn owes_nothing(&self) -> bool
@@ -95,13 +83,23 @@ impl Holdings {
             || has_slot(&self.weaks, slot)
             || has_snapshot(&self.notes, Kind::Strong, slot)
             || has_snapshot(&self.notes, Kind::Weak, slot)
+            || has_snapshot(&self.notes, Kind::Disposal, slot)
     }
 
     /// The same, strongly.
-    pub(crate) fn holds_strongly(&self, slot: SlotId) -> bool
+    fn holds_strongly(&self, slot: SlotId) -> bool
         ensures { IsTrue result ↔ HoldsStrongly self.now slot }
     {
         has_slot(&self.owned, slot) || has_snapshot(&self.notes, Kind::Strong, slot)
+    }
+
+    /// The same, so that the object isn't destroyed meanwhile.
+    fn can_read_fields(&self, slot: SlotId) -> bool
+        ensures { IsTrue result ↔ CanReadFields self.now slot }
+    {
+        has_slot(&self.owned, slot)
+            || has_snapshot(&self.notes, Kind::Strong, slot)
+            || has_snapshot(&self.notes, Kind::Disposal, slot)
     }
 
     /// Whether a place is open to the seat.
@@ -116,14 +114,26 @@ impl Holdings {
         }
     }
 
-    /// Whether a place is a field of a slot that the seat has ended.
-    fn is_dying_field(&self, place: EventPlace) -> bool
-        ensures { IsTrue result ↔ IsDyingField self.now place }
+    /// Whether the seat may read a place.
+    pub(crate) fn is_readable(&self, shape: &Shape, place: EventPlace) -> bool
+        ensures { IsTrue result ↔ IsReadable shape.now self.now place }
+    {
+        match place {
+            EventPlace::Cell(cell) => cell < shape.cells,
+            EventPlace::Field(slot, field) => field < 2 && self.can_read_fields(slot),
+            EventPlace::WeakCell(cell) => cell < shape.weak_cells,
+            EventPlace::WeakField(slot) => self.can_read_fields(slot),
+        }
+    }
+
+    /// Whether a place is a field of a slot that the seat may destroy.
+    fn is_ripe_field(&self, place: EventPlace) -> bool
+        ensures { IsTrue result ↔ IsRipeField self.now place }
     {
         match place {
             EventPlace::Cell(_) | EventPlace::WeakCell(_) => false,
-            EventPlace::Field(slot, field) => field < 2 && self.has_dying(slot),
-            EventPlace::WeakField(slot) => self.has_dying(slot),
+            EventPlace::Field(slot, field) => field < 2 && self.has_ripe(slot),
+            EventPlace::WeakField(slot) => self.has_ripe(slot),
         }
     }
 
@@ -133,8 +143,9 @@ impl Holdings {
     {
         match (kind, new) {
             (_, None) => true,
-            (Kind::Strong, Some(slot)) => self.owns(slot),
-            (Kind::Weak, Some(slot)) => self.owns_weakly(slot),
+            (Kind::Strong, Some(slot)) => has_slot(&self.owned, slot),
+            (Kind::Weak, Some(slot)) => has_slot(&self.weaks, slot),
+            (Kind::Disposal, Some(_)) => false,
         }
     }
 
@@ -164,15 +175,34 @@ impl Holdings {
             }
     }
 
+    /// Whether a slot that the seat holds is announced for disposal there, and was not found alive yet.
+    fn has_announced_disposal(&self, at: u32) -> bool
+        ensures { IsTrue result ↔ ((at < 4)
+            × ((s : SlotId) × (note_of self.now at ≡ note.Announced Disposal s) × Holds self.now s)) }
+    {
+        at < 4
+            && match self.notes[at as usize] {
+                Note::Announced(kind, slot) => kind == Kind::Disposal && self.holds(slot),
+                Note::Idle | Note::Valid(_, _) => false,
+            }
+    }
+
+    /// Whether the seat may ask if what is announced there for disposal is alive.
+    pub(crate) fn can_revive(&self, shape: &Shape, at: u32) -> bool
+        ensures { IsTrue result ↔ May shape.now (act.Alive at) self.now }
+    {
+        self.is_idle() && self.has_announced_disposal(at)
+    }
+
     /// Whether the seat may put this content into the place: into a place that is open to it, or
-    /// null into a field of a slot that it has ended.
+    /// null into a field of a slot that it may destroy.
     pub(crate) fn can_put(&self, shape: &Shape, place: EventPlace, new: Option<SlotId>) -> bool
         ensures { IsTrue result ↔ May shape.now (act.Swap place new) self.now }
     {
         self.is_idle()
             && self.has_room()
             && (self.is_open(shape, place) && self.can_give(kind_of(place), new)
-                || self.is_dying_field(place) && new.is_none())
+                || self.is_ripe_field(place) && new.is_none())
     }
 
     /// Whether the seat may begin a scan, or is in the middle of one.
@@ -194,36 +224,6 @@ impl Holdings {
         ensures { IsTrue result ↔ CanLeave self.now }
     {
         self.is_settled() && self.announces_nothing()
-    }
-
-    pub(crate) fn is_finishing(&self) -> bool
-        ensures { IsTrue result ↔ ((s : SlotId) × (self.now.phase ≡ phase.Finish s)) }
-    {
-        matches!(self.phase, Phase::Finish(_))
-    }
-
-    pub(crate) fn is_helping(&self) -> bool
-        ensures { IsTrue result ↔ ((s : SlotId) × (self.now.phase ≡ phase.Help s)) }
-    {
-        matches!(self.phase, Phase::Help(_))
-    }
-
-    pub(crate) fn is_marking(&self) -> bool
-        ensures { IsTrue result ↔ ((s : SlotId) × (self.now.phase ≡ phase.Zero s)) }
-    {
-        matches!(self.phase, Phase::Zero(_))
-    }
-
-    pub(crate) fn is_filling(&self) -> bool
-        ensures { IsTrue result ↔ ((s : SlotId) × (self.now.phase ≡ phase.Blank s)) }
-    {
-        matches!(self.phase, Phase::Blank(_))
-    }
-
-    pub(crate) fn is_giving(&self) -> bool
-        ensures { IsTrue result ↔ ((s : SlotId) × (self.now.phase ≡ phase.Give s)) }
-    {
-        matches!(self.phase, Phase::Give(_))
     }
 }
 
@@ -256,7 +256,7 @@ impl Holdings {
     pub(crate) fn can_fill(&self, shape: &Shape, at: u32, word: u64) -> bool
         ensures { IsTrue result ↔ May shape.now (act.Fill at word) self.now }
     {
-        self.is_filling() && at < 16
+        is_filling(self.phase) && at < 16
     }
 
     /// Whether the seat may read a payload word of the slot.
@@ -264,7 +264,7 @@ impl Holdings {
         ensures { IsTrue result
             ↔ (IsIdle self.now × (Holds self.now slot ⊎ (0 < times slot self.now.dying))) }
     {
-        self.is_idle() && (self.holds(slot) || self.has_dying(slot))
+        self.is_idle() && (self.holds(slot) || has_slot(&self.dying, slot))
     }
 
     /// Whether the seat may take over what the other one has, as far as its own things tell.

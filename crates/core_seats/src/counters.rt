@@ -1,10 +1,10 @@
-//! References that a seat gains, and those that it gives up.
-ghost use Rattle.std.specs.Prelude.{◌≡◌, ◌<◌, ◌+◌, ◌++◌, ◌∷◌, [], nat_lt, IfOk, OnOk, OnErr, if◌then◌else◌};
-ghost use Rattle.plain_state.specs.declared.slot.Kind.TheVariants.{Strong, Weak};
+//! References and tickets that a seat gains, and references that it gives up.
+ghost use Rattle.std.specs.Prelude.{◌≡◌, ◌<◌, ◌+◌, ◌++◌, ◌∷◌, [], nat_lt, IfOk, OnOk, OnErr, Some, if◌then◌else◌};
+ghost use Rattle.plain_state.specs.declared.slot.Kind.TheVariants.{Weak};
 ghost use Rattle.core_events.specs.declared.outcome.Outcome.TheVariants as outcome;
 ghost use Rattle.core_events.specs.Words.{ZERO};
 ghost use Rattle.core_events.specs.Views.{without};
-ghost use Rattle.core_events.specs.Steps.{HasAdd, decremented, given_up, paid, paid_outcome};
+ghost use Rattle.core_events.specs.Steps.{HasAdd, decremented, given_up, paid, paid_outcome, without_given};
 
 use crate::holdings::Holdings;
 use core_events::{Kind, Outcome, SlotId};
@@ -32,14 +32,14 @@ impl Holdings {
         Ok(Outcome::Up)
     }
 
-    /// One strong reference less.
-    pub(crate) fn drop_strong(&mut self, slot: SlotId, word: u64) -> Outcome
-        ensures told { result ≡ decremented Strong word }
+    /// One owned reference of the kind less.
+    pub(crate) fn lose(&mut self, kind: Kind, slot: SlotId, word: u64) -> Outcome
+        ensures told { result ≡ decremented kind word }
         ensures changed { self.new
-            ≡ given_up Strong slot word (record self.old { owned = without slot self.old.owned }) }
+            ≡ given_up kind slot word (without_given kind (Some slot) self.old) }
     {
-        take_first(&mut self.owned, slot);
-        self.give_up(Kind::Strong, slot, word)
+        self.give(kind, Some(slot));
+        self.give_up(kind, slot, word)
     }
 
     /// Pays the first entry that is owed, if there is one.
@@ -67,23 +67,32 @@ impl Holdings {
         Ok(Outcome::Plain)
     }
 
-    /// One weak reference less.
-    pub(crate) fn drop_weak(&mut self, slot: SlotId, word: u64) -> Outcome
-        ensures told { result ≡ decremented Weak word }
-        ensures changed { self.new
-            ≡ given_up Weak slot word (record self.old { weaks = without slot self.old.weaks }) }
-    {
-        take_first(&mut self.weaks, slot);
-        self.give_up(Kind::Weak, slot, word)
-    }
-
     /// One slot less that waits to be destroyed: its own weak reference goes.
     pub(crate) fn destroy(&mut self, slot: SlotId, word: u64) -> Outcome
         ensures told { result ≡ decremented Weak word }
-        ensures changed { self.new
-            ≡ given_up Weak slot word (record self.old { dying = without slot self.old.dying }) }
+        ensures changed { self.new ≡ given_up Weak slot word (record self.old {
+          dying = without slot self.old.dying;
+          ripe = without slot self.old.ripe;
+        }) }
     {
         take_first(&mut self.dying, slot);
+        take_first(&mut self.ripe, slot);
         self.give_up(Kind::Weak, slot, word)
+    }
+
+    /// One ticket more, of this number. It uses an add.
+    pub(crate) fn draw(&mut self, ticket: u64) -> Result<Outcome, OutOfMemory>
+        requires { HasAdd self.old }
+        ensures told { IfOk result (λ o. o ≡ outcome.Number ticket) }
+        ensures ok { OnOk result (self.new ≡ record self.old {
+          adds = self.old.adds + 1;
+          tickets = self.old.tickets ++ ticket ∷ [];
+        }) }
+        ensures err { OnErr result (self.new ≡ self.old) }
+    {
+        self.tickets.reserve(1)?;
+        self.tickets.push_reserved(ticket);
+        self.adds += 1;
+        Ok(Outcome::Number(ticket))
     }
 }

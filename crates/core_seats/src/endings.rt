@@ -1,14 +1,14 @@
-//! A slot's object ends, and a slot is claimed and made.
-ghost use Rattle.std.specs.Prelude.{◌≡◌, ◌==◌, ◌<◌, ◌+◌, ◌++◌, ◌∷◌, [], IfOk, OnOk, OnErr, if◌then◌else◌};
+//! A slot's object ends, and a slot is claimed, armed and made.
+ghost use Rattle.std.specs.Prelude.{◌≡◌, ◌==◌, ◌<◌, ◌+◌, ◌^◌, ◌++◌, ◌∷◌, [], IfOk, OnOk, OnErr, if◌then◌else◌};
 ghost use Rattle.core_events.specs.declared.outcome.Outcome.TheVariants as outcome;
 ghost use Rattle.core_events.specs.declared.view.Phase.TheVariants as phase;
-ghost use Rattle.core_events.specs.Words.{ZERO, has_help};
-ghost use Rattle.core_events.specs.Views.{slot_of};
-ghost use Rattle.core_events.specs.Steps.{HasAdd, ended};
+ghost use Rattle.core_events.specs.Words.{bit_in, has_help};
+ghost use Rattle.core_events.specs.Views.{allowed_makes, slot_of};
+ghost use Rattle.core_events.specs.Steps.{HasAdd, HasMake, ended};
 
 use crate::holdings::Holdings;
 use core_events::{Outcome, Phase, SlotId};
-use core_parts::{ZERO_FLAG, helps, slot_in_phase};
+use core_parts::{has_bit, helps, slot_in_phase};
 use out_of_memory::OutOfMemory;
 
 impl Holdings {
@@ -26,10 +26,10 @@ impl Holdings {
             return Ok(Outcome::Ended);
         }
         if helps(word) {
-            self.enter(Phase::Help(slot));
+            let _ = self.enter(Phase::Help(slot));
             return Ok(Outcome::Help);
         }
-        self.enter(Phase::Idle);
+        let _ = self.enter(Phase::Idle);
         Ok(Outcome::Lost)
     }
 
@@ -46,24 +46,35 @@ impl Holdings {
             self.end(slot)?;
             return Ok(Outcome::Ended);
         }
-        self.enter(Phase::Idle);
+        let _ = self.enter(Phase::Idle);
         Ok(Outcome::NoHelp)
     }
 
-    /// Has claimed the slot, if its weak word was that of a free one.
+    /// Has claimed the slot, if its bit was set in the word.
     pub(crate) fn claim(&mut self, slot: SlotId, word: u64) -> Outcome
-        requires { self.old.makes < self.old.quota.makes }
-        ensures told { result ≡ (if word == ZERO then outcome.Claimed else outcome.Taken) }
-        ensures changed { self.new ≡ (if word == ZERO
-            then record self.old { makes = self.old.makes + 1; phase = phase.Blank slot }
+        requires may { HasMake self.old }
+        requires few { allowed_makes self.old < 2 ^ 64 }
+        ensures told { result
+            ≡ (if bit_in slot word == 1 then outcome.Claimed else outcome.Taken word) }
+        ensures changed { self.new ≡ (if bit_in slot word == 1
+            then record self.old { makes = self.old.makes + 1; phase = phase.Bare slot }
             else self.old) }
     {
-        if word != ZERO_FLAG {
-            return Outcome::Taken;
+        if !has_bit(word, slot) {
+            return Outcome::Taken(word);
         }
         self.makes += 1;
-        self.phase = Phase::Blank(slot);
+        self.phase = Phase::Bare(slot);
         Outcome::Claimed
+    }
+
+    /// Has given the claimed slot its own weak reference.
+    pub(crate) fn arm(&mut self) -> Outcome
+        ensures told { result ≡ outcome.Plain }
+        ensures changed { self.new ≡ record self.old { phase = phase.Blank (slot_of self.old.phase) } }
+    {
+        let slot = slot_in_phase(self.phase);
+        self.enter(Phase::Blank(slot))
     }
 
     /// Makes the claimed slot live: its first strong reference is the seat's.

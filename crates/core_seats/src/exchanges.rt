@@ -1,40 +1,25 @@
 //! Contents of places that a seat changes.
 ghost use Rattle.std.specs.Prelude.{◌≡◌, ◌<◌, ◌^◌, ◌==◌, IfOk, OnOk, OnErr, if◌then◌else◌};
 ghost use Rattle.core_events.specs.declared.outcome.Outcome.TheVariants as outcome;
-ghost use Rattle.plain_state.specs.Steps.{joined, word_of};
+ghost use Rattle.plain_state.specs.Steps.{word_of};
 ghost use Rattle.core_events.specs.Words.{slot_in};
 ghost use Rattle.core_events.specs.Steps.{exchanged, without_given};
 
 use crate::holdings::Holdings;
 use core_events::{Kind, Outcome, SlotId};
-use core_parts::{found_in, held_as, take_first};
+use core_parts::{found_in, held_as, retire, take_first};
 use out_of_memory::OutOfMemory;
 
-/// Joins what a place held to the retired entries.
-fn retire(
-    retired: &mut Vec<(Kind, SlotId)>,
-    kind: Kind,
-    old: Option<SlotId>,
-) -> Result<(), OutOfMemory>
-    ensures ok { OnOk result (retired.new.items ≡ joined kind old retired.old.items) }
-    ensures err { OnErr result (retired.new.items ≡ retired.old.items) }
-{
-    if let Some(slot) = old {
-        retired.reserve(1)?;
-        retired.push_reserved((kind, slot));
-    }
-    Ok(())
-}
-
 impl Holdings {
-    /// A place of this kind took the reference.
-    fn give(&mut self, kind: Kind, new: Option<SlotId>)
+    /// The reference of this kind is no longer the seat's. No reference is of the kind `Disposal`.
+    pub(crate) fn give(&mut self, kind: Kind, new: Option<SlotId>)
         ensures { self.new ≡ without_given kind new self.old }
     {
         match (kind, new) {
             (_, None) => {}
             (Kind::Strong, Some(slot)) => take_first(&mut self.owned, slot),
             (Kind::Weak, Some(slot)) => take_first(&mut self.weaks, slot),
+            (Kind::Disposal, Some(_)) => {}
         }
     }
 

@@ -3,7 +3,8 @@ ghost use Rattle.std.specs.Prelude.{◌↔◌, IsTrue};
 ghost use Rattle.core_seats.specs.Fits.{IsFit, IsWordFor};
 
 use crate::seat::SeatView;
-use core_events::{Act, Phase, Shape};
+use core_events::{Act, Shape};
+use core_parts::is_filling;
 
 /// Whether the act can find the word: on a place a word is 0, or the number of a slot of the domain
 /// and one.
@@ -25,6 +26,6 @@ impl SeatView {
         ensures { IsTrue result ↔ IsFit self.now }
     {
         let has = &self.holdings;
-        has.is_within_room() && (has.has_add() || !has.is_filling())
+        has.is_within_room() && has.has_few_makes() && (has.has_add() || !is_filling(has.phase))
     }
 }

@@ -1,25 +1,32 @@
 //! What a seat has, but for its trail.
-ghost use Rattle.std.specs.Prelude.{◌≡◌, ◌<◌, ◌^◌};
+ghost use Rattle.std.specs.Prelude.{◌≡◌, ◌<◌, ◌^◌, IfOk};
 ghost use Rattle.core_events.specs.Views.{room_of, first_view};
 
 use core_events::{Kind, Move, Note, Phase, Quota, Shape, SlotId};
+use core_parts::room_for;
+use out_of_memory::OutOfMemory;
 use std::alloc::Global;
 use std::collections::VecDeque;
 use std::marker::Model;
 
-/// The trail of a seat that has left, by its number.
+/// What is kept of a seat that has left, by its number.
 #[derive(Drop)]
-pub struct PastTrail {
+pub struct PastSeat {
     pub(crate) seat: u32,
     pub(crate) trail: Vec<Move>,
+    pub(crate) tickets: Vec<u64>,
 }
 
-impl Model for PastTrail {
-    ghost use Rattle.core_events.specs.declared.view.LeftTrail.{LeftTrail};
+impl Model for PastSeat {
+    ghost use Rattle.core_events.specs.declared.view.LeftSeat.{LeftSeat};
 
-    ghost Value = { LeftTrail };
+    ghost Value = { LeftSeat };
 
-    ghost view = { λ a. record { seat = a.seat; trail = a.trail.items } };
+    ghost view = { λ a. record {
+      seat = a.seat;
+      trail = a.trail.items;
+      tickets = a.tickets.items;
+    } };
 }
 
 /// What a seat has, as a view with an empty trail: the trail itself lies beside it, so that a move
@@ -29,6 +36,7 @@ pub(crate) struct Holdings {
     pub(crate) seat: u32,
     pub(crate) shape: Shape,
     pub(crate) quota: Quota,
+    pub(crate) grants: Vec<u64>,
     pub(crate) room: u32,
     pub(crate) owned: Vec<SlotId>,
     pub(crate) weaks: Vec<SlotId>,
@@ -36,13 +44,15 @@ pub(crate) struct Holdings {
     pub(crate) retired: Vec<(Kind, SlotId)>,
     pub(crate) owed: VecDeque<(Kind, SlotId)>,
     pub(crate) dying: Vec<SlotId>,
+    pub(crate) ripe: Vec<SlotId>,
     pub(crate) phase: Phase,
     pub(crate) seen: Vec<u64>,
     pub(crate) adds: u64,
     pub(crate) makes: u64,
+    pub(crate) tickets: Vec<u64>,
     pub(crate) left: bool,
     pub(crate) made: Vec<SlotId>,
-    pub(crate) left_trails: Vec<PastTrail>,
+    pub(crate) left_seats: Vec<PastSeat>,
     pub(crate) alloc: Global,
 }
 
@@ -56,6 +66,7 @@ impl Model for Holdings {
       seat = a.seat;
       shape = a.shape;
       quota = a.quota;
+      grants = a.grants.items;
       room = a.room;
       owned = a.owned.items;
       weaks = a.weaks.items;
@@ -63,14 +74,16 @@ impl Model for Holdings {
       retired = a.retired.items;
       owed = a.owed.items;
       dying = a.dying.items;
+      ripe = a.ripe.items;
       phase = a.phase;
       seen = a.seen.items;
       adds = a.adds;
       makes = a.makes;
+      tickets = a.tickets.items;
       left = a.left;
       trail = [];
       made = a.made.items;
-      left_trails = a.left_trails.items;
+      left_seats = a.left_seats.items;
     } };
 
     // the ranges of their types
@@ -78,24 +91,25 @@ impl Model for Holdings {
         (a.room < 2 ^ 32) × (a.quota.makes < 2 ^ 64) × (a.quota.adds < 2 ^ 64) };
 }
 
-/// How many entries a seat may have retired and owed together, as long as no other has left.
-pub(crate) fn room_for(shape: &Shape) -> u32
-    requires { room_of shape.now < 2 ^ 32 }
-    ensures { result ≡ room_of shape.now }
-{
-    4 * shape.seats + shape.batch
-}
-
 impl Holdings {
     /// A seat that has done nothing.
-    pub(crate) fn first(alloc: Global, shape: Shape, seat: u32, quota: Quota) -> Holdings
+    pub(crate) fn first(
+        alloc: Global,
+        shape: Shape,
+        seat: u32,
+        quota: Quota,
+        grants: &[u64],
+    ) -> Result<Holdings, OutOfMemory>
         requires { room_of shape < 2 ^ 32 }
-        ensures { result ≡ first_view shape seat quota }
+        ensures { IfOk result (λ has. has ≡ first_view shape seat quota grants.now) }
     {
-        Holdings {
+        let mut own_grants = Vec::new(alloc);
+        own_grants.extend_from_slice(grants)?;
+        Ok(Holdings {
             seat,
             shape,
             quota,
+            grants: own_grants,
             room: room_for(&shape),
             owned: Vec::new(alloc),
             weaks: Vec::new(alloc),
@@ -103,14 +117,16 @@ impl Holdings {
             retired: Vec::new(alloc),
             owed: VecDeque::new(alloc),
             dying: Vec::new(alloc),
+            ripe: Vec::new(alloc),
             phase: Phase::Idle,
             seen: Vec::new(alloc),
             adds: 0,
             makes: 0,
+            tickets: Vec::new(alloc),
             left: false,
             made: Vec::new(alloc),
-            left_trails: Vec::new(alloc),
+            left_seats: Vec::new(alloc),
             alloc,
-        }
+        })
     }
 }

@@ -6,23 +6,15 @@ ghost use Rattle.core_events.specs.Views.{room_of};
 ghost use Rattle.core_events.specs.Steps.{noted};
 ghost use Rattle.core_events.specs.Runs.{taken_over, left_behind};
 
-use crate::holdings::{Holdings, PastTrail, room_for};
+use crate::holdings::{Holdings, PastSeat};
 use crate::seat::SeatView;
 use core_events::{Act, Move, Outcome};
+use core_parts::{move_all, room_for};
 use out_of_memory::OutOfMemory;
 use std::mem;
 
-/// Moves all of a list behind another one, which has room for it: no memory is taken.
-fn move_all<T>(from: &mut Vec<T>, to: &mut Vec<T>)
-    requires { vec_len to.old + vec_len from.old ≤ vec_capacity to.old }
-    ensures taken { to.new.items ≡ to.old.items ++ from.old.items }
-    ensures given { from.new.items ≡ [] }
-{
-    let _ = to.append(from);
-}
-
 impl Holdings {
-    /// Takes over what the leaver has, and its trail.
+    /// Takes over what the leaver has, and keeps its trail and its tickets.
     fn absorb(&mut self, leaver: &mut Holdings, trail: &mut Vec<Move>) -> Result<(), OutOfMemory>
         requires { self.old.room + room_of self.old.shape < 2 ^ 32 }
         ensures ok { OnOk result (self.new
@@ -37,16 +29,19 @@ impl Holdings {
         self.weaks.reserve(leaver.weaks.len())?;
         self.retired.reserve(leaver.retired.len())?;
         self.dying.reserve(leaver.dying.len())?;
+        self.ripe.reserve(leaver.ripe.len())?;
         self.made.reserve(leaver.made.len())?;
-        self.left_trails.reserve(1)?;
+        self.left_seats.reserve(1)?;
         move_all(&mut leaver.owned, &mut self.owned);
         move_all(&mut leaver.weaks, &mut self.weaks);
         move_all(&mut leaver.retired, &mut self.retired);
         move_all(&mut leaver.dying, &mut self.dying);
+        move_all(&mut leaver.ripe, &mut self.ripe);
         move_all(&mut leaver.made, &mut self.made);
-        self.left_trails.push_reserved(PastTrail {
+        self.left_seats.push_reserved(PastSeat {
             seat: leaver.seat,
             trail: mem::replace(trail, Vec::new(self.alloc)),
+            tickets: mem::replace(&mut leaver.tickets, Vec::new(self.alloc)),
         });
         self.room += room_for(&self.shape);
         leaver.left = true;

@@ -10,7 +10,7 @@
 //! anything has changed.
 //!
 //! ```text
-//! let mut seat = SeatView::first(alloc, shape, 0, quota);
+//! let mut seat = SeatView::first(alloc, shape, 0, quota, &grants)?;
 //! let act = Act::Claim(SlotId(3));
 //! if seat.may(&shape, &act) {
 //!     let at = seat.place(&shape, &act);           // the word that the act is on
@@ -35,9 +35,11 @@ mod seat;
 mod table;
 #[cfg(test)]
 mod tests;
+#[cfg(test)]
+mod tests_disposal;
 
 pub use core_events::{Act, EventPlace, Kind, Move, Note, Outcome, Phase, Quota, Shape, SlotId};
 pub use fits::is_word_for;
-pub use holdings::PastTrail;
+pub use holdings::PastSeat;
 pub use out_of_memory::OutOfMemory;
 pub use seat::SeatView;

@@ -12,17 +12,23 @@ use out_of_memory::OutOfMemory;
 
 impl Holdings {
     /// Goes into a phase.
-    pub(crate) fn enter(&mut self, phase: Phase)
-        ensures { self.new ≡ record self.old { phase = phase } }
+    pub(crate) fn enter(&mut self, phase: Phase) -> Outcome
+        ensures told { result ≡ outcome.Plain }
+        ensures changed { self.new ≡ record self.old { phase = phase } }
     {
         self.phase = phase;
+        Outcome::Plain
     }
 
-    /// After a decrement: the one that found 1 is to finish the object, or to give the slot back.
+    /// After a decrement: the one that found 1 is to finish the object, or to give the slot back. No reference is of
+    /// the kind `Disposal`.
     pub(crate) fn give_up(&mut self, kind: Kind, slot: SlotId, word: u64) -> Outcome
         ensures told { result ≡ decremented kind word }
         ensures changed { self.new ≡ given_up kind slot word self.old }
     {
+        if kind == Kind::Disposal {
+            return Outcome::Left;
+        }
         let (phase, outcome) = given_up(kind, slot, word);
         self.phase = phase;
         outcome
@@ -61,14 +67,5 @@ impl Holdings {
     {
         self.phase = Phase::Idle;
         Outcome::Number(counted(word))
-    }
-
-    /// Has given a slot back.
-    pub(crate) fn free(&mut self) -> Outcome
-        ensures told { result ≡ outcome.Plain }
-        ensures changed { self.new ≡ record self.old { phase = phase.Idle } }
-    {
-        self.phase = Phase::Idle;
-        Outcome::Plain
     }
 }

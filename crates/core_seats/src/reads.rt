@@ -1,7 +1,7 @@
 //! What a seat has, one part at a time.
 ghost use Rattle.std.specs.Prelude.{◌≡◌};
 
-use crate::holdings::PastTrail;
+use crate::holdings::PastSeat;
 use crate::seat::SeatView;
 use core_events::{Kind, Move, Note, Phase, Quota, Shape, SlotId};
 use std::collections::VecDeque;
@@ -26,6 +26,13 @@ impl SeatView {
         ensures { result ≡ self.now.quota }
     {
         self.holdings.quota
+    }
+
+    /// How many makes more who draws each ticket has.
+    pub fn grants(&self) -> &[u64]
+        ensures { result.now ≡ self.now.grants }
+    {
+        &self.holdings.grants
     }
 
     /// How many entries it may have retired and owed together.
@@ -77,6 +84,13 @@ impl SeatView {
         &self.holdings.dying
     }
 
+    /// Those of them that a whole scan found under no announcement of disposal.
+    pub fn ripe(&self) -> &[SlotId]
+        ensures { result.now ≡ self.now.ripe }
+    {
+        &self.holdings.ripe
+    }
+
     /// What it is in the middle of.
     pub fn phase(&self) -> Phase
         ensures { result ≡ self.now.phase }
@@ -105,6 +119,13 @@ impl SeatView {
         self.holdings.makes
     }
 
+    /// The tickets that it drew.
+    pub fn tickets(&self) -> &[u64]
+        ensures { result.now ≡ self.now.tickets }
+    {
+        &self.holdings.tickets
+    }
+
     /// Whether it has left.
     pub fn has_left(&self) -> bool
         ensures { result ≡ self.now.left }
@@ -126,15 +147,15 @@ impl SeatView {
         &self.holdings.made
     }
 
-    /// The trails of the seats that it took over.
-    pub fn left_trails(&self) -> &[PastTrail]
-        ensures { result.now ≡ self.now.left_trails }
+    /// What is kept of the seats that it took over.
+    pub fn left_seats(&self) -> &[PastSeat]
+        ensures { result.now ≡ self.now.left_seats }
     {
-        &self.holdings.left_trails
+        &self.holdings.left_seats
     }
 }
 
-impl PastTrail {
+impl PastSeat {
     /// The number of the seat that left.
     pub fn seat(&self) -> u32
         ensures { result ≡ self.now.seat }
@@ -147,5 +168,12 @@ impl PastTrail {
         ensures { result.now ≡ self.now.trail }
     {
         &self.trail
+    }
+
+    /// The tickets that it drew.
+    pub fn tickets(&self) -> &[u64]
+        ensures { result.now ≡ self.now.tickets }
+    {
+        &self.tickets
     }
 }

@@ -4,24 +4,33 @@ ghost use Rattle.core_events.specs.Views.{room_of, first_view};
 ghost use Rattle.core_events.specs.Steps.{May, CanLeave, answer, moved, place};
 ghost use Rattle.core_seats.specs.Fits.{IsFit, IsWordFor};
 
-use crate::conditions::is_content;
 use crate::holdings::Holdings;
 use crate::seat::SeatView;
-use core_events::{Act, Kind, Move, Outcome, Quota, Shape, SlotId};
-use core_parts::{counter_index, kind_of, note_index, place_index, slot_in_phase, slot_index};
+use core_events::{Act, Kind, Move, Outcome, Quota, Shape};
+use core_parts::{
+    bits_index, is_arming, is_filling, is_finishing, is_giving, is_helping, is_marking, kind_of,
+    note_index, place_index, slot_in_phase, slot_index, ticket_index,
+};
 use out_of_memory::OutOfMemory;
 use std::alloc::Global;
 
 impl SeatView {
-    /// A seat that has done nothing. It takes no memory.
-    pub fn first(alloc: Global, shape: Shape, seat: u32, quota: Quota) -> SeatView
+    /// A seat that has done nothing. It takes memory for its grants alone.
+    pub fn first(
+        alloc: Global,
+        shape: Shape,
+        seat: u32,
+        quota: Quota,
+        grants: &[u64],
+    ) -> Result<SeatView, OutOfMemory>
         requires { room_of shape < 2 ^ 32 }
-        ensures { result ≡ first_view shape seat quota }
+        ensures { IfOk result (λ view. view ≡ first_view shape seat quota grants.now) }
     {
-        SeatView {
-            holdings: Holdings::first(alloc, shape, seat, quota),
+        let holdings = Holdings::first(alloc, shape, seat, quota, grants)?;
+        Ok(SeatView {
+            holdings,
             trail: Vec::new(alloc),
-        }
+        })
     }
 
     /// Whether the seat may make the act, as far as what it has tells. It looks through those of
@@ -32,30 +41,35 @@ impl SeatView {
         let has = &self.holdings;
         match *act {
             Act::Add(slot) | Act::Wadd(slot) => has.is_idle() && has.has_add() && has.holds(slot),
-            Act::Drop(slot) => has.is_idle() && has.owns(slot),
+            Act::Drop(slot) => has.is_idle() && has.can_give(Kind::Strong, Some(slot)),
             Act::Pay => has.is_idle() && !has.owes_nothing(),
-            Act::Finish => has.is_finishing(),
-            Act::Take => has.is_helping(),
+            Act::Finish => is_finishing(has.phase),
+            Act::Take => is_helping(has.phase),
             Act::Count(slot) | Act::Wcount(slot) => has.is_idle() && has.holds(slot),
-            Act::Mark => has.is_marking(),
+            Act::Mark => is_marking(has.phase),
             Act::Announce(at, _, slot) => {
                 has.is_idle() && has.has_idle_note(at) && slot.0 < shape.slots
             }
             Act::Release(at) => has.is_idle() && has.has_busy_note(at),
-            Act::Look(place) => has.is_idle() && has.is_open(shape, place),
+            Act::Look(place) => has.is_idle() && has.is_readable(shape, place),
             Act::Check(at, place) => {
-                has.is_idle() && has.has_announced(at, kind_of(place)) && has.is_open(shape, place)
+                has.is_idle()
+                    && has.has_announced(at, kind_of(place))
+                    && has.is_readable(shape, place)
             }
+            Act::Alive(at) => has.can_revive(shape, at),
             Act::Scan => has.can_scan(shape),
             Act::Swap(place, new) => has.can_put(shape, place, new),
             Act::Cas(place, old, new) => has.can_try(shape, place, old, new),
             Act::Claim(slot) => has.can_claim(shape, slot),
+            Act::Arm => is_arming(has.phase),
             Act::Fill(at, word) => has.can_fill(shape, at, word),
-            Act::Start => has.is_filling(),
+            Act::Start => is_filling(has.phase),
             Act::See(slot, at) => has.can_see(slot) && at < 16,
-            Act::Free => has.is_giving(),
-            Act::Wdrop(slot) => has.is_idle() && has.owns_weakly(slot),
-            Act::Destroy(slot) => has.is_idle() && has.has_dying(slot),
+            Act::Free => is_giving(has.phase),
+            Act::Ticket => has.is_idle() && has.has_add(),
+            Act::Wdrop(slot) => has.is_idle() && has.can_give(Kind::Weak, Some(slot)),
+            Act::Destroy(slot) => has.is_idle() && has.has_ripe(slot),
             Act::Leave(other) => has.can_let_leave(shape, other),
         }
     }
@@ -74,15 +88,16 @@ impl SeatView {
             Act::Look(at) | Act::Check(_, at) | Act::Swap(at, _) | Act::Cas(at, _, _) => {
                 place_index(shape, at)
             }
+            Act::Alive(at) => has.noted_index(shape, at),
             Act::Scan => 1 + has.seen.len(),
-            Act::Claim(slot)
-            | Act::Wadd(slot)
-            | Act::Wdrop(slot)
-            | Act::Destroy(slot)
-            | Act::Wcount(slot) => slot_index(shape, slot) + 1,
+            Act::Claim(slot) => bits_index(shape, slot),
+            Act::Arm => has.phase_index(shape) + 1,
+            Act::Wadd(slot) | Act::Wdrop(slot) | Act::Destroy(slot) | Act::Wcount(slot) =>
+                slot_index(shape, slot) + 1,
             Act::Fill(at, _) => has.phase_index(shape) + 5 + at as usize,
             Act::See(slot, at) => slot_index(shape, slot) + 5 + at as usize,
-            Act::Free => has.phase_index(shape) + 1,
+            Act::Free => bits_index(shape, slot_in_phase(has.phase)),
+            Act::Ticket => ticket_index(shape),
             Act::Leave(_) => 0,
         }
     }
@@ -91,8 +106,9 @@ impl SeatView {
     /// its trail, are then as the table of events says. A leave is of two seats: `take_over` makes
     /// it, and here it would only be noted.
     ///
-    /// It looks through the list that loses an entry, if one does. The last word of a scan compares
-    /// each retired entry with the words that announce something. A list that grows takes memory,
+    /// It looks through the lists that lose an entry, if one does. The last word of a scan compares
+    /// each retired entry with the words that announce something, and each dying slot with those
+    /// that are ripe too. A list that grows takes memory,
     /// and so do the parts of a split. After an error nothing has changed.
     pub fn moves(&mut self, shape: &Shape, act: &Act, word: u64) -> Result<Outcome, OutOfMemory>
         requires may { May shape.now act.now self.old }

@@ -3,14 +3,14 @@ use core_events::{Act, EventPlace, Kind, Note, Outcome, Phase, Quota, Shape, Slo
 use std::process::Abort;
 use std::test::Fail;
 
-const SLOT: SlotId = SlotId(0);
+pub(crate) const SLOT: SlotId = SlotId(0);
 
-const QUOTA: Quota = Quota {
+pub(crate) const QUOTA: Quota = Quota {
     makes: 100,
     adds: 100,
 };
 
-const ONE_SEAT: Shape = Shape {
+pub(crate) const ONE_SEAT: Shape = Shape {
     seats: 1,
     slots: 1,
     cells: 2,
@@ -18,7 +18,7 @@ const ONE_SEAT: Shape = Shape {
     batch: 4,
 };
 
-const THREE_SEATS: Shape = Shape {
+pub(crate) const THREE_SEATS: Shape = Shape {
     seats: 3,
     slots: 1,
     cells: 0,
@@ -30,19 +30,24 @@ const CELL: EventPlace = EventPlace::Cell(0);
 
 const OTHER_CELL: EventPlace = EventPlace::Cell(1);
 
-const WEAK_CELL: EventPlace = EventPlace::WeakCell(0);
+pub(crate) const WEAK_CELL: EventPlace = EventPlace::WeakCell(0);
 
-/// The zero flag of a strong word, and the weak word of a free slot.
-const ZERO: u64 = 9223372036854775808;
+/// The zero flag of a strong word.
+pub(crate) const ZERO: u64 = 9223372036854775808;
 
 /// The zero flag and the help flag.
 const HELP: u64 = 13835058055282163712;
 
 /// What a seat does: its number, the act, the word that it finds, and what it is to answer.
-type Step = (usize, Act, u64, Outcome);
+pub(crate) type Step = (usize, Act, u64, Outcome);
 
 /// Makes a step, if the seat may, and compares what it answers.
-fn make_step(rt: &impl Abort, seat: &mut SeatView, shape: &Shape, step: &Step) -> Result<(), Fail> {
+pub(crate) fn make_step(
+    rt: &impl Abort,
+    seat: &mut SeatView,
+    shape: &Shape,
+    step: &Step,
+) -> Result<(), Fail> {
     let (_, act, word, answer) = step;
     assert!(rt; seat.may(shape, act));
     assert!(rt; seat.is_fit());
@@ -52,7 +57,7 @@ fn make_step(rt: &impl Abort, seat: &mut SeatView, shape: &Shape, step: &Step) -
 }
 
 /// Makes steps of several seats in turn.
-fn play(
+pub(crate) fn play(
     rt: &impl Abort,
     seats: &mut [SeatView],
     shape: &Shape,
@@ -66,8 +71,9 @@ fn play(
     Ok(())
 }
 
-const TWO_COPIES: [Step; 14] = [
-    (0, Act::Claim(SLOT), ZERO, Outcome::Claimed),
+const TWO_COPIES: [Step; 15] = [
+    (0, Act::Claim(SLOT), 1, Outcome::Claimed),
+    (0, Act::Arm, 0, Outcome::Plain),
     (0, Act::Start, ZERO, Outcome::Plain),
     (0, Act::Add(SLOT), 1, Outcome::Up),
     (0, Act::Swap(CELL, Some(SLOT)), 0, Outcome::Found(None)),
@@ -95,19 +101,20 @@ const TWO_COPIES: [Step; 14] = [
 
 #[test]
 fn two_copies_under_one_announcement(rt: HostRuntime) -> Result<(), Fail> {
-    let mut seats = [SeatView::first(rt.alloc(), ONE_SEAT, 0, QUOTA)];
+    let mut seats = [SeatView::first(rt.alloc(), ONE_SEAT, 0, QUOTA, &[])?];
     play(&rt, &mut seats, &ONE_SEAT, &TWO_COPIES)?;
     let seat = &seats[0];
     assert_eq!(rt; seat.retired(), [(Kind::Strong, SLOT)].as_slice());
     assert_eq!(rt; seat.owed().len(), 0);
     assert_eq!(rt; seat.notes()[1], Note::Valid(Kind::Strong, SLOT));
     assert_eq!(rt; seat.phase(), Phase::Idle);
-    assert_eq!(rt; seat.trail().len(), 14);
+    assert_eq!(rt; seat.trail().len(), 15);
     Ok(())
 }
 
-const LATE_FINISH: [Step; 12] = [
-    (0, Act::Claim(SLOT), ZERO, Outcome::Claimed),
+const LATE_FINISH: [Step; 13] = [
+    (0, Act::Claim(SLOT), 1, Outcome::Claimed),
+    (0, Act::Arm, 0, Outcome::Plain),
     (0, Act::Start, ZERO, Outcome::Plain),
     (0, Act::Wadd(SLOT), 1, Outcome::Plain),
     (0, Act::Swap(WEAK_CELL, Some(SLOT)), 0, Outcome::Found(None)),
@@ -126,8 +133,8 @@ const LOST: [Step; 1] = [(0, Act::Finish, ZERO, Outcome::Lost)];
 #[test]
 fn a_late_finish_is_lost(rt: HostRuntime) -> Result<(), Fail> {
     let mut seats = [
-        SeatView::first(rt.alloc(), THREE_SEATS, 1, QUOTA),
-        SeatView::first(rt.alloc(), THREE_SEATS, 2, QUOTA),
+        SeatView::first(rt.alloc(), THREE_SEATS, 1, QUOTA, &[])?,
+        SeatView::first(rt.alloc(), THREE_SEATS, 2, QUOTA, &[])?,
     ];
     play(&rt, &mut seats, &THREE_SEATS, &LATE_FINISH)?;
     assert_eq!(rt; seats[0].phase(), Phase::Finish(SLOT));
@@ -138,8 +145,9 @@ fn a_late_finish_is_lost(rt: HostRuntime) -> Result<(), Fail> {
 }
 
 /// The first one puts a weak reference into the weak cell, and the others hold it from there.
-const READERS_HELP: [Step; 17] = [
-    (0, Act::Claim(SLOT), ZERO, Outcome::Claimed),
+const READERS_HELP: [Step; 18] = [
+    (0, Act::Claim(SLOT), 1, Outcome::Claimed),
+    (0, Act::Arm, 0, Outcome::Plain),
     (0, Act::Start, ZERO, Outcome::Plain),
     (0, Act::Wadd(SLOT), 1, Outcome::Plain),
     (0, Act::Swap(WEAK_CELL, Some(SLOT)), 0, Outcome::Found(None)),
@@ -161,9 +169,9 @@ const READERS_HELP: [Step; 17] = [
 #[test]
 fn a_reader_sets_the_help_flag(rt: HostRuntime) -> Result<(), Fail> {
     let mut seats = [
-        SeatView::first(rt.alloc(), THREE_SEATS, 1, QUOTA),
-        SeatView::first(rt.alloc(), THREE_SEATS, 0, QUOTA),
-        SeatView::first(rt.alloc(), THREE_SEATS, 2, QUOTA),
+        SeatView::first(rt.alloc(), THREE_SEATS, 1, QUOTA, &[])?,
+        SeatView::first(rt.alloc(), THREE_SEATS, 0, QUOTA, &[])?,
+        SeatView::first(rt.alloc(), THREE_SEATS, 2, QUOTA, &[])?,
     ];
     play(&rt, &mut seats, &THREE_SEATS, &READERS_HELP)?;
     assert_eq!(rt; seats[0].dying().len(), 0);
@@ -171,8 +179,9 @@ fn a_reader_sets_the_help_flag(rt: HostRuntime) -> Result<(), Fail> {
     Ok(())
 }
 
-const LATE_ANNOUNCEMENT: [Step; 6] = [
-    (0, Act::Claim(SLOT), ZERO, Outcome::Claimed),
+const LATE_ANNOUNCEMENT: [Step; 7] = [
+    (0, Act::Claim(SLOT), 1, Outcome::Claimed),
+    (0, Act::Arm, 0, Outcome::Plain),
     (0, Act::Start, ZERO, Outcome::Plain),
     (0, Act::Swap(CELL, Some(SLOT)), 0, Outcome::Found(None)),
     (0, Act::Swap(CELL, None), 1, Outcome::Found(Some(SLOT))),
@@ -182,7 +191,7 @@ const LATE_ANNOUNCEMENT: [Step; 6] = [
 
 #[test]
 fn a_late_announcement_gives_no_right_to_add(rt: HostRuntime) -> Result<(), Fail> {
-    let mut seats = [SeatView::first(rt.alloc(), ONE_SEAT, 0, QUOTA)];
+    let mut seats = [SeatView::first(rt.alloc(), ONE_SEAT, 0, QUOTA, &[])?];
     play(&rt, &mut seats, &ONE_SEAT, &LATE_ANNOUNCEMENT)?;
     let seat = &seats[0];
     assert_eq!(rt; seat.notes()[1], Note::Announced(Kind::Strong, SLOT));
@@ -191,13 +200,14 @@ fn a_late_announcement_gives_no_right_to_add(rt: HostRuntime) -> Result<(), Fail
     Ok(())
 }
 
-const MAKE_AND_EXCHANGE: [Step; 10] = [
-    (0, Act::Claim(SLOT), ZERO, Outcome::Claimed),
+const MAKE_AND_EXCHANGE: [Step; 11] = [
+    (0, Act::Claim(SLOT), 1, Outcome::Claimed),
+    (0, Act::Arm, 0, Outcome::Plain),
     (0, Act::Fill(3, 7), 0, Outcome::Plain),
     (0, Act::Start, ZERO, Outcome::Plain),
     (0, Act::See(SLOT, 3), 7, Outcome::Word(7)),
     (0, Act::Wadd(SLOT), 1, Outcome::Plain),
-    (0, Act::Claim(SLOT), 2, Outcome::Taken),
+    (0, Act::Claim(SLOT), 2, Outcome::Taken(2)),
     (0, Act::Cas(CELL, None, Some(SLOT)), 0, Outcome::Done),
     (0, Act::Look(CELL), 1, Outcome::Found(Some(SLOT))),
     (
@@ -210,7 +220,7 @@ const MAKE_AND_EXCHANGE: [Step; 10] = [
 ];
 
 /// The second announcement word names slot 0 weakly, which guards no strong entry.
-const EJECT_AND_GIVE_BACK: [Step; 12] = [
+const EJECT_AND_GIVE_BACK: [Step; 16] = [
     (0, Act::Scan, 0, Outcome::Word(0)),
     (0, Act::Scan, 5, Outcome::Word(5)),
     (0, Act::Scan, 0, Outcome::Word(0)),
@@ -220,6 +230,10 @@ const EJECT_AND_GIVE_BACK: [Step; 12] = [
     (0, Act::Add(SLOT), ZERO, Outcome::Dead),
     (0, Act::Count(SLOT), ZERO + 1, Outcome::Number(0)),
     (0, Act::Wcount(SLOT), 2, Outcome::Word(2)),
+    (0, Act::Scan, 0, Outcome::Word(0)),
+    (0, Act::Scan, 5, Outcome::Word(5)),
+    (0, Act::Scan, 0, Outcome::Word(0)),
+    (0, Act::Scan, 0, Outcome::Split(0, 0, 0)),
     (0, Act::Destroy(SLOT), 2, Outcome::Left),
     (0, Act::Wdrop(SLOT), 1, Outcome::Last),
     (0, Act::Free, 0, Outcome::Plain),
@@ -227,12 +241,12 @@ const EJECT_AND_GIVE_BACK: [Step; 12] = [
 
 #[test]
 fn an_object_is_made_ended_and_given_back(rt: HostRuntime) -> Result<(), Fail> {
-    let mut seats = [SeatView::first(rt.alloc(), ONE_SEAT, 0, QUOTA)];
+    let mut seats = [SeatView::first(rt.alloc(), ONE_SEAT, 0, QUOTA, &[])?];
     play(&rt, &mut seats, &ONE_SEAT, &MAKE_AND_EXCHANGE)?;
     play(&rt, &mut seats, &ONE_SEAT, &EJECT_AND_GIVE_BACK)?;
     let seat = &seats[0];
     assert_eq!(rt;
-        seat.owned().len() + seat.weaks().len() + seat.dying().len(),
+        seat.owned().len() + seat.weaks().len() + seat.dying().len() + seat.ripe().len(),
         0
     );
     assert_eq!(rt; (seat.adds(), seat.makes()), (3, 1));
@@ -240,26 +254,39 @@ fn an_object_is_made_ended_and_given_back(rt: HostRuntime) -> Result<(), Fail> {
     Ok(())
 }
 
-const MAKE: [Step; 2] = [
-    (0, Act::Claim(SLOT), ZERO, Outcome::Claimed),
+const MAKE: [Step; 3] = [
+    (0, Act::Claim(SLOT), 1, Outcome::Claimed),
+    (0, Act::Arm, 0, Outcome::Plain),
     (0, Act::Start, ZERO, Outcome::Plain),
 ];
 
 #[test]
 fn the_first_seat_takes_over(rt: HostRuntime) -> Result<(), Fail> {
-    let mut root = SeatView::first(rt.alloc(), THREE_SEATS, 0, QUOTA);
-    let mut leaver = SeatView::first(rt.alloc(), THREE_SEATS, 2, QUOTA);
+    let mut root = SeatView::first(rt.alloc(), THREE_SEATS, 0, QUOTA, &[])?;
+    let mut leaver = SeatView::first(rt.alloc(), THREE_SEATS, 2, QUOTA, &[])?;
     for step in &MAKE {
         make_step(&rt, &mut leaver, &THREE_SEATS, step)?;
     }
+    make_step(
+        &rt,
+        &mut leaver,
+        &THREE_SEATS,
+        &(2, Act::Ticket, 7, Outcome::Number(7)),
+    )?;
     assert!(rt; root.may(&THREE_SEATS, &Act::Leave(2)));
     root.take_over(&mut leaver)?;
     assert_eq!(rt; root.room(), 48);
     assert_eq!(rt; root.owned(), [SLOT].as_slice());
     assert_eq!(rt; root.made(), [SLOT].as_slice());
-    assert_eq!(rt; root.left_trails().len(), 1);
+    assert_eq!(rt; root.left_seats().len(), 1);
+    let kept = &root.left_seats()[0];
+    assert_eq!(rt; (kept.seat(), kept.trail().len()), (2, 4));
+    assert_eq!(rt; kept.tickets(), [7].as_slice());
     assert!(rt; leaver.has_left());
-    assert_eq!(rt; leaver.trail().len() + leaver.owned().len(), 0);
+    assert_eq!(rt;
+        leaver.trail().len() + leaver.owned().len() + leaver.tickets().len(),
+        0
+    );
     Ok(())
 }
 
@@ -271,8 +298,8 @@ const TWO_SEATS: Shape = Shape {
     batch: 1,
 };
 
-/// The base word, 8 announcement words, 3 and 4 cells: slot 2 begins at 16 + 42.
-const PLACES: [(Act, usize); 9] = [
+/// The base word, 8 announcement words, 3 and 4 cells: slot 2 begins at 16 + 42, and the slots end at 121.
+const PLACES: [(Act, usize); 12] = [
     (Act::Announce(3, Kind::Weak, SLOT), 8),
     (Act::Look(EventPlace::Cell(2)), 11),
     (Act::Look(EventPlace::WeakCell(3)), 15),
@@ -282,11 +309,14 @@ const PLACES: [(Act, usize); 9] = [
     (Act::Look(EventPlace::WeakField(SlotId(2))), 62),
     (Act::See(SlotId(2), 15), 78),
     (Act::Scan, 1),
+    (Act::Alive(0), 16),
+    (Act::Claim(SlotId(2)), 121),
+    (Act::Ticket, 122),
 ];
 
 #[test]
 fn places_follow_the_order_of_the_words(rt: HostRuntime) -> Result<(), Fail> {
-    let seat = SeatView::first(rt.alloc(), TWO_SEATS, 1, QUOTA);
+    let seat = SeatView::first(rt.alloc(), TWO_SEATS, 1, QUOTA, &[])?;
     for (act, at) in &PLACES {
         assert_eq!(rt; seat.place(&TWO_SEATS, act), *at);
     }
@@ -296,7 +326,7 @@ fn places_follow_the_order_of_the_words(rt: HostRuntime) -> Result<(), Fail> {
 #[test]
 fn quotas_and_phases_bound_what_a_seat_may(rt: HostRuntime) -> Result<(), Fail> {
     let none = Quota { makes: 0, adds: 1 };
-    let seat = SeatView::first(rt.alloc(), ONE_SEAT, 0, none);
+    let seat = SeatView::first(rt.alloc(), ONE_SEAT, 0, none, &[])?;
     assert!(rt; !seat.may(&ONE_SEAT, &Act::Finish));
     assert!(rt; !seat.may(&ONE_SEAT, &Act::Claim(SLOT)));
     assert!(rt; seat.may(&ONE_SEAT, &Act::Scan));

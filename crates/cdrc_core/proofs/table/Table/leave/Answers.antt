@@ -5,7 +5,8 @@ use Rattle.cdrc_core.proofs.table.Table.leave.Goals as goal
 
 pub take_over-requires : goal.take_over-requires
 take_over-requires c =
-    let so = rw (← c.self.view_is) at c.requires.sound in
+    let kept = rw (← c.self.view_is) at c.requires.kept in
+    let so = kept.sound in
     let on = rw (← c.self.view_is) at c.requires.enabled in
     front_room _ _ _ so on _ _
     (sym c.deref_mut.ensures.value ∙ c.split_at_mut-front.ensures.value)
@@ -13,7 +14,8 @@ take_over-requires c =
 
 pub returns-clause-ok : goal.returns-clause-ok
 returns-clause-ok c =
-    let so = rw (← c.self.view_is) at c.requires.sound in
+    let kept = rw (← c.self.view_is) at c.requires.kept in
+    let so = kept.sound in
     let on = rw (← c.self.view_is) at c.requires.enabled in
     let whole = sym c.deref_mut.ensures.value ∙ c.split_at_mut-front.ensures.value in
     left_state _ _ _ _ c.self.view_is so on _ _ whole c.split_at_mut-front.ensures.front_len

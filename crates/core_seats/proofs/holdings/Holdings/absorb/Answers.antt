@@ -16,7 +16,10 @@ returns-clause-ok c =
       c.reserve-4.ensures.items,
       c.move_all-5.ensures.taken,
       c.reserve-5.ensures.items,
-      c.push_reserved.ensures.items,
+      c.move_all-6.ensures.taken,
       c.reserve-6.ensures.items,
+      c.push_reserved.ensures.items,
+      c.reserve-7.ensures.items,
       c.replace.ensures.value,
+      c.replace-2.ensures.value,
     )

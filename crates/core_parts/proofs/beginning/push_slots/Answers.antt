@@ -1,5 +1,5 @@
 use Rattle.core_parts.proofs.FirstWords.{one_more}
-use Rattle.core_parts.proofs.beginning.first_words.Goals as goal
+use Rattle.core_parts.proofs.beginning.push_slots.Goals as goal
 
 pub loop-slot-preserved : goal.loop-slot-preserved
 loop-slot-preserved c =

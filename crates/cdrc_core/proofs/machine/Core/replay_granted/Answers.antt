@@ -4,11 +4,12 @@ use Rattle.cdrc_core.specs.Replays.{IsFirstRefused}
 use Rattle.cdrc_core.specs.declared.errors.StepError.TheVariants.{NotEnabled, OutOfMemory}
 use Rattle.cdrc_core.proofs.FirstBad.{passed_bad}
 use Rattle.cdrc_core.proofs.Replaying.{replayed_none, replayed_more, replayed_all, replay_refused, replay_on}
-use Rattle.cdrc_core.proofs.machine.Core.replay.Goals as goal
+use Rattle.cdrc_core.proofs.machine.Core.replay_granted.Goals as goal
 
 pub returns-in_err-core-clause-bad : goal.returns-in_err-core-clause-bad
 returns-in_err-core-clause-bad c =
-    passed_bad _ _ _ _ _ (search rules) c.in_err-core.was c.start.ensures.bad
+    passed_bad _ (record { quotas = c.args.quotas.now; grants = c.args.grants.now }) _ _ _
+    (search rules) c.in_err-core.was c.start_granted.ensures.bad
 
 pub loop-at-init : goal.loop-at-init
 loop-at-init c = record {
@@ -30,7 +31,8 @@ returns-in-Err-clause-refused c = λ i e.
     let same : c.loop-at.at ≡ i = cc (e) in
     let why : c.in-Err.error ≡ NotEnabled = cc (e) in
     subst
-    (IsFirstRefused c.args.shape (start c.args.shape c.args.quotas.now) c.args.events.now) same
+    (IsFirstRefused c.args.shape (start c.args.shape
+    (record { quotas = c.args.quotas.now; grants = c.args.grants.now })) c.args.events.now) same
     (replay_refused _ _ _ _ _ _ _ c.loop-at-test.true c.loop-at.invariant.replayed
     (c.in-Err.ensures.refused.0 (ap Err why)))
 
