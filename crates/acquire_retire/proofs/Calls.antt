@@ -53,16 +53,16 @@ module _ {P V : Type 0} (d : DomainState P) where
         is_ready = t.3;
       }
 
-  module _ (next_view : OwnPart → V → PlainAct → ℕ → V)
+  module _ (next_view : OwnPart → OwnPart → V → PlainAct → ℕ → V)
       (allows : Plain → Plain → ℕ → V → V → Type 0) (a : Act)
       (old new : TableSeat (Unit {0}) (SeatView V)) (w : ℕ)
-      (step : Stepped d next_view allows a old w new) where
+      (step : Stepped fits d next_view allows a old w new) where
     -- and what the atomic step told is what the call tells
     pub call_tells : (s : SeatState V) → value_of old ≡ s → (o : Outcome)
         → o ≡ answer d.shape a w old.me.0.core
-        → Steps d next_view allows a s (value_of new) o
+        → Steps fits d next_view allows a s (value_of new) o
     call_tells s is o answers =
-        let T : SeatState V → Type 0 = λ x. Steps d next_view allows a x (value_of new) o in
+        let T : SeatState V → Type 0 = λ x. Steps fits d next_view allows a x (value_of new) o in
         subst T is (record {
           table = step.table;
           word = w;
@@ -71,12 +71,12 @@ module _ {P V : Type 0} (d : DomainState P) where
         })
 
     -- the seat stores what its new view has
-    pub seat_after : (f : Stored → Stored) (s : Stored) (batch_room seen_room dying_room : ℕ)
+    pub seat_after : (f : Stored → Stored) (s : Stored) (batch_room seen_room dying_room ripe_room : ℕ)
         → old.me.0.core.shape ≡ d.shape → s ≡ stored old.me.0.core
-        → HasRooms old.me.0.core batch_room seen_room dying_room
+        → HasRooms old.me.0.core batch_room seen_room dying_room ripe_room
         → kept (moved d.shape a w old.me.0.core) ≡ (f (stored old.me.0.core), old.me.0.core.room)
-        → IsSeat new.me (f s) batch_room seen_room dying_room
-    seat_after f s batch_room seen_room dying_room same stores rooms goes =
+        → IsSeat new.me (f s) batch_room seen_room dying_room ripe_room
+    seat_after f s batch_room seen_room dying_room ripe_room same stores rooms goes =
         let after = ap kept step.told.core ∙ goes in
         let shape = step.told.law.same_shape ∙ sym same in
         let seats = ap (λ (z : Shape). z.seats) shape in

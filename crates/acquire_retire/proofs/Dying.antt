@@ -9,10 +9,10 @@ use Rattle.plain_state.specs.State.{Plain}
 use Rattle.plain_protocol.specs.Owns.{OwnPart}
 use Rattle.core_events.specs.declared.act.Act.{Act}
 use Rattle.core_events.specs.declared.shape.Shape.{Shape}
-use Rattle.core_events.specs.declared.shape.Quota.{Quota}
+use Rattle.core_events.specs.Views.{Terms}
 use Rattle.core_events.specs.declared.view.CoreView.{CoreView}
 use Rattle.core_events.specs.Counts.{one, sum_below}
-use Rattle.core_events.specs.Runs.{AreQuotas, Core, IsShape, after, view_at}
+use Rattle.core_events.specs.Runs.{AreTerms, Core, IsShape, after, view_at}
 use Rattle.core_events.specs.Steps.{moved}
 use Rattle.core_invariant.specs.Sound.{Sound}
 use Rattle.core_law.proofs.Always.{history_sound, step_keeps}
@@ -86,13 +86,13 @@ few_dying_in z c n so hn = few_once z.slots (view_at c n).dying range once
         (cases_lt s.0 z.slots)
 
 -- so is that of a seat after its step
-pub few_dying : {V : Type 0} (z : Shape) (qs : List Quota)
-    (next_view : OwnPart → V → PlainAct → ℕ → V) (allows : Plain → Plain → ℕ → V → V → Type 0)
-    (a : Act) (v : SeatView V) (w : ℕ) (v' : SeatView V) → IsShape z → AreQuotas z qs → IsOwn a
-    → Told z qs next_view allows a v w v' → length v'.core.dying ≤ z.slots
-few_dying z qs next_view allows a v w v' shape quotas own told =
+pub few_dying : {V : Type 0} (z : Shape) (ts : Terms)
+    (next_view : OwnPart → OwnPart → V → PlainAct → ℕ → V) (allows : Plain → Plain → ℕ → V → V → Type 0)
+    (a : Act) (v : SeatView V) (w : ℕ) (v' : SeatView V) → IsShape z → AreTerms z ts → IsOwn a
+    → Told fits z ts next_view allows a v w v' → length v'.core.dying ≤ z.slots
+few_dying z ts next_view allows a v w v' shape quotas own told =
     let h = told.happened in
-    let so = history_sound z qs h.events h.before shape quotas h.history in
+    let so = history_sound z ts h.events h.before shape quotas h.history in
     let n = v.core.seat in
     let on = h.enabled in
     let so' = step_keeps z h.before n a so on in
@@ -106,19 +106,19 @@ few_dying z qs next_view allows a v w v' shape quotas own told =
 
 -- before a step that made it longer there was room for one more
 pub room_to_end : {P V : Type 0} (d e : DomainState P) → e ≡ d → (kept : Shape)
-    → IsDomain e.table e.shape e.quotas kept
-    → (next_view : OwnPart → V → PlainAct → ℕ → V) (allows : Plain → Plain → ℕ → V → V → Type 0)
+    → IsDomain e.table e.shape e.terms kept
+    → (next_view : OwnPart → OwnPart → V → PlainAct → ℕ → V) (allows : Plain → Plain → ℕ → V → V → Type 0)
     (a : Act) (old new : TableSeat (Unit {0}) (SeatView V)) (w : ℕ)
-    → Stepped d next_view allows a old w new → IsOwn a → old.me.0.core.shape ≡ d.shape
-    → (s : Stored) (batch_room seen_room dying_room : ℕ)
-    → IsSeat old.me s batch_room seen_room dying_room
+    → Stepped fits d next_view allows a old w new → IsOwn a → old.me.0.core.shape ≡ d.shape
+    → (s : Stored) (batch_room seen_room dying_room ripe_room : ℕ)
+    → IsSeat old.me s batch_room seen_room dying_room ripe_room
     → (x : SlotId) → (moved d.shape a w old.me.0.core).dying ≡ old.me.0.core.dying ++ x ∷ []
     → length s.dying < dying_room
 room_to_end d e same kept in_domain next_view allows a old new w step own shape s batch_room
-    seen_room dying_room seat x longer =
-    let ranges = subst (λ (f : DomainState _). IsShape f.shape × AreQuotas f.shape f.quotas) same
-    (in_domain.shape, in_domain.quotas) in
-    let few = few_dying d.shape d.quotas next_view allows a old.me.0 w new.me.0 ranges.0 ranges.1
+    seen_room dying_room ripe_room seat x longer =
+    let ranges = subst (λ (f : DomainState _). IsShape f.shape × AreTerms f.shape f.terms) same
+    (in_domain.shape, in_domain.terms) in
+    let few = few_dying d.shape d.terms next_view allows a old.me.0 w new.me.0 ranges.0 ranges.1
     own step.told in
     let after = ap (λ (u : CoreView). length u.dying) step.told.core ∙ ap length longer in
     let more = length-append old.me.0.core.dying (x ∷ []) in

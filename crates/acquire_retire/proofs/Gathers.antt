@@ -9,8 +9,8 @@ use Rattle.acquire_retire.specs.Seats.{SeatState}
 use Rattle.acquire_retire.proofs.Collects.{goes_append}
 
 pub collects_by : {P V : Type 0} (d : DomainState P) (a b c : SeatState V) (go ended : ℕ)
-    → Splits d a b go → PaysFor d b c go ended
-    → Collects d a c (record { scanned = announcements d.shape; ejected = go; ended = ended })
+    → Splits fits d a b go → PaysFor fits d b c go ended
+    → Collects fits d a c (record { scanned = announcements d.shape; ejected = go; ended = ended })
 collects_by d a b c go ended split paid =
     let payments = paid.0 in
     let pays = paid.1 in
@@ -27,7 +27,7 @@ collects_by d a b c go ended split paid =
       payments = payments;
       all = split.all;
       goes =
-          subst (λ (n : ℕ × ℕ). Goes d (scanned_by split.seen split.last n.0 n.1
+          subst (λ (n : ℕ × ℕ). Goes fits d (scanned_by split.seen split.last n.0 n.1
           ++ flat_map paid_by payments) a c) (λ i. (sym stay i, sym all i)) goes;
       did =
           λ i. record {

@@ -36,7 +36,7 @@ use Rattle.acquire_retire.specs.Wholes.{IsSame, KnowsCore, core_known, known_cor
 
 module _ {P V : Type 0} (d : DomainState P) (fits : List ℕ → Type 0)
     (old new : TableSeat (Unit {0}) (SeatView V)) (word w : ℕ) (table : new.table_id ≡ old.table_id)
-    (read : HasRead fits d.shape d.quotas word w old.me.0 new.me.0) (carries : new.me.1 ≡ old.me.1)
+    (read : HasRead fits d.shape d.terms word w old.me.0 new.me.0) (carries : new.me.1 ≡ old.me.1)
     (knows : IsSome old.me.0.whole) where
   view_stays : new.me.0 ≡ old.me.0
   view_stays = read.same
@@ -59,8 +59,8 @@ module _ {P V : Type 0} (d : DomainState P) (fits : List ℕ → Type 0)
     here = here;
     knows = knows;
     sound = subst (Sound d.shape) (sym core_is)
-        (history_sound d.shape d.quotas read.found.events read.found.core read.found.shape
-        read.found.quotas read.found.history);
+        (history_sound d.shape d.terms read.found.events read.found.core read.found.shape
+        read.found.terms read.found.history);
     fit = subst (λ (c : Core). AllFit fits (shows d.shape c)) (sym core_is) read.found.fit;
     half = subst (λ (v : SeatView V). v.core ≡ view_at read.found.core v.core.seat) view_stays
         read.found.says.core

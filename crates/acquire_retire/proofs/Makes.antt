@@ -53,7 +53,7 @@ word_more payload new n there words i below = ⊎_elim
 module _ {P V : Type 0} (d : DomainState P) (s : SlotId) (payload : List ℕ) where
   pub fill_more : (n : ℕ) (a b c : SeatState V) (o : Outcome)
       → a.view.core.phase ≡ phase.Blank s → n < 16 → Fills payload n s a b
-      → Steps d same_view IsSameView (act.Fill n (slice_index payload n)) b c o
+      → Steps fits d same_view IsSameView (act.Fill n (slice_index payload n)) b c o
       → Fills payload (n + 1) s a c
   fill_more n a b c o blank below had step =
       let x = slice_index payload n in
@@ -101,7 +101,7 @@ module _ {P V : Type 0} (d : DomainState P) (s : SlotId) (payload : List ℕ) wh
       }
 
   pub claim_holds : (a b : SeatState V) (o : Outcome) → o ≡ outcome.Claimed
-      → Steps d same_view IsSameView (act.Claim s) a b o → Claimed a b
+      → Steps fits d same_view IsSameView (act.Claim s) a b o → Claimed a b
   claim_holds a b o is step =
       but_trail (record a.view.core { makes = a.view.core.makes + 1; phase = phase.Blank s })
       b.view.core _
@@ -122,7 +122,7 @@ module _ {P V : Type 0} (d : DomainState P) (s : SlotId) (payload : List ℕ) wh
       go false e = absurd (cc (e))
 
   pub made : (a b c e : SeatState V) (o : Outcome) → Claimed a b → Fills payload 16 s b c
-      → Steps d same_view IsSameView act.Start c e o → HasMade s a e
+      → Steps fits d same_view IsSameView act.Start c e o → HasMade s a e
   made a b c e o claimed fills step =
       but_trail (with_made s a.view.core) e.view.core _
       (step.told.core ∙ ap (λ (v : CoreView). moved d.shape act.Start step.word v)

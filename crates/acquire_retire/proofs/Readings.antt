@@ -88,9 +88,9 @@ few_kept (e ∷ es) seen = go (is_seen (code_of e) seen) refl (few_kept es)
     go false is rest = rest seen
 
 module _ {P V : Type 0} (d : DomainState P) where
-  pub reads_more : (seen : List ℕ) (a b c : SeatState V) (o : Outcome) → Reads d seen a b
-      → length seen + 1 < announcements d.shape → (step : Steps d same_view IsSameView act.Scan b c o)
-      → Reads d (seen ++ step.word ∷ []) a c
+  pub reads_more : (seen : List ℕ) (a b c : SeatState V) (o : Outcome) → Reads fits d seen a b
+      → length seen + 1 < announcements d.shape → (step : Steps fits d same_view IsSameView act.Scan b c o)
+      → Reads fits d (seen ++ step.word ∷ []) a c
   reads_more seen a b c o before more step =
       let w = step.word in
       let v = b.view.core in
@@ -102,7 +102,7 @@ module _ {P V : Type 0} (d : DomainState P) where
       let one = goes_by d act.Scan (outcome.Word w) b c tt o answers step in
       record {
         goes =
-            subst (λ (ms : List Move). Goes d ms a c)
+            subst (λ (ms : List Move). Goes fits d ms a c)
             (sym (map-append (λ w. move act.Scan (outcome.Word w)) seen (w ∷ [])))
             (goes_append d (read_by seen) (move act.Scan (outcome.Word w) ∷ []) a b c before.goes
             one);
@@ -123,7 +123,7 @@ module _ {P V : Type 0} (d : DomainState P) where
     pub phase : c.view.core.phase ≡ phase.Idle
 
   scan_ends : (b c : SeatState V) (o : Outcome) → is_last d.shape b.view.core ≡ true
-      → Steps d same_view IsSameView act.Scan b c o → LastRead b c o
+      → Steps fits d same_view IsSameView act.Scan b c o → LastRead b c o
   scan_ends b c o last step =
       let w = step.word in
       let v = b.view.core in
@@ -148,9 +148,9 @@ module _ {P V : Type 0} (d : DomainState P) where
 
   -- the seat has read all words but one, and then the last
   pub splits_by : (seen : List ℕ) (a b c : SeatState V) (o : Outcome) → IsIdle a.view.core
-      → length seen + 1 ≡ announcements d.shape → Reads d seen a b
-      → Steps d same_view IsSameView act.Scan b c o
-      → (word stay go : ℕ) → o ≡ outcome.Split word stay go → Splits d a c go
+      → length seen + 1 ≡ announcements d.shape → Reads fits d seen a b
+      → Steps fits d same_view IsSameView act.Scan b c o
+      → (word stay go : ℕ) → o ≡ outcome.Split word stay go → Splits fits d a c go
   splits_by seen a b c o idle all before step word stay go is =
       let reads = before.reads in
       let len : length b.view.core.seen ≡ length seen = ap length reads in
@@ -166,7 +166,7 @@ module _ {P V : Type 0} (d : DomainState P) where
         last = ends.word;
         all = all;
         goes =
-            subst (λ n. Goes d (scanned_by seen ends.word (length c.view.core.retired) n) a c) same
+            subst (λ n. Goes fits d (scanned_by seen ends.word (length c.view.core.retired) n) a c) same
             goes;
         idle = is_idle_after d (read_by seen ++ move act.Scan o' ∷ []) a c idle goes ends.phase;
         owed = ends.owed ∙ same;

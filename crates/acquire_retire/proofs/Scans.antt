@@ -34,10 +34,10 @@ use Rattle.acquire_retire.specs.Seats.{HasRooms, IsSeat, Stored, stored}
 use Rattle.acquire_retire.proofs.Calls.{kept, seat_after}
 
 -- there is room for the word that comes next
-pub room_to_read : (v : CoreView) (s : Stored) (batch_room seen_room dying_room : ℕ)
-    → SeatLaw v.shape v.seat v → s ≡ stored v → HasRooms v batch_room seen_room dying_room
+pub room_to_read : (v : CoreView) (s : Stored) (batch_room seen_room dying_room ripe_room : ℕ)
+    → SeatLaw v.shape v.seat v → s ≡ stored v → HasRooms v batch_room seen_room dying_room ripe_room
     → length s.seen < seen_room
-room_to_read v s batch_room seen_room dying_room law stores rooms =
+room_to_read v s batch_room seen_room dying_room ripe_room law stores rooms =
     let few = fewer v.seen in
     let had = ap (λ (t : Stored). length t.seen) stores in
     let reads = law.reads in
@@ -108,10 +108,10 @@ reads_last z y v s same stores last =
     let seats = ap (λ (x : Shape). x.seats) same in
     let all : length v.seen + 1 ≡ 4 * z.seats = omega arith in grind (arith, nat_tests)
 
-module _ {P V : Type 0} (d : DomainState P) (next_view : OwnPart → V → PlainAct → ℕ → V)
+module _ {P V : Type 0} (d : DomainState P) (next_view : OwnPart → OwnPart → V → PlainAct → ℕ → V)
     (allows : Plain → Plain → ℕ → V → V → Type 0) (old new : TableSeat (Unit {0}) (SeatView V))
-    (w : ℕ) (step : Stepped d next_view allows act.Scan old w new) (s : Stored)
-    (batch_room seen_room dying_room : ℕ) (seat : IsSeat old.me s batch_room seen_room dying_room)
+    (w : ℕ) (step : Stepped fits d next_view allows act.Scan old w new) (s : Stored)
+    (batch_room seen_room dying_room ripe_room : ℕ) (seat : IsSeat old.me s batch_room seen_room dying_room ripe_room)
     (same : old.me.0.core.shape ≡ d.shape) (last : is_last d.shape old.me.0.core ≡ true) where
   alike : SplitAlike old.me.0.core.retired (all_seen w old.me.0.core)
       (announced_in (announcements old.me.0.core.seen ++ announcements (w ∷ [])))
@@ -123,9 +123,9 @@ module _ {P V : Type 0} (d : DomainState P) (next_view : OwnPart → V → Plain
       split_alike d.shape old.me.0.core.seat old.me.0.core w law (omega arith)
 
   -- the seat is one after the last word
-  pub scan_ends : IsSeat new.me (last_stored w s) batch_room seen_room dying_room
+  pub scan_ends : IsSeat new.me (last_stored w s) batch_room seen_room dying_room ripe_room
   scan_ends = seat_after d next_view allows act.Scan old new w step (last_stored w) s batch_room
-      seen_room dying_room same seat.stores seat.rooms
+      seen_room dying_room ripe_room same seat.stores seat.rooms
       (last_kept d.shape old.me.0.core w last alike)
 
   -- and the call answers how many entries stay and go

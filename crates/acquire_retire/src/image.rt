@@ -2,7 +2,7 @@
 ghost use Rattle.std.specs.Prelude.{◌≡◌, ◌+◌, ◌<◌, ◌≤◌, false, IfOk, IsSome};
 ghost use Rattle.plain_state.specs.Images.{IsImage, image_at};
 ghost use Rattle.plain_state.specs.State.{seat_at};
-ghost use Rattle.core_events.specs.Shows.{each_from};
+ghost use Rattle.core_events.specs.Words.{each_from};
 ghost use Rattle.core_events.specs.Steps.{CanLeave};
 ghost use Rattle.core_events.specs.Words.{word_count};
 ghost use Rattle.domain_rule.specs.Views.{IsAlone};

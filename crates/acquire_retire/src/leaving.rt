@@ -9,6 +9,7 @@ use crate::domain::Domain;
 use crate::seat::{Seat, SeatOf};
 use crate::site::Site;
 use atomic_table::Join;
+use core_parts::move_all;
 use domain_rule::SeatView;
 use plain_protocol::Protocol;
 use std::marker::{Brand, PhantomData};
@@ -66,11 +67,13 @@ impl<P: Protocol> Domain<P> {
             seat,
             mut batch,
             mut dying,
+            mut ripe,
             ..
         } = seat;
         self.join(&mut root.seat, seat);
         root.batch.absorb(&mut batch);
-        let _moved = root.dying.append(&mut dying);
+        move_all(&mut dying, &mut root.dying);
+        move_all(&mut ripe, &mut root.ripe);
         root.left += 1;
     }
 }

@@ -7,7 +7,7 @@ ghost use Rattle.acquire_retire.specs.Calls.{IsOf, IsReady, IsSameView, Steps, s
 
 use crate::domain::Domain;
 use crate::seat::Seat;
-use crate::splitting::split;
+use crate::splitting::{ripen, split};
 use core_events::{Act, EventPlace, Kind, Note, Outcome, Phase, SlotId};
 use core_parts::{announced_as, found_in, held_as, note_index, place_index};
 use plain_protocol::{Deed, Protocol, Still};
@@ -18,8 +18,8 @@ impl<P: Protocol> Domain<P> {
     pub fn announce(&self, seat: &mut Seat<P>, note: u32, kind: Kind, slot: SlotId) -> Outcome
         requires seat { IsOf self.now seat.old }
         requires may { May self.now.shape (act.Announce note kind slot) seat.old.view.core }
-        ensures { Steps self.now same_view IsSameView (act.Announce note kind slot) seat.old
-            seat.new result }
+        ensures { Steps P.Kind.fits self.now same_view IsSameView (act.Announce note kind slot)
+            seat.old seat.new result }
     {
         let at = note_index(seat.number, note);
         let code = announced_as(kind, slot);
@@ -38,7 +38,8 @@ impl<P: Protocol> Domain<P> {
     pub fn release(&self, seat: &mut Seat<P>, note: u32) -> Outcome
         requires seat { IsOf self.now seat.old }
         requires may { May self.now.shape (act.Release note) seat.old.view.core }
-        ensures { Steps self.now same_view IsSameView (act.Release note) seat.old seat.new result }
+        ensures { Steps P.Kind.fits self.now same_view IsSameView (act.Release note)
+            seat.old seat.new result }
     {
         let at = note_index(seat.number, note);
         self.store_as::<Still, Brand>(&mut seat.seat, Act::Release(note), Still, at, 0);
@@ -52,7 +53,7 @@ impl<P: Protocol> Domain<P> {
         requires may { May self.now.shape (act.Look place) seat.old.view.core }
         requires deed { IsReady (D.ready deed self.now.protocol) self.now.shape (act.Look place)
             seat.old.view }
-        ensures { Steps self.now (D.next deed self.now.protocol)
+        ensures { Steps P.Kind.fits self.now (D.next deed self.now.protocol)
             (D.allows deed self.now.protocol) (act.Look place) seat.old seat.new result }
     {
         let at = place_index(&self.shape, place);
@@ -73,7 +74,7 @@ impl<P: Protocol> Domain<P> {
         requires may { May self.now.shape (act.Check note place) seat.old.view.core }
         requires deed { IsReady (D.ready deed self.now.protocol) self.now.shape
             (act.Check note place) seat.old.view }
-        ensures { Steps self.now (D.next deed self.now.protocol)
+        ensures { Steps P.Kind.fits self.now (D.next deed self.now.protocol)
             (D.allows deed self.now.protocol) (act.Check note place) seat.old seat.new result }
     {
         let at = place_index(&self.shape, place);
@@ -88,11 +89,13 @@ impl<P: Protocol> Domain<P> {
     }
 
     /// Reads the next announcement word of the domain. The last one splits the retired entries: of equal ones as many
-    /// stay as were announced, and the others become owed.
+    /// stay as were announced, and the others become owed; and the dying slots that no word announces for disposal
+    /// become ripe.
     pub fn scan(&self, seat: &mut Seat<P>) -> Outcome
         requires seat { IsOf self.now seat.old }
         requires may { May self.now.shape act.Scan seat.old.view.core }
-        ensures { Steps self.now same_view IsSameView act.Scan seat.old seat.new result }
+        ensures { Steps P.Kind.fits self.now same_view IsSameView act.Scan
+            seat.old seat.new result }
     {
         let at = 1 + seat.read as usize;
         let found = self.load_as::<Still, Brand>(&mut seat.seat, Act::Scan, Still, at);
@@ -103,6 +106,7 @@ impl<P: Protocol> Domain<P> {
             return Outcome::Word(found);
         }
         let (stay, go) = split(&mut seat.batch, &seat.seen);
+        ripen(&mut seat.ripe, &seat.dying, &seat.seen);
         seat.seen.clear();
         seat.read = 0;
         seat.phase = Phase::Idle;
