@@ -7,3 +7,4 @@ pub mod Reported
 pub mod Scan
 pub mod Sorting
 pub mod Unique
+pub mod Drawing

@@ -4,3 +4,4 @@ pub mod Refused
 pub mod Report
 pub mod Tally
 pub mod Text
+pub mod Generated

@@ -6,6 +6,7 @@ ghost use Rattle.std.specs.Map.{keys_of};
 ghost use Rattle.cdrc_text.specs.declared.row.Row.{Row};
 ghost use Rattle.cdrc_text.specs.declared.row.Totals.{Totals};
 ghost use Rattle.cdrc_text.specs.Fold.{IsWords, occurrences_of};
+ghost use Rattle.cdrc_text.specs.Generated.{generated_text};
 ghost use Rattle.cdrc_text.specs.Pieces.{pieces_of, places_of};
 ghost use Rattle.cdrc_text.specs.Report.{report_of};
 ghost use Rattle.cdrc_text.specs.Tally.{ListsWords, count_of};
@@ -58,4 +59,11 @@ pub fn worked_texts()
         ≡ codes "3 1 a\n9 2 b\n3 1 c\nfiles 2 pieces 5 distinct 3\n"
         ++ codes "held live 3 deferred 0 cyclic 0 bytes 3\n"
         ++ codes "freed live 0 deferred 0 cyclic 0 bytes 0\n" }
+{}
+
+/// Worked words of a seed: two draws from 0, eleven words of a vocabulary of one word, and none.
+pub fn worked_words()
+    ensures two { generated_text 0 2 10 ≡ codes "w7 w4\n" }
+    ensures eleven { generated_text 5 11 1 ≡ codes "w0 w0 w0 w0 w0 w0 w0 w0 w0 w0\nw0\n" }
+    ensures none { generated_text 5 0 1 ≡ [] }
 {}

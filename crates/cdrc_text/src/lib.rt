@@ -18,6 +18,7 @@
 
 mod cut;
 mod error;
+mod generated;
 pub mod laws;
 mod lines;
 mod places;
@@ -28,6 +29,7 @@ mod tests;
 
 pub use crate::cut::pieces;
 pub use crate::error::PiecesError;
+pub use crate::generated::generate;
 pub use crate::lines::{push_number, report};
 pub use crate::places::Pieces;
 pub use crate::row::{AuditLine, Row, Totals};

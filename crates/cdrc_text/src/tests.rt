@@ -1,4 +1,4 @@
-use crate::{AuditLine, Pieces, PiecesError, Row, Tally, Totals, pieces, report};
+use crate::{AuditLine, Pieces, PiecesError, Row, Tally, Totals, generate, pieces, report};
 use out_of_memory::OutOfMemory;
 use std::alloc::Global;
 use std::test::Fail;
@@ -187,5 +187,24 @@ fn reports_without_rows_and_with_every_number(rt: HostRuntime) -> Result<(), Fai
         b"18446744073709551615 10 \xFF\xFE\nfiles 4096 pieces 1000000 distinct 1\n\
         held live 1 deferred 2 cyclic 3 bytes 4\nfreed live 5 deferred 6 cyclic 7 bytes 8\n";
     assert!(rt; text.as_slice() == expected);
+    Ok(())
+}
+
+#[test]
+fn words_are_drawn_ten_to_a_line(rt: HostRuntime) -> Result<(), Fail> {
+    for (seed, words, vocabulary, expected) in [
+        (0, 2, 10, "w7 w4\n"),
+        (5, 11, 1, "w0 w0 w0 w0 w0 w0 w0 w0 w0 w0\nw0\n"),
+        (5, 10, 1, "w0 w0 w0 w0 w0 w0 w0 w0 w0 w0\n"),
+        (5, 0, 1, ""),
+    ] {
+        let Ok(text) = generate(rt.alloc(), seed, words, vocabulary) else {
+            panic!(rt; "no memory")
+        };
+        assert!(rt;
+            text.as_slice() == expected.as_bytes(),
+            "{words} of {vocabulary} from {seed}"
+        );
+    }
     Ok(())
 }

@@ -1,8 +1,11 @@
 -- The words of a command line name one task and one file.
-use Rattle.std.proofs.Common.{ℕ, ◌≡◌, ◌<◌, ◌≤◌, subst, ap, List, [], ◌∷◌, codes, get_or, length, map, inl, inr, refl, arith}
+use Rattle.std.proofs.Common.{ℕ, ◌≡◌, ◌<◌, ◌≤◌, subst, ap, ◌∙◌, List, [], ◌∷◌, codes, get_or, length, map, inl, inr, refl, arith}
 use Rattle.cdrc_words.specs.declared.command.Task.{Task}
 use Rattle.cdrc_words.specs.declared.command.Task.TheVariants.{Words, Script, Steps}
-use Rattle.cdrc_words.specs.Commands.{Asks, IsOneFile, IsOperand}
+use Rattle.line_words.specs.Number.{IsNumber}
+use Rattle.line_words.proofs.Decimal.{one-number_of}
+use Rattle.cdrc_words.specs.declared.drawing.Draws.{Draws}
+use Rattle.cdrc_words.specs.Commands.{Asks, AsksText, IsDraws, IsOneFile, IsOperand, operands_of}
 
 -- a list of two, from its items
 pub two_items : {A B : Type 0} (f : A → B) (xs : List A) (a b : A) → 2 ≤ length xs → length xs < 3 →
@@ -60,3 +63,38 @@ one_asked line Steps Script f g (rest, a, p) (more, b, q) =
     absurd (script_or_steps (letter 1 line) (ap (letter 1) b) (ap (letter 1) a))
 one_asked line Steps Steps f g (rest, a, p) (more, b, q) =
     (refl, one_file rest f g p (subst (λ (words : List (List ℕ)). IsOneFile words g) (cc (a, b)) q))
+
+gen_or_words : (n : ℕ) → n ≡ 103 → n ≡ 119 → ⊥
+gen_or_words n draws words = omega arith
+
+gen_or_script : (n : ℕ) → n ≡ 103 → n ≡ 115 → ⊥
+gen_or_script n draws script = omega arith
+
+-- words that ask for draws ask for no task
+pub text_or_task : (line : List (List ℕ)) (draws : Draws) (t : Task) (f : List ℕ) → AsksText line draws → Asks line t f → ⊥
+text_or_task line draws Words f (rest, a, p) (b, q) =
+    gen_or_words (letter 0 line) (ap (letter 0) a) (ap (letter 0) b)
+text_or_task line draws Script f (rest, a, p) (more, b, q) =
+    gen_or_script (letter 0 line) (ap (letter 0) a) (ap (letter 0) b)
+text_or_task line draws Steps f (rest, a, p) (more, b, q) =
+    gen_or_script (letter 0 line) (ap (letter 0) a) (ap (letter 0) b)
+
+one_draws : (operands : List (List ℕ)) (d e : Draws) → IsDraws operands d → IsDraws operands e → d ≡ e
+one_draws operands d e (a, b, c, is, seed, words, vocabulary) (x, y, z, are, first, second, third) =
+    let same : (a ≡ x) × (b ≡ y) × (c ≡ z) = (cc (is, are), cc (is, are), cc (is, are)) in
+    let seeds : d.seed ≡ e.seed = one-number_of x d.seed e.seed
+    (subst (λ (word : List ℕ). IsNumber word d.seed) same.0 seed.0) first.0 in
+    let words' : d.words ≡ e.words = one-number_of y d.words e.words
+    (subst (λ (word : List ℕ). IsNumber word d.words) same.1 words.0) second.0 in
+    let vocabularies : d.vocabulary ≡ e.vocabulary = one-number_of z d.vocabulary e.vocabulary
+    (subst (λ (word : List ℕ). IsNumber word d.vocabulary) same.2 vocabulary.0) third.0 in
+    let draws : ℕ → ℕ → ℕ → Draws = λ n many size. record { seed = n; words = many; vocabulary = size } in
+    ap (λ (n : ℕ). draws n d.words d.vocabulary) seeds
+    ∙ ap (λ (many : ℕ). draws e.seed many d.vocabulary) words'
+    ∙ ap (draws e.seed e.words) vocabularies
+
+-- the words name one drawing
+pub one_text : (line : List (List ℕ)) (d e : Draws) → AsksText line d → AsksText line e → d ≡ e
+one_text line d e (rest, a, p) (more, b, q) =
+    let same : more ≡ rest = cc (a, b) in
+    one_draws (operands_of rest) d e p (subst (λ (words : List (List ℕ)). IsDraws (operands_of words) e) same q)

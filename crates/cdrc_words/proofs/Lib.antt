@@ -8,3 +8,4 @@ pub mod OneFileText
 pub mod Turns
 pub mod Lines
 pub mod Asked
+pub mod Operands

@@ -1,13 +1,15 @@
 -- What a run wrote, and what caused a refusal.
-use Rattle.std.specs.Prelude.{ℕ, ◌≡◌, ◌<◌, ◌≤◌, ◌⊎◌, Bool, true, false, List, [], ◌∷◌, length, take, IfSome, MatchOption}
+use Rattle.std.specs.Prelude.{ℕ, ◌≡◌, ◌<◌, ◌≤◌, ◌⊎◌, Bool, false, List, [], ◌∷◌, length, take, IfSome, MatchOption}
 use Rattle.std.specs.Io.KnownBytes.{append_known}
 use Rattle.std.specs.declared.option.Option.{Option}
 use Rattle.cdrc_text.specs.Pieces.{pieces_of}
+use Rattle.cdrc_text.specs.Generated.{generated_text}
 use Rattle.cdrc_text.specs.Text.{IsText}
 use Rattle.cdrc_scripts.specs.Meaning.{IsScript}
 use Rattle.cdrc_steps.specs.Meaning.{IsSteps}
 use Rattle.lane_gate.specs.Causes.{Rose}
 use Rattle.cdrc_words.specs.declared.command.Task.{Task}
+use Rattle.cdrc_words.specs.declared.drawing.Draws.{Draws}
 use Rattle.cdrc_words.specs.declared.command.Task.TheVariants.{Words, Script, Steps}
 
 -- the content is within the limits of the task: at most 67,108,864 bytes, and 1,000,000 pieces to be counted
@@ -71,3 +73,15 @@ HasTooMany task = (content : List ℕ) × (length content ≤ 67108864) × Passe
 abbrev pub IsTooLarge : Task → Option (List ℕ) → ℕ → ℕ → Type 0
 IsTooLarge task told before now =
     MatchOption told (Rose before now ⊎ HasTooMany task) (PassesLimit task)
+
+-- the text that draws give
+abbrev pub text_of_draws : Draws → List ℕ
+text_of_draws draws = generated_text draws.seed draws.words draws.vocabulary
+
+-- the end of a run whose output is these bytes: with 0 a sink took them all, with 4 a front of them, with 9 a front or
+-- nothing. A front is never all, and there is no other status
+abbrev pub EndsWith : List ℕ → ℕ → Option (List ℕ) → Option (List ℕ) → Type 0
+EndsWith bytes status before now =
+    ((status ≡ 0) × TookAll bytes before now)
+    ⊎ ((status ≡ 4) × TookPart bytes before now)
+    ⊎ ((status ≡ 9) × ((now ≡ before) ⊎ TookPart bytes before now))

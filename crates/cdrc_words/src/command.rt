@@ -1,6 +1,6 @@
 //! The words of the command line.
 ghost use Rattle.std.specs.Prelude.{◌≡◌, ◌↔◌, IfSome, IsTrue, IsSome, map, string_bytes};
-ghost use Rattle.cdrc_words.specs.Commands.{Asks, IsCommand, IsOneFile, IsOperand};
+ghost use Rattle.cdrc_words.specs.Commands.{Asks, AsksTask, IsOneFile, IsOperand};
 
 /// What is to be done with a file.
 #[derive(Clone, Copy, PartialEq, Eq, Debug, Drop)]
@@ -36,10 +36,10 @@ fn one_file(words: &[String]) -> Option<&str>
     }
 }
 
-/// What the words ask for, and the name of its file. None exactly where they aren't understood.
+/// What the words ask for, and the name of its file. None exactly where they ask for no task on a file.
 pub fn asked(words: &[String]) -> Option<(Task, &str)>
     ensures found { IfSome result (λ found. Asks (map string_bytes words.now) found.0 found.1.now) }
-    ensures exactly { IsSome result ↔ IsCommand (map string_bytes words.now) }
+    ensures exactly { IsSome result ↔ AsksTask (map string_bytes words.now) }
 {
     let (command, rest) = words.split_first()?;
     match command.as_str() {

@@ -1,7 +1,28 @@
 //! What a status means.
+ghost use Rattle.std.specs.Prelude.{◌≡◌, ◌≢◌, IfErr, IfOk};
+ghost use Rattle.std_io.specs.declared.io.kind.ErrorKind.TheVariants as kinds;
+ghost use Rattle.cdrc_words.specs.Statuses.{line_for};
+
+use std::io::ErrorKind;
+
+/// The status that the process ends with: that of the run; where the words of the command line couldn't be had, 9 for
+/// want of memory, and else 2, since a word that isn't UTF-8 is no word of the grammar.
+pub fn exit_status(outcome: Result<u8, ErrorKind>) -> u8
+    ensures ran { IfOk outcome (λ status. result ≡ status) }
+    ensures memory { outcome ≡ Err kinds.OutOfMemory → result ≡ 9 }
+    ensures other { IfErr outcome (λ kind. kind ≢ kinds.OutOfMemory → result ≡ 2) }
+{
+    match outcome {
+        Ok(status) => status,
+        Err(ErrorKind::OutOfMemory) => 9,
+        Err(_) => 2,
+    }
+}
 
 /// The line for a status on standard error; empty where the work was done.
-pub fn explain(status: u8) -> &'static str {
+pub fn explain(status: u8) -> &'static str
+    ensures { result.now ≡ line_for status }
+{
     match status {
         0 => "",
         2 => "cdrc_words: usage",

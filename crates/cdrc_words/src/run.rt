@@ -2,12 +2,14 @@
 ghost use Rattle.std.specs.Prelude.{◌≡◌, ◌≢◌, ◌↔◌, ◌≤◌, ◌⊎◌, ℕ, List, IfErr, IfOk, IfSome, length, map, string_bytes, true, false};
 ghost use Rattle.lane_gate.specs.Causes.{Rose, Stood};
 ghost use Rattle.cdrc_words.specs.declared.command.Task.{Task as Work};
-ghost use Rattle.cdrc_words.specs.Commands.{Asks, IsCommand};
-ghost use Rattle.cdrc_words.specs.Outcomes.{IsContent, IsTooLarge, IsTooLong, IsWithinLimits, PassesLimit, TookOutput, TookPartOfOutput};
+ghost use Rattle.cdrc_words.specs.declared.drawing.Draws.{Draws as Drawing};
+ghost use Rattle.cdrc_words.specs.Commands.{Asks, AsksText, IsCommand};
+ghost use Rattle.cdrc_words.specs.Outcomes.{EndsWith, IsContent, IsTooLarge, IsTooLong, IsWithinLimits, PassesLimit, TookOutput, TookPartOfOutput, text_of_draws};
 ghost use Rattle.cdrc_words.specs.Statuses.{IsStatus};
 ghost use Rattle.cdrc_words.specs.declared.outcome.Refusal.TheVariants as refusal;
 
 use crate::command::{Task, asked};
+use crate::drawing::{asked_draws, draw_words};
 use crate::limits::MOST_BYTES;
 use crate::outcome::{End, Refusal, Why};
 use crate::output::write_all;
@@ -17,8 +19,8 @@ use std::alloc::Global;
 use std::sync::Wait;
 use std::thread::Threads;
 
-/// Does what the words say: reads the file by its name, counts its words, runs its script or checks its steps, and
-/// offers the output to the sink.
+/// Does what the words say: reads the file by its name, counts its words, runs its script or checks its steps; or draws
+/// words and reads nothing. It offers the output to the sink.
 ///
 /// The status is 0 where the work was done; 2 exactly where the words aren't understood; 3 only where the source's
 /// count of faults rose in this call; 4 only where the sink's did; 5 exactly where the content passes a limit, which is
@@ -68,7 +70,14 @@ pub fn run<R: Threads + Wait + Sync, F: Files, K: Sink, G: Gate + Sync>(
         ⊎ TookPartOfOutput task (F.told files.old file) (K.taken sink.old) (K.taken sink.new) }
     ensures nothing { (result.status ≡ 2) ⊎ (result.status ≡ 3) ⊎ (result.status ≡ 5) →
         K.taken sink.new ≡ K.taken sink.old }
+    ensures drawn { (draws : Drawing) → AsksText (map string_bytes words.now) draws →
+        EndsWith (text_of_draws draws) result.status (K.taken sink.old) (K.taken sink.new) }
+    ensures unread { (draws : Drawing) → AsksText (map string_bytes words.now) draws →
+        files.new ≡ files.old }
 {
+    if let Some(draws) = asked_draws(words) {
+        return draw_words(alloc, draws, sink);
+    }
     let Some((task, name)) = asked(words) else {
         return End::of(Err(Refusal::Usage));
     };

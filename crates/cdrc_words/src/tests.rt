@@ -38,7 +38,7 @@ fn file_of_bytes(alloc: Global, content: &[u8]) -> Result<Vec<(String, Vec<u8>)>
 }
 
 /// The status of a run of these words, at the gate that holds nobody.
-fn status_of<R: Threads + Wait + Sync, F: Files, K: Sink>(
+pub fn status_of<R: Threads + Wait + Sync, F: Files, K: Sink>(
     rt: &R,
     alloc: Global,
     line: &str,

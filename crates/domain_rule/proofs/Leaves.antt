@@ -1,6 +1,6 @@
 -- Seat 0 keeps the rule where it takes over what another seat has, and that seat leaves.
-use Rattle.std.proofs.Common.{◌≡◌, ◌≢◌, ⊎_elim, ℕ, ◌+◌, ◌<◌, ◌≤◌, Bool, true, false, List, ◌∷◌, length, get_or, set, refl, ap, sym, ◌∙◌, subst, arith}
-use Rattle.std.specs.Prelude.{if◌then◌else◌}
+use Rattle.std.proofs.Common.{◌≡◌, ◌≢◌, ◌⊎◌, inl, inr, ⊎_elim, ℕ, ◌+◌, ◌<◌, ◌≤◌, Bool, true, false, List, [], ◌∷◌, ◌++◌, length, get_or, set, refl, ap, sym, ◌∙◌, subst, arith}
+use Rattle.std.specs.Prelude.{slice_index, if◌then◌else◌}
 use Rattle.std.proofs.lemmas.List.{length-set, length-map, set-get_or, get_or_past}
 use Rattle.std.proofs.lemmas.Bool.{cases_lt}
 use Rattle.std.proofs.lemmas.Bool.Decides.{nat_tests}
@@ -9,7 +9,10 @@ use lib.ListN.{get_elem?}
 use Rattle.atomic_table.specs.Table.{State, Joins}
 use Rattle.atomic_table.proofs.Lists.{set_else}
 use Rattle.plain_state.specs.declared.act.PlainAct.TheVariants as plain
+use Rattle.plain_state.specs.declared.act.EventPlace.{EventPlace}
+use Rattle.plain_state.specs.declared.act.EventPlace.TheVariants.{Cell, Field, WeakCell, WeakField}
 use Rattle.plain_state.specs.declared.slot.SlotId.{SlotId}
+use Rattle.plain_state.specs.Lists.{times}
 use Rattle.plain_state.specs.State.{Plain, slot_at}
 use Rattle.plain_state.specs.Steps.{Does}
 use Rattle.plain_protocol.specs.Laws.{Meets, KeptByLeave}
@@ -20,6 +23,7 @@ use Rattle.core_events.specs.declared.outcome.Outcome.TheVariants as outcome
 use Rattle.core_events.specs.declared.shape.Shape.{Shape}
 use Rattle.core_events.specs.Views.{Terms}
 use Rattle.core_events.specs.declared.view.CoreView.{CoreView}
+use Rattle.core_events.specs.Words.{field_at, weak_field_at}
 use Rattle.core_events.specs.Steps.{CanLeave, noted}
 use Rattle.core_events.specs.Runs.{Core, view_at, taken_over, left_behind, Enabled, after}
 use Rattle.core_events.specs.Shows.{show_seat, shows}
@@ -32,8 +36,8 @@ use Rattle.core_invariant.proofs.Each.{length_each, get_each}
 use Rattle.domain_rule.specs.declared.view.Known.{Known}
 use Rattle.domain_rule.specs.declared.view.SeatView.{SeatView}
 use Rattle.domain_rule.specs.Opening.{joined_view, gone_view, merged_objects}
-use Rattle.domain_rule.specs.Rule.{IsTrueOf, Tells, Kept, clients}
-use Rattle.domain_rule.specs.Views.{object_in, known_of, no_object}
+use Rattle.domain_rule.specs.Rule.{IsCleared, IsTrueOf, Tells, Kept, clients}
+use Rattle.domain_rule.specs.Views.{Stands, object_in, known_of, no_object}
 use Rattle.domain_rule.proofs.Padding.{at_less, clients_length, client_at, clients_set}
 use Rattle.domain_rule.proofs.Telling.{kept_sound, in_seats, true_of, number_of, is_root, tells_here, tells_again, set_all}
 
@@ -41,6 +45,25 @@ use Rattle.domain_rule.proofs.Telling.{kept_sound, in_seats, true_of, number_of,
 other_has : (root v : CoreView) (s : SlotId) → HasSlot (show_seat (taken_over root v)) s
     → has_slot (show_seat root) s ≡ false → HasSlot (show_seat v) s
 other_has root v s has not_root = let p = parts root v s in grind (arith, nat_tests)
+
+-- what stands in two lists together stands in one of them
+stands_in : (ps qs : List EventPlace) (p : EventPlace) → Stands p (ps ++ qs)
+    → Stands p ps ⊎ Stands p qs
+stands_in [] qs p there = inr there
+stands_in (x ∷ ps) qs p (inl first) = inl (inl first)
+stands_in (x ∷ ps) qs p (inr rest) = ⊎_elim (λ l. inl (inr l)) inr (stands_in ps qs p rest)
+
+-- a field that a view has left null is null for a view with a longer dying list, over the same words
+cleared_moves : (z : Shape) (c d : Core) (v u : CoreView)
+    → ((s : SlotId) → times s v.dying ≤ times s u.dying)
+    → ((i : ℕ) → slice_index d.words i ≡ slice_index c.words i) → (p : EventPlace)
+    → IsCleared z c v p → IsCleared z d u p
+cleared_moves z c d v u grows same (Cell i) cl = absurd cl
+cleared_moves z c d v u grows same (Field s i) cl =
+    let g = grows s in let h = cl.1 in (cl.0, omega arith, same (field_at z s i) ∙ cl.2)
+cleared_moves z c d v u grows same (WeakCell i) cl = absurd cl
+cleared_moves z c d v u grows same (WeakField s) cl =
+    let g = grows s in let h = cl.0 in (omega arith, same (weak_field_at z s) ∙ cl.1)
 
 module _ {V : Type 0} (root v : SeatView V) (z : Shape) (same : root.core.shape ≡ z) (s : SlotId)
   where
@@ -165,10 +188,25 @@ module _ {V : Type 0} (law : Plain → List V → Type 0) (first : ℕ → V) (f
         go true is = true0.objects x is
         go false is = truej.objects x (other_has v.core w.core x has is)
 
+    words_same : (i : ℕ) → slice_index d.words i ≡ slice_index c.words i
+    words_same i = ap (λ (ws : List ℕ). slice_index ws i) (set-get_or c.words 0 0)
+
+    -- the fields that either has left null
+    root_cleared : (p : EventPlace) → Stands p both.cleared → IsCleared z d both.core p
+    root_cleared p stands = ⊎_elim
+        (λ mine. cleared_moves z c d v.core both.core
+        (λ x. let t = (parts v.core w.core x).dying in omega arith) words_same p
+        (true0.cleared p mine))
+        (λ others. cleared_moves z c d w.core both.core
+        (λ x. let t = (parts v.core w.core x).dying in omega arith) words_same p
+        (truej.cleared p others))
+        (stands_in v.cleared w.cleared p stands)
+
     root_true : IsTrueOf z d 0 both
     root_true = record {
       core = root_core;
       objects = root_objects;
+      cleared = root_cleared;
       whole = λ all e.
           let left = (true0.whole all e).2 in
           let pos : 0 < other = omega (arith, not_root) in
@@ -186,6 +224,8 @@ module _ {V : Type 0} (law : Plain → List V → Type 0) (first : ℕ → V) (f
         (λ u_here t. record {
           core = t.core ∙ sym stays;
           objects = λ x has. t.objects x has ∙ ap object_of (slot_same x);
+          cleared = λ p stands. cleared_moves z c d u.core u.core (λ x. omega arith) words_same p
+              (t.cleared p stands);
           whole = λ all f. absurd (not0 (t.whole all f).1);
         })
         (k.tells n u e)

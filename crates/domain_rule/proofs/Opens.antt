@@ -73,6 +73,7 @@ module _ {V : Type 0} (law : Plain → List V → Type 0) (first : ℕ → V) (f
         let p : Plain = empty z.seats z.slots z.cells z.weak_cells in
         ap (λ (o : Known). record { life = o.life; payload = o.payload }) (known_at p s)
         ∙ ap (λ (q : Plain). object_of (slot_at q s)) (sym (start_shown z ts terms));
+    cleared = λ p stands. absurd stands;
     whole = knows_alone;
   }
 

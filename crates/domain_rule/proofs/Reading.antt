@@ -91,7 +91,7 @@ module _ {V : Type 0} (law : Plain → List V → Type 0) (first : ℕ → V) (f
       told = record me.0 { whole = whole }
 
       told_true : IsTrueOf z k.core id told
-      told_true = record { core = before.core; objects = before.objects; whole = is_so }
+      told_true = record { core = before.core; objects = before.objects; cleared = before.cleared; whole = is_so }
 
       abbrev after : State (Unit {0}) (SeatView V)
       after = stepped s word (slice_index s.words word) id me.1 told keeps

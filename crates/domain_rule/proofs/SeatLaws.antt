@@ -1,5 +1,5 @@
 -- What holds of a seat by itself holds as it is opened, and of seat 0 after a leave.
-use Rattle.std.proofs.Common.{ℕ, ◌<◌, List, arith}
+use Rattle.std.proofs.Common.{ℕ, ◌<◌, arith}
 use Rattle.core_events.specs.declared.act.Act.TheVariants as act
 use Rattle.core_events.specs.declared.outcome.Outcome.TheVariants as outcome
 use Rattle.core_events.specs.declared.shape.Shape.{Shape}

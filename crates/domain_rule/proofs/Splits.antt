@@ -70,13 +70,14 @@ module _ {V : Type 0} (law : Plain → List V → Type 0) (first : ℕ → V) (f
         let c = count in record {
           core = sym (k.unopened v.opened (omega arith) more);
           objects = λ s has. absurd (new_has_none s has);
+          cleared = λ p stands. absurd stands;
           whole = λ all e. absurd (knows_less z v.opened (start z ts) all (omega arith) more e);
         }
 
     left_true : IsTrueOf z k.core id left
     left_true =
         let t = true_of z ts s k id v at here in
-        record { core = t.core; objects = t.objects; whole = t.whole }
+        record { core = t.core; objects = t.objects; cleared = t.cleared; whole = t.whole }
 
     views_tell : (n : ℕ) (u : SeatView V) → get_elem? views n ≡ some u → Tells z k.core n u
     views_tell n u e = ⊎_elim

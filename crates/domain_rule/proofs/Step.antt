@@ -3,6 +3,7 @@ use Rattle.std.proofs.Common.{◌≡◌, ◌≢◌, ℕ, ◌<◌, true, false, L
 use Rattle.std.specs.Prelude.{Option, Some, None}
 use Rattle.std.specs.Option.{option_map}
 use Rattle.std.proofs.lemmas.List.{length-set, get_or-set_same, get_or-set_other}
+use Rattle.plain_state.specs.declared.act.EventPlace.TheVariants.{Field, WeakField}
 use Rattle.plain_state.specs.State.{PlainSeat}
 use Rattle.plain_protocol.specs.Owns.{HasSlot}
 use Rattle.core_events.specs.declared.act.Act.{Act}
@@ -14,15 +15,18 @@ use Rattle.core_events.specs.Shows.{show_seat, shows}
 use Rattle.core_events.specs.Steps.{moved}
 use Rattle.core_events.specs.Views.{no_view}
 use Rattle.core_invariant.specs.Sound.{Sound}
+use Rattle.core_law.proofs.Always.{step_keeps}
 use Rattle.core_law.proofs.Trails.{views_plain}
 use Rattle.core_shows.proofs.Bridge.{shown_seat}
 use Rattle.core_shows.proofs.Seats.{enabled_seat}
 use Rattle.domain_rule.specs.declared.view.SeatView.{SeatView}
 use Rattle.domain_rule.specs.declared.view.Whole.{Whole}
 use Rattle.domain_rule.specs.Rule.{IsTrueOf, OthersLeft, Tells}
-use Rattle.domain_rule.specs.Told.{IsOwn, whole_after}
+use Rattle.domain_rule.specs.Told.{IsOwn, cleared_after, whole_after}
 use Rattle.domain_rule.specs.Views.{core_in, objects_of, whole_of}
+use Rattle.domain_rule.proofs.ClearedWords.{cleared_stays}
 use Rattle.domain_rule.proofs.Others.{others_keep}
+use Rattle.domain_rule.proofs.OwnCleared.{own_cleared}
 use Rattle.domain_rule.proofs.Owns.{told_object}
 use Rattle.domain_rule.proofs.Telling.{tells_again}
 
@@ -32,45 +36,51 @@ stepped_view z d a w client v =
     record v {
       core = moved z a w v.core;
       objects = objects_of (shows z d);
+      cleared = cleared_after a v.core v.cleared;
       whole = whole_after z a v;
       gone = false;
       client = client;
     }
 
 -- what a seat's own view tells is all that its act asks
-pub rest_may : (z : Shape) (c : Core) (a : Act) → IsOwn a → RestMay z c a
-rest_may z c (act.Add s) own = tt
-rest_may z c (act.Drop s) own = tt
-rest_may z c act.Pay own = tt
-rest_may z c act.Finish own = tt
-rest_may z c act.Take own = tt
-rest_may z c (act.Count s) own = tt
-rest_may z c act.Mark own = tt
-rest_may z c (act.Announce j k s) own = tt
-rest_may z c (act.Release j) own = tt
-rest_may z c (act.Look p) own = tt
-rest_may z c (act.Check j p) own = tt
-rest_may z c (act.Alive j) own = tt
-rest_may z c act.Scan own = tt
-rest_may z c (act.Swap p new) own = tt
-rest_may z c (act.Cas p old new) own = tt
-rest_may z c (act.Claim s) own = tt
-rest_may z c act.Arm own = tt
-rest_may z c (act.Fill i x) own = tt
-rest_may z c act.Start own = tt
-rest_may z c (act.See s i) own = tt
-rest_may z c act.Free own = tt
-rest_may z c act.Ticket own = tt
-rest_may z c (act.Wadd s) own = tt
-rest_may z c (act.Wdrop s) own = tt
-rest_may z c (act.Destroy s) own = absurd own
-rest_may z c (act.Wcount s) own = tt
-rest_may z c (act.Leave j) own = absurd own
+pub rest_may : {V : Type 0} (z : Shape) (c : Core) (n : ℕ) (v : SeatView V) (a : Act)
+    → IsTrueOf z c n v → IsOwn a v → RestMay z c a
+rest_may z c n v (act.Add s) told own = tt
+rest_may z c n v (act.Drop s) told own = tt
+rest_may z c n v act.Pay told own = tt
+rest_may z c n v act.Finish told own = tt
+rest_may z c n v act.Take told own = tt
+rest_may z c n v (act.Count s) told own = tt
+rest_may z c n v act.Mark told own = tt
+rest_may z c n v (act.Announce j k s) told own = tt
+rest_may z c n v (act.Release j) told own = tt
+rest_may z c n v (act.Look p) told own = tt
+rest_may z c n v (act.Check j p) told own = tt
+rest_may z c n v (act.Alive j) told own = tt
+rest_may z c n v act.Scan told own = tt
+rest_may z c n v (act.Swap p new) told own = tt
+rest_may z c n v (act.Cas p old new) told own = tt
+rest_may z c n v (act.Claim s) told own = tt
+rest_may z c n v act.Arm told own = tt
+rest_may z c n v (act.Fill i x) told own = tt
+rest_may z c n v act.Start told own = tt
+rest_may z c n v (act.See s i) told own = tt
+rest_may z c n v act.Free told own = tt
+rest_may z c n v act.Ticket told own = tt
+rest_may z c n v (act.Wadd s) told own = tt
+rest_may z c n v (act.Wdrop s) told own = tt
+rest_may z c n v (act.Destroy s) told own = (
+  (told.cleared (Field s 0) own.0).2,
+  (told.cleared (Field s 1) own.1).2,
+  (told.cleared (WeakField s) own.2).1,
+)
+rest_may z c n v (act.Wcount s) told own = tt
+rest_may z c n v (act.Leave j) told own = absurd own
 
 module _ (z : Shape) (c : Core) (so : Sound z c) (n : ℕ) (a : Act) (on : Enabled z c n a)
-    (own : IsOwn a) where
+    (single : (j : ℕ) → a ≡ act.Leave j → ⊥) where
   views_own : (after z c n a).views ≡ set c.views n (moved z a (found z c n a) (view_at c n))
-  views_own = views_plain z c n a (λ j e. subst IsOwn e own)
+  views_own = views_plain z c n a single
 
   -- the view of the seat that made the step, and those of the others
   pub view_after : view_at (after z c n a) n ≡ moved z a (found z c n a) (view_at c n)
@@ -84,6 +94,9 @@ module _ (z : Shape) (c : Core) (so : Sound z c) (n : ℕ) (a : Act) (on : Enabl
   pub views_stay : length (after z c n a).views ≡ length c.views
   views_stay = ap length views_own
       ∙ length-set c.views n (moved z a (found z c n a) (view_at c n))
+
+  still : Sound z (after z c n a)
+  still = step_keeps z c n a so on
 
   -- the seat that made it hadn't left
   stays : (view_at c n).left ≡ true → ⊥
@@ -102,6 +115,9 @@ module _ (z : Shape) (c : Core) (so : Sound z c) (n : ℕ) (a : Act) (on : Enabl
           core = told.core ∙ sym (other_after m ne);
           objects = λ s has. told.objects s has ∙ sym (others_keep z c so n m a s on hm ne
               (subst (λ (v : CoreView). HasSlot (show_seat v) s) told.core has));
+          cleared = λ p stands. cleared_stays z c so n a on still m u.core u.core hm
+              (let l = views_stay in omega arith) told.core (told.core ∙ sym (other_after m ne)) p
+              (λ s of. omega arith) (told.cleared p stands);
           whole = λ all known.
               let t = told.whole all known in
               let root = t.1 in absurd (stays (t.2 n (omega (arith, ne)) on.0));
@@ -145,5 +161,10 @@ module _ (z : Shape) (c : Core) (so : Sound z c) (n : ℕ) (a : Act) (on : Enabl
         core = core_after w is;
         objects = λ s has. told_object (shows z (after z c n a))
             (stepped_view z (after z c n a) a w client v) s refl;
+        cleared = λ p stands.
+            let e = so.views in
+            let h = on.0 in
+            own_cleared z c so n v.core v.cleared (omega arith) told.core a w on (core_after w is)
+            still p told.cleared stands;
         whole = whole_told;
       }

@@ -17,6 +17,7 @@ use Rattle.plain_protocol.specs.Laws.{Keeps, Meets}
 use Rattle.plain_protocol.specs.Owns.{HasSlot, Object, OwnPart, own_part}
 use Rattle.plain_protocol.proofs.StepFits.{step_fits}
 use Rattle.core_events.specs.declared.act.Act.{Act}
+use Rattle.core_events.specs.declared.act.Act.TheVariants as act
 use Rattle.core_events.specs.declared.shape.Shape.{Shape}
 use Rattle.core_events.specs.Views.{Terms}
 use Rattle.core_events.specs.declared.view.CoreView.{CoreView}
@@ -35,7 +36,7 @@ use Rattle.core_shows.proofs.Lawful.{shows_lawful}
 use Rattle.domain_rule.specs.declared.view.SeatView.{SeatView}
 use Rattle.domain_rule.specs.declared.view.Whole.{Whole}
 use Rattle.domain_rule.specs.Rule.{IsTrueOf, Kept, Tells, clients}
-use Rattle.domain_rule.specs.Told.{FitsStart, Happened, IsOwn, Told, changed_object}
+use Rattle.domain_rule.specs.Told.{FitsStart, IsOwn, Told, changed_object}
 use Rattle.domain_rule.specs.Views.{KnowsAll, core_in, own_of, whole_of}
 use Rattle.domain_rule.proofs.Acts.{made_by_start}
 use Rattle.domain_rule.proofs.Counting.{others_left}
@@ -68,7 +69,7 @@ module _ {V : Type 0} (law : Plain → List V → Type 0) (first : ℕ → V) (g
   module _ (z : Shape) (ts : Terms) (s : State (Unit {0}) (SeatView V))
       (k : Kept law first fits z ts s) (n : ℕ) (v : SeatView V)
       (at : get_elem? s.views n ≡ some v) (here : v.gone ≡ false) (knows : KnowsAll v) (a : Act)
-      (own : IsOwn a) (may : May z a v.core) (starts : FitsStart fits a v)
+      (own : IsOwn a v) (may : May z a v.core) (starts : FitsStart fits a v)
       (is_ready : (w : ℕ) → ready (own_of v) v.client (shown_act z a w v.core)) where
     -- the core before the step and after it
     abbrev c : Core
@@ -98,7 +99,11 @@ module _ {V : Type 0} (law : Plain → List V → Type 0) (first : ℕ → V) (g
     hn = let e = so.views in let l = in_seats z ts s k n v at in omega arith
 
     on : Enabled z c n a
-    on = (hn, subst (May z a) told.core may, rest_may z c a own)
+    on = (hn, subst (May z a) told.core may, rest_may z c n v a told own)
+
+    -- no leave is a step of one seat
+    single : (j : ℕ) → a ≡ act.Leave j → ⊥
+    single j e = subst (λ (b : Act). IsOwn b v) e own
 
     found_is : w ≡ found z c n a
     found_is = λ i. slice_index (k.words i) (place z a (told.core i))
@@ -141,7 +146,7 @@ module _ {V : Type 0} (law : Plain → List V → Type 0) (first : ℕ → V) (g
     -- a seat that is alone then was alone, and knows the whole core still
     knows_then : KnowsAll (stepped_view z d a w v.client v)
     knows_then alone =
-        let is = core_after z c so n a on own v told w found_is in
+        let is = core_after z c so n a on single v told w found_is in
         let e = so.views in
         let h = hn in
         let law_then = still.seats n (omega arith) in
@@ -164,10 +169,10 @@ module _ {V : Type 0} (law : Plain → List V → Type 0) (first : ℕ → V) (g
 
     own_told_then : own_part (shows z d) n ≡ own_then
     own_told_then =
-        let l = views_stay z c so n a on own in
+        let l = views_stay z c so n a on single in
         let h = hn in
         own_told z d still n (stepped_view z d a w v.client v) (omega arith)
-        (own_tells z c so n a on own v told w v.client found_is) knows_then
+        (own_tells z c so n a on single v told w v.client found_is) knows_then
         (others_left z ts (record { seat = n; act = a } ∷ k.events) d k.shape k.terms
         (c, k.history, (on, refl)))
 
@@ -196,11 +201,11 @@ module _ {V : Type 0} (law : Plain → List V → Type 0) (first : ℕ → V) (g
     tells m u e = ⊎_elim
         (λ (t : (m ≡ n) × (v' ≡ u)).
         subst (λ (x : ℕ × SeatView V). Tells z d x.0 x.1) (λ i. (sym t.0 i, t.1 i))
-        (own_tells z c so n a on own v told w client' found_is))
+        (own_tells z c so n a on single v told w client' found_is))
         (λ (t : (m ≢ n) × (get_elem? s.views m ≡ some u)).
         let sv = so.views in
         let l = in_seats z ts s k m u t.1 in
-        other_tells z c so n a on own m u (omega arith) t.0 (k.tells m u t.1))
+        other_tells z c so n a on single m u (omega arith) t.0 (k.tells m u t.1))
         (at_set s.views n m v' u e)
 
     -- the table after the step: the rule holds of it, and the seat is told of its step
@@ -238,7 +243,7 @@ module _ {V : Type 0} (law : Plain → List V → Type 0) (first : ℕ → V) (g
       unopened = λ m le lt.
           let l = length-set s.views n v' in
           let there = at_less s.views n v at in
-          other_after z c so n a on own m (omega arith) ∙ k.unopened m (omega arith) lt;
+          other_after z c so n a on single m (omega arith) ∙ k.unopened m (omega arith) lt;
       fit = still_fit;
       client = subst (law (shows z d)) (sym (clients_set first z.seats s.views n v'
           (at_less s.views n v at))) owed.0;
@@ -254,13 +259,14 @@ module _ {V : Type 0} (law : Plain → List V → Type 0) (first : ℕ → V) (g
           ∙ ap (changed_object step x) (sym (told.objects x had)));
       payloads = λ x. ap (λ (o : Object). length o.payload) (told_object (shows z d) v' x refl)
           ∙ shown_payload z d x;
+      cleared = refl;
       whole = refl;
       opened = refl;
       left_adds = refl;
       left_makes = refl;
       here = refl;
       law = subst (λ (m : ℕ). SeatLaw z m v'.core) (sym seat_is)
-          (subst (SeatLaw z n) (sym (core_after z c so n a on own v told w found_is))
+          (subst (SeatLaw z n) (sym (core_after z c so n a on single v told w found_is))
           ((step_keeps z c n a so on).seats n (in_seats z ts s k n v at)));
       happened = record {
         shape = k.shape;
@@ -277,7 +283,7 @@ module _ {V : Type 0} (law : Plain → List V → Type 0) (first : ℕ → V) (g
       };
       said = subst (λ (m : ℕ). IsTrueOf z c m v) (sym seat_is) told;
       says = subst (λ (m : ℕ). IsTrueOf z (after z c m a) m v') (sym seat_is)
-          (own_tells z c so n a on own v told w client' found_is);
+          (own_tells z c so n a on single v told w client' found_is);
     }
       where
         seat_is : v.core.seat ≡ n
@@ -290,7 +296,7 @@ module _ {V : Type 0} (law : Plain → List V → Type 0) (first : ℕ → V) (g
   -- whatever the table is, the step keeps the rule
   pub step_allowed : (z : Shape) (ts : Terms) (a : Act) (slots n : ℕ)
       (me : Me (Unit {0}) (SeatView V))
-      → me.0.gone ≡ false → KnowsAll me.0 → IsOwn a → May z a me.0.core → FitsStart fits a me.0
+      → me.0.gone ≡ false → KnowsAll me.0 → IsOwn a me.0 → May z a me.0.core → FitsStart fits a me.0
       → ((m : ℕ) → ready (own_of me.0) me.0.client (shown_act z a m me.0.core))
       → Allows (Kept law first fits z ts) slots n me (place z a me.0.core) (next a me.0.core)
       (λ m then. Told fits z ts next_view allows a me.0 m then.0 × (then.1 ≡ me.1))

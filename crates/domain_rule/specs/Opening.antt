@@ -1,5 +1,5 @@
 -- How a domain comes to its seats, and how a seat leaves it.
-use Rattle.std.specs.Prelude.{ℕ, ◌+◌, ◌==◌, true, false, List, [], Some, None, if◌then◌else◌}
+use Rattle.std.specs.Prelude.{ℕ, ◌+◌, ◌==◌, true, false, List, [], ◌++◌, Some, None, if◌then◌else◌}
 use Rattle.plain_state.specs.declared.slot.SlotId.{SlotId}
 use Rattle.plain_state.specs.State.{empty}
 use Rattle.plain_protocol.specs.Owns.{has_slot}
@@ -22,6 +22,7 @@ module _ {V : Type 0} where
   opened_view first z ts n = record {
     core = first_view z n (quota_at ts.quotas n) ts.grants;
     objects = objects_of (empty z.seats z.slots z.cells z.weak_cells);
+    cleared = [];
     whole = if z.seats == 1 then Some (whole_of (start z ts)) else None;
     opened = 1;
     left_adds = 0;
@@ -51,6 +52,7 @@ module _ {V : Type 0} where
       record root {
         core = noted (act.Leave v.core.seat) outcome.Plain (taken_over root.core v.core);
         objects = merged_objects root v;
+        cleared = root.cleared ++ v.cleared;
         left_adds = root.left_adds + v.core.adds;
         left_makes = root.left_makes + v.core.makes;
         client = joined root.client v.client;
@@ -61,6 +63,7 @@ module _ {V : Type 0} where
   gone_view gone = record {
     core = no_view;
     objects = [];
+    cleared = [];
     whole = None;
     opened = 0;
     left_adds = 0;

@@ -1,28 +1,42 @@
 -- The rule of a domain's table: its words and its views have a history, what each view says is so,
 -- the payloads of all objects fit, and the client's law holds.
-use Rattle.std.specs.Prelude.{ℕ, ◌≡◌, ◌-◌, ◌<◌, ◌≤◌, true, false, List, ◌++◌, length, map, Some}
+use Rattle.std.specs.Prelude.{ℕ, ◌≡◌, ◌-◌, ◌<◌, ◌≤◌, true, false, List, ◌++◌, length, map, slice_index, Some}
 use Rattle.std.specs.Bool.{MatchBool}
 use Rattle.std.specs.List.{range_with_len}
 use mathlib.Core.Option.{some}
 use lib.ListN.{get_elem?}
 use Rattle.atomic_table.specs.Table.{State}
+use Rattle.plain_state.specs.declared.act.EventPlace.{EventPlace}
+use Rattle.plain_state.specs.declared.act.EventPlace.TheVariants.{Cell, Field, WeakCell, WeakField}
 use Rattle.plain_state.specs.declared.slot.SlotId.{SlotId}
+use Rattle.plain_state.specs.Lists.{times}
 use Rattle.plain_state.specs.Fits.{AllFit}
 use Rattle.plain_state.specs.State.{Plain, slot_at}
 use Rattle.plain_protocol.specs.Owns.{HasSlot, object_of}
 use Rattle.core_events.specs.declared.act.Event.{Event}
 use Rattle.core_events.specs.declared.shape.Shape.{Shape}
+use Rattle.core_events.specs.declared.view.CoreView.{CoreView}
+use Rattle.core_events.specs.Words.{field_at, weak_field_at}
 use Rattle.core_events.specs.Views.{Terms}
 use Rattle.core_events.specs.Runs.{Core, view_at, History, IsShape, AreTerms}
 use Rattle.core_events.specs.Shows.{show_seat, shows}
 use Rattle.core_events.specs.Views.{first_view}
 use Rattle.domain_rule.specs.declared.view.Whole.{Whole}
 use Rattle.domain_rule.specs.declared.view.SeatView.{SeatView}
-use Rattle.domain_rule.specs.Views.{core_in, object_in, quota_at}
+use Rattle.domain_rule.specs.Views.{Stands, core_in, object_in, quota_at}
 
 -- every seat but seat 0 has left
 abbrev pub OthersLeft : Core → Type 0
 OthersLeft c = (n : ℕ) → 0 < n → n < length c.views → (view_at c n).left ≡ true
+
+-- the place is a field of a slot that waits in the seat's dying list, and holds null
+abbrev pub IsCleared : Shape → Core → CoreView → EventPlace → Type 0
+IsCleared z c v (Cell i) = ⊥
+IsCleared z c v (Field s i) =
+    (i < 2) × (0 < times s v.dying) × (slice_index c.words (field_at z s i) ≡ 0)
+IsCleared z c v (WeakCell i) = ⊥
+IsCleared z c v (WeakField s) =
+    (0 < times s v.dying) × (slice_index c.words (weak_field_at z s) ≡ 0)
 
 module _ {V : Type 0} where
   -- what the view of seat n says is so of the core c
@@ -31,6 +45,7 @@ module _ {V : Type 0} where
     pub objects :
         (s : SlotId) → HasSlot (show_seat v.core) s
         → object_in v s ≡ object_of (slot_at (shows z c) s)
+    pub cleared : (p : EventPlace) → Stands p v.cleared → IsCleared z c v.core p
     pub whole : (all : Whole) → v.whole ≡ Some all → (core_in all ≡ c) × (n ≡ 0) × OthersLeft c
 
   -- of a seat that has left its view says no more

@@ -1,6 +1,7 @@
 -- What a step, an opening and a leave tell the seat that made them.
-use Rattle.std.specs.Prelude.{ℕ, ◌≡◌, ◌+◌, false, List, length, slice_set, Option, if◌then◌else◌}
+use Rattle.std.specs.Prelude.{ℕ, ◌≡◌, ◌+◌, false, List, ◌∷◌, length, slice_set, Option, Some, None, if◌then◌else◌}
 use Rattle.std.specs.Option.{option_map}
+use Rattle.plain_state.specs.declared.act.EventPlace.{EventPlace}
 use Rattle.plain_state.specs.declared.act.PlainAct.{PlainAct}
 use Rattle.plain_state.specs.declared.act.PlainAct.TheVariants as plain
 use Rattle.plain_state.specs.declared.slot.SlotId.{SlotId}
@@ -18,12 +19,12 @@ use Rattle.core_events.specs.declared.view.Phase.TheVariants as phase
 use Rattle.core_events.specs.Good.{SeatLaw}
 use Rattle.core_events.specs.Runs.{Core, History, IsShape, AreTerms, Enabled, after, found, view_at}
 use Rattle.core_events.specs.Shows.{show_seat, shows}
-use Rattle.core_events.specs.ShownSteps.{shown_act, shown_number}
+use Rattle.core_events.specs.ShownSteps.{is_ripe_field, shown_act, shown_number}
 use Rattle.core_events.specs.Steps.{moved}
 use Rattle.domain_rule.specs.declared.view.Whole.{Whole}
 use Rattle.domain_rule.specs.declared.view.SeatView.{SeatView}
 use Rattle.domain_rule.specs.Rule.{IsTrueOf}
-use Rattle.domain_rule.specs.Views.{core_in, whole_of, object_in, own_of}
+use Rattle.domain_rule.specs.Views.{HasCleared, without_fields, core_in, whole_of, object_in, own_of}
 
 -- a step of seat n, with the view v, in a history, which found w, and a fact of the plain states
 -- before and after it
@@ -46,13 +47,22 @@ changed_object (plain.Fill x i word) s o =
 changed_object (plain.Make x) s o = if is_slot x s then record o { life = o.life + 1 } else o
 changed_object a s o = o
 
--- whether a seat may make it is told by its own view; a leave and a destroy ask more
-abbrev pub IsOwn : Act → Type 0
-IsOwn (act.Destroy s) = ⊥
-IsOwn (act.Leave j) = ⊥
-IsOwn a = Unit {0}
+-- the fields that a seat has left null, after its act: a swap in a ripe slot leaves one more, and with
+-- a slot that is destroyed go its own
+abbrev pub cleared_after : Act → CoreView → List EventPlace → List EventPlace
+cleared_after (act.Swap p None) v ps = if is_ripe_field v p then p ∷ ps else ps
+cleared_after (act.Swap p (Some s)) v ps = ps
+cleared_after (act.Destroy s) v ps = without_fields s ps
+cleared_after a v ps = ps
 
 module _ {V : Type 0} where
+  -- Whether a seat may make it is told by its own view. A destroy asks that the seat itself has left
+  -- all fields of the slot null, and a leave is of two seats.
+  abbrev pub IsOwn : Act → SeatView V → Type 0
+  IsOwn (act.Destroy s) v = HasCleared v s
+  IsOwn (act.Leave j) v = ⊥
+  IsOwn a v = Unit {0}
+
   -- what it fills fits, if it is to start it
   abbrev pub FitsStart : (List ℕ → Type 0) → Act → SeatView V → Type 0
   FitsStart fits a v =
@@ -77,6 +87,7 @@ module _ {V : Type 0} where
         (s : SlotId) → HasSlot (show_seat v.core) s
         → object_in v' s ≡ changed_object (shown_act z a w v.core) s (object_in v s)
     pub payloads : (s : SlotId) → length (object_in v' s).payload ≡ 16
+    pub cleared : v'.cleared ≡ cleared_after a v.core v.cleared
     pub whole : v'.whole ≡ whole_after z a v
     pub opened : v'.opened ≡ v.opened
     pub left_adds : v'.left_adds ≡ v.left_adds

@@ -1,7 +1,10 @@
 -- What a seat of a domain has by its view: the objects of its slots, its own part of the plain state.
-use Rattle.std.specs.Prelude.{ℕ, ◌≡◌, ◌+◌, List, length, map, slice_index_or, Some, None, IsSome, if◌then◌else◌}
+use Rattle.std.specs.Prelude.{ℕ, ◌≡◌, ◌⊎◌, ◌+◌, Bool, false, List, [], ◌∷◌, length, map, slice_index_or, Some, None, IsSome, if◌then◌else◌}
 use Rattle.std.specs.Option.{option_map}
+use Rattle.plain_state.specs.declared.act.EventPlace.{EventPlace}
+use Rattle.plain_state.specs.declared.act.EventPlace.TheVariants.{Cell, Field, WeakCell, WeakField}
 use Rattle.plain_state.specs.declared.slot.SlotId.{SlotId}
+use Rattle.plain_state.specs.Lists.{is_slot}
 use Rattle.plain_state.specs.State.{Plain, no_payload}
 use Rattle.plain_protocol.specs.Owns.{Object, OwnPart, object_of, has_slot}
 use Rattle.core_events.specs.declared.shape.Quota.{Quota}
@@ -33,7 +36,29 @@ no_object = record { life = 0; payload = no_payload }
 abbrev pub quota_at : List Quota → ℕ → Quota
 quota_at qs n = slice_index_or qs n (record { makes = 0; adds = 0 })
 
+-- the place stands in a list
+abbrev pub Stands : EventPlace → List EventPlace → Type 0
+Stands p [] = ⊥
+Stands p (x ∷ xs) = (p ≡ x) ⊎ Stands p xs
+
+-- the place is a field of s
+abbrev pub is_field_of : SlotId → EventPlace → Bool
+is_field_of s (Cell i) = false
+is_field_of s (Field x i) = is_slot s x
+is_field_of s (WeakCell i) = false
+is_field_of s (WeakField x) = is_slot s x
+
+-- the places that aren't fields of s
+abbrev pub without_fields : SlotId → List EventPlace → List EventPlace
+without_fields s [] = []
+without_fields s (p ∷ ps) = if is_field_of s p then without_fields s ps else p ∷ without_fields s ps
+
 module _ {V : Type 0} where
+  -- by its view the seat has left all fields of s null
+  abbrev pub HasCleared : SeatView V → SlotId → Type 0
+  HasCleared v s =
+      Stands (Field s 0) v.cleared × Stands (Field s 1) v.cleared × Stands (WeakField s) v.cleared
+
   -- the object that the view tells of a slot
   abbrev pub object_in : SeatView V → SlotId → Object
   object_in v s =

@@ -18,7 +18,7 @@ use plain_protocol::{Deed, Protocol};
 pub fn step_keeps<P: Protocol, D: Deed<P>>()
     ensures { (it : P) (deed : D) (z : Shape) (ts : Terms) (a : Act) (slots id : ℕ)
         (me : Me (Unit {0}) (SeatView P.View))
-        → me.0.gone ≡ false → KnowsAll me.0 → IsOwn a → May z a me.0.core
+        → me.0.gone ≡ false → KnowsAll me.0 → IsOwn a me.0 → May z a me.0.core
         → FitsStart P.Kind.fits a me.0
         → ((w : ℕ) → D.ready deed it (own_of me.0) me.0.client (shown_act z a w me.0.core))
         → Allows (Kept (P.law it) (P.first it) P.Kind.fits z ts) slots id me

@@ -1,5 +1,5 @@
 //! What a seat of a domain knows, as data that stands in contracts alone.
-use core_events::CoreView;
+use core_events::{CoreView, EventPlace};
 use std::collections::LinkedList;
 
 /// What stays of an object while a seat has its slot.
@@ -21,6 +21,8 @@ pub struct SeatView<W> {
     pub core: CoreView,
     /// For each slot what stays of its object. It holds of the slots that the seat has.
     pub objects: LinkedList<Known>,
+    /// The fields of slots in its dying list that its own swaps left null.
+    pub cleared: LinkedList<EventPlace>,
     /// The whole core, where the seat is seat 0 and every other one has left.
     pub whole: Option<Whole>,
     /// At seat 0: how many seats there are so far.

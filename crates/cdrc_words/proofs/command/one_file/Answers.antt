@@ -1,4 +1,4 @@
-use Rattle.std.proofs.Common.{◌≡◌, List, [], ◌∷◌, arith, codes, inl, inr, map, refl, rules, string_bytes}
+use Rattle.std.proofs.Common.{◌≡◌, [], ◌∷◌, arith, codes, inl, inr, map, refl, rules, string_bytes}
 use Rattle.cdrc_words.specs.Commands.{IsOperand}
 use Rattle.cdrc_words.proofs.Asked.{two_items}
 use Rattle.cdrc_words.proofs.command.one_file.Goals as goal
