@@ -1,7 +1,7 @@
 -- The steps of a collect: what each leaves, and how moves follow one another.
 use Rattle.std.proofs.Common.{◌≡◌, ℕ, Bool, true, false, List, [], ◌∷◌, ◌++◌, refl, ap, ◌∙◌, subst}
 use Rattle.std.specs.Prelude.{◌==◌, if◌then◌else◌}
-use Rattle.plain_state.specs.declared.slot.Kind.TheVariants.{Strong, Weak}
+use Rattle.plain_state.specs.declared.slot.Kind.TheVariants.{Strong, Weak, Disposal}
 use Rattle.plain_state.specs.declared.slot.SlotId.{SlotId}
 use Rattle.plain_state.specs.Lists.{Entry}
 use Rattle.core_events.specs.declared.act.Act.{Act}
@@ -38,6 +38,7 @@ paid_rest : (w : ℕ) (es : List Entry) (v : CoreView) → rest_of (paid w es v)
 paid_rest w [] v = refl
 paid_rest w ((Strong, s) ∷ es) v = refl
 paid_rest w ((Weak, s) ∷ es) v = refl
+paid_rest w ((Disposal, s) ∷ es) v = refl
 
 ended_rest : (b : Bool) (s : SlotId) (p : Phase) (v : CoreView)
     → rest_of (ended b s p v) ≡ rest_of v
@@ -59,19 +60,22 @@ changed_rest z (act.Announce j k s) w v is = absurd is
 changed_rest z (act.Release j) w v is = absurd is
 changed_rest z (act.Look p) w v is = absurd is
 changed_rest z (act.Check j p) w v is = absurd is
+changed_rest z (act.Alive j) w v is = absurd is
 changed_rest z (act.Swap p new) w v is = absurd is
 changed_rest z (act.Cas p old new) w v is = absurd is
 changed_rest z (act.Claim s) w v is = absurd is
+changed_rest z act.Arm w v is = absurd is
 changed_rest z (act.Fill i x) w v is = absurd is
 changed_rest z act.Start w v is = absurd is
 changed_rest z (act.See s i) w v is = absurd is
+changed_rest z act.Ticket w v is = absurd is
 changed_rest z (act.Wadd s) w v is = absurd is
 changed_rest z (act.Wdrop s) w v is = absurd is
 changed_rest z (act.Destroy s) w v is = absurd is
 changed_rest z (act.Wcount s) w v is = absurd is
 changed_rest z (act.Leave j) w v is = absurd is
 
-module _ {P V : Type 0} (d : DomainState P) where
+module _ {P V : Type 0} (fits : List ℕ → Type 0) (d : DomainState P) where
   walks_append : (xs ys : List Move) (a b c : SeatState V) → Walks fits d xs a b → Walks fits d ys b c
       → Walks fits d (xs ++ ys) a c
   walks_append [] ys a b c first more = subst (λ (x : SeatState V). Walks fits d ys x c) first more
@@ -82,10 +86,11 @@ module _ {P V : Type 0} (d : DomainState P) where
   walks_table [] a b walks = ap (λ (x : SeatState V). x.table) walks
   walks_table (m ∷ ms) a b walks = walks_table ms walks.0 b walks.2 ∙ walks.1.table
 
+module _ {P V : Type 0} {fits : List ℕ → Type 0} (d : DomainState P) where
   pub goes_append : (xs ys : List Move) (a b c : SeatState V) → Goes fits d xs a b → Goes fits d ys b c
       → Goes fits d (xs ++ ys) a c
   goes_append xs ys a b c first more = record {
-    walks = walks_append xs ys a b c first.walks more.walks;
+    walks = walks_append fits d xs ys a b c first.walks more.walks;
     rest = more.rest ∙ first.rest;
     client = more.client ∙ first.client;
   }
@@ -106,7 +111,7 @@ module _ {P V : Type 0} (d : DomainState P) where
   pub is_of_after : (ms : List Move) (old new : SeatState V) → IsOf d old → Goes fits d ms old new
       → IsOf d new
   is_of_after ms old new of goes = (
-    walks_table ms old new goes.walks ∙ of.0,
+    walks_table fits d ms old new goes.walks ∙ of.0,
     ap (λ (v : CoreView). v.shape) goes.rest ∙ of.1,
   )
 

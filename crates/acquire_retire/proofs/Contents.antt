@@ -1,5 +1,5 @@
 -- What a step finds in a place is null, or the number of a slot of the domain and one.
-use Rattle.std.proofs.Common.{◌≡◌, ℕ, ◌<◌, ◌^◌, ap, ◌∙◌, subst, arith, refl}
+use Rattle.std.proofs.Common.{◌≡◌, ℕ, ◌<◌, ◌^◌, List, ap, ◌∙◌, subst, arith, refl}
 use Rattle.std.specs.Prelude.{slice_index, Option}
 use Rattle.atomic_table.specs.declared.shared.Seat.{Seat as TableSeat}
 use Rattle.plain_state.specs.declared.act.EventPlace.{EventPlace}
@@ -16,7 +16,7 @@ use Rattle.core_events.specs.Runs.{AreTerms, IsShape, view_at}
 use Rattle.core_events.specs.Steps.{May, place}
 use Rattle.core_events.specs.Words.{place_at}
 use Rattle.core_law.proofs.Always.{history_sound}
-use Rattle.core_invariant.proofs.InRange.{content_in, open_in_range, put_in_range}
+use Rattle.core_invariant.proofs.InRange.{content_in, open_in_range, put_in_range, readable_in_range}
 use Rattle.core_invariant.proofs.Writes.{IsPlace}
 use Rattle.domain_rule.specs.declared.view.SeatView.{SeatView}
 use Rattle.acquire_retire.specs.Calls.{Stepped}
@@ -27,7 +27,7 @@ pub record IsOn (z : Shape) (a : Act) (q : EventPlace) : Type 0 where
   pub word : (v : CoreView) → place z a v ≡ place_at z q
   pub there : (n : ℕ) (v : CoreView) → SeatLaw z n v → May z a v → IsPlace z q
 
-pub found_small : {P V : Type 0} (d e : DomainState P) → e ≡ d → (kept : Shape)
+pub found_small : {P V : Type 0} {fits : List ℕ → Type 0} (d e : DomainState P) → e ≡ d → (kept : Shape)
     → IsDomain e.table e.shape e.terms kept
     → (next_view : OwnPart → OwnPart → V → PlainAct → ℕ → V) (allows : Plain → Plain → ℕ → V → V → Type 0)
     (a : Act) (old new : TableSeat (Unit {0}) (SeatView V)) (w : ℕ)
@@ -50,13 +50,13 @@ found_small d e same kept in_domain next_view allows a old new w step q on =
 pub look_on : (z : Shape) (q : EventPlace) → IsOn z (act.Look q) q
 look_on z q = record {
   word = λ v. refl;
-  there = λ n v law may. open_in_range z n v law q may.1;
+  there = λ n v law may. readable_in_range z n v law q may.1;
 }
 
 pub check_on : (z : Shape) (j : ℕ) (q : EventPlace) → IsOn z (act.Check j q) q
 check_on z j q = record {
   word = λ v. refl;
-  there = λ n v law may. open_in_range z n v law q may.3;
+  there = λ n v law may. readable_in_range z n v law q may.3;
 }
 
 pub swap_on : (z : Shape) (q : EventPlace) (new : Option SlotId) → IsOn z (act.Swap q new) q

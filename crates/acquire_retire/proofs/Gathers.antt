@@ -1,5 +1,5 @@
 -- A whole scan, and then a payment for each entry that went.
-use Rattle.std.proofs.Common.{◌≡◌, ℕ, ◌++◌, length, ap, sym, subst, arith}
+use Rattle.std.proofs.Common.{◌≡◌, ℕ, List, ◌++◌, length, ap, sym, subst, arith}
 use Rattle.std.specs.Prelude.{flat_map}
 use Rattle.std.proofs.lemmas.List.{nil_from_length}
 use Rattle.core_events.specs.Words.{announcements}
@@ -8,7 +8,7 @@ use Rattle.acquire_retire.specs.Domains.{DomainState}
 use Rattle.acquire_retire.specs.Seats.{SeatState}
 use Rattle.acquire_retire.proofs.Collects.{goes_append}
 
-pub collects_by : {P V : Type 0} (d : DomainState P) (a b c : SeatState V) (go ended : ℕ)
+pub collects_by : {P V : Type 0} {fits : List ℕ → Type 0} (d : DomainState P) (a b c : SeatState V) (go ended : ℕ)
     → Splits fits d a b go → PaysFor fits d b c go ended
     → Collects fits d a c (record { scanned = announcements d.shape; ejected = go; ended = ended })
 collects_by d a b c go ended split paid =

@@ -22,7 +22,7 @@ use Rattle.domain_rule.specs.Rule.{Kept}
 use Rattle.domain_rule.proofs.Counting.{gone, history_counted}
 use Rattle.domain_rule.proofs.Reading.{reads}
 use Rattle.acquire_retire.specs.Domains.{DomainState, IsDomain}
-use Rattle.acquire_retire.proofs.Dying.{few_dying_in}
+use Rattle.acquire_retire.proofs.Dying.{few_dying_in, few_ripe_in}
 
 -- no more seats have left than there are
 few_gone : (vs : List CoreView) → total gone vs ≤ length vs
@@ -49,6 +49,11 @@ module _ {V : Type 0} (fits : List ℕ → Type 0) (z : Shape) (ts : Terms) (v :
   found_dying =
       let few = few_dying_in z f.core v.core.seat sound there in
       let same = ap (λ (u : CoreView). length u.dying) f.says.core in omega arith
+
+  pub found_ripe : length v.core.ripe ≤ z.slots
+  found_ripe =
+      let few = few_ripe_in z f.core v.core.seat sound there in
+      let same = ap (λ (u : CoreView). length u.ripe) f.says.core in omega arith
 
   pub found_entries : length v.core.retired + length v.core.owed ≤ v.core.room
   found_entries =

@@ -1,5 +1,5 @@
 -- Seat 0 takes over what a seat had that leaves.
-use Rattle.std.proofs.Common.{◌≡◌, ℕ, ◌+◌, ◌*◌, ◌^◌, ◌<◌, ◌≤◌, List, [], ◌∷◌, ◌++◌, length, ap, sym, ◌∙◌, subst, arith, length-append}
+use Rattle.std.proofs.Common.{◌≡◌, ℕ, ◌+◌, ◌*◌, ◌^◌, ◌<◌, ◌≤◌, List, [], ◌∷◌, ◌++◌, length, sum, ap, sym, ◌∙◌, subst, arith, length-append}
 use Rattle.std.specs.Prelude.{Option, Some}
 use Rattle.atomic_table.specs.Table.{Joins}
 use Rattle.atomic_table.specs.declared.shared.Seat.{Seat as TableSeat}
@@ -24,7 +24,7 @@ use Rattle.acquire_retire.specs.Domains.{DomainState, IsDomain}
 use Rattle.acquire_retire.specs.Leavings.{HasJoined, MayJoin, joined_in}
 use Rattle.acquire_retire.specs.Seats.{HasRooms, IsSeat, IsSeated, SeatState, Stored, stored}
 use Rattle.acquire_retire.proofs.Calls.{value_of}
-use Rattle.acquire_retire.proofs.Knowing.{found_dying, found_entries, found_law, found_room, found_left}
+use Rattle.acquire_retire.proofs.Knowing.{found_dying, found_entries, found_law, found_left, found_ripe, found_room}
 
 module _ {P V : Type 0} (law : P → Plain → List V → Type 0) (first : P → ℕ → V)
     (fits : List ℕ → Type 0) (joined : P → V → V → V) (gone : V)
@@ -41,7 +41,7 @@ module _ {P V : Type 0} (law : P → Plain → List V → Type 0) (first : P →
       let count = in_domain.words in
       let table = sym (ap (λ (x : DomainState P). x.table) same) in
       let T : DomainState P × Option (DomainState P) → Type 0 = λ x.
-      Joins (Kept (law x.0.protocol) (first x.0.protocol) fits x.0.shape x.0.quotas) root.id
+      Joins (Kept (law x.0.protocol) (first x.0.protocol) fits x.0.shape x.0.terms) root.id
       root.me.0 v.id v.me.0 (joined_in joined x.1 root.me.0 v.me.0) (gone_view gone) in (
         may.tables.0 ∙ table,
         may.tables.1 ∙ table,
@@ -59,6 +59,7 @@ taken s t = record s {
   retired = s.retired ++ t.retired;
   owed = s.owed ++ t.owed;
   dying = s.dying ++ t.dying;
+  ripe = s.ripe ++ t.ripe;
   left = s.left + 1;
 }
 
@@ -103,7 +104,11 @@ module _ {P V : Type 0} (d : DomainState P) (fits : List ℕ → Type 0) (joined
       let owes : root.me.0.core.owed ≡ root.me.0.core.owed ++ v.me.0.core.owed =
       may.may.0.1 ∙ sym (λ i. may.may.0.1 i ++ may.may.1.1 i) in
       let left = length-append root.me.0.core.left_seats
-      (record { seat = v.me.0.core.seat; trail = v.me.0.core.trail } ∷ []) in
+      (record {
+        seat = v.me.0.core.seat;
+        trail = v.me.0.core.trail;
+        tickets = v.me.0.core.tickets;
+      } ∷ []) in
       λ i. record (taken (stored root.me.0.core) (stored v.me.0.core)) {
         owed = owes i;
         left = left i;
@@ -142,6 +147,14 @@ module _ {P V : Type 0} (d : DomainState P) (fits : List ℕ → Type 0) (joined
         let slots = ap (λ (z : Shape). z.slots) may.shape in
         let room = rooms.dying in omega arith
 
+    pub ripe_fit : length s.ripe + length t.ripe ≤ ripe_room
+    ripe_fit =
+        let few = found_ripe fits d.shape d.terms new.me.0 0 join.word join.found inside in
+        let ripe = ap (λ (x : Stored). length x.ripe) stores_after in
+        let more = length-append s.ripe t.ripe in
+        let slots = ap (λ (z : Shape). z.slots) may.shape in
+        let room = rooms.ripe in omega arith
+
     pub left_fits : s.left + 1 < 2 ^ 32
     left_fits =
         let few = found_left fits d.shape d.terms new.me.0 0 join.word join.found inside
@@ -150,20 +163,23 @@ module _ {P V : Type 0} (d : DomainState P) (fits : List ℕ → Type 0) (joined
         let most = join.found.shape.1 in omega arith
 
     -- seat 0 is a seat still, and stores what its view has
-    pub taken_seat : (batch : Entries) (slots : List SlotId) (room : ℕ)
+    pub taken_seat : (batch : Entries) (slots ripe : List SlotId)
+        (room more_room : ℕ)
         → batch ≡ record {
           retired = s.retired ++ t.retired;
           owed = s.owed ++ t.owed;
           room = batch_room;
         }
-        → slots ≡ s.dying ++ t.dying → dying_room ≤ room
+        → slots ≡ s.dying ++ t.dying → ripe ≡ s.ripe ++ t.ripe → dying_room ≤ room
+        → ripe_room ≤ more_room
         → IsSeat new.me (record s {
           retired = batch.retired;
           owed = batch.owed;
           dying = slots;
+          ripe = ripe;
           left = s.left + 1;
-        }) batch.room seen_room room
-    taken_seat batch slots room is dying more = record {
+        }) batch.room seen_room room more_room
+    taken_seat batch slots ripe room more_room is dying ripe_is more more_ripe = record {
       seated = record {
         carries = join.carries ∙ may.seated.0.carries;
         here = ap (λ (x : SeatView V). x.gone) join.view ∙ may.seated.0.here;
@@ -177,6 +193,7 @@ module _ {P V : Type 0} (d : DomainState P) (fits : List ℕ → Type 0) (joined
         retired = (is i).retired;
         owed = (is i).owed;
         dying = dying i;
+        ripe = ripe_is i;
       }) ∙ stores_after;
       rooms = record {
         batch = let few = room_after in let same = ap (λ (b : Entries). b.room) is in omega arith;
@@ -188,6 +205,11 @@ module _ {P V : Type 0} (d : DomainState P) (fits : List ℕ → Type 0) (joined
             let now = ap (λ (z : Shape). z.seats) shape_after in
             let was = ap (λ (z : Shape). z.seats) may.shape in omega arith;
         dying = let room = rooms.dying in
+            let now = ap (λ (z : Shape). z.slots) shape_after in
+            let was = ap (λ (z : Shape). z.slots) may.shape in omega arith;
+        grants = let few = rooms.grants in
+            let same = ap (λ (u : CoreView). sum u.grants) core_is in omega arith;
+        ripe = let room = rooms.ripe in
             let now = ap (λ (z : Shape). z.slots) shape_after in
             let was = ap (λ (z : Shape). z.slots) may.shape in omega arith;
       };

@@ -13,7 +13,7 @@ use Rattle.core_events.specs.declared.view.CoreView.{CoreView}
 use Rattle.core_events.specs.declared.view.Move.{Move}
 use Rattle.core_events.specs.declared.view.Phase.TheVariants as phase
 use Rattle.core_events.specs.Ejection.{code_of, ejected, is_seen, kept, seen_times, without_word}
-use Rattle.core_events.specs.Steps.{IsIdle, all_seen, answer, is_last, moved}
+use Rattle.core_events.specs.Steps.{IsIdle, all_seen, answer, is_last, moved, ripened}
 use Rattle.core_events.specs.Words.{announcements}
 use Rattle.core_invariant.proofs.Splits.{split_length}
 use Rattle.acquire_retire.specs.Calls.{IsSameView, Steps, same_view}
@@ -49,6 +49,7 @@ read_last w v =
         seen = [];
         retired = kept v.retired (all_seen w v);
         owed = ejected v.retired (all_seen w v);
+        ripe = ripened v.ripe v.dying (all_seen w v);
         trail = v.trail ++ move act.Scan o ∷ [];
       },
       o,
@@ -87,7 +88,17 @@ few_kept (e ∷ es) seen = go (is_seen (code_of e) seen) refl (few_kept es)
         let i = rest (without_word (code_of e) seen) in omega arith
     go false is rest = rest seen
 
-module _ {P V : Type 0} (d : DomainState P) where
+-- the outcome of the last word, and how many entries that leaves
+record LastRead {V : Type 0} (b c : SeatState V) (o : Outcome) : Type 0 where
+  pub word : ℕ
+  pub go : ℕ
+  pub answers : o ≡ outcome.Split word (length c.view.core.retired) go
+  pub owed : length c.view.core.owed ≡ go
+  pub retired : length c.view.core.retired + go ≡ length b.view.core.retired
+  pub few : length c.view.core.retired ≤ length b.view.core.seen + 1
+  pub phase : c.view.core.phase ≡ phase.Idle
+
+module _ {P V : Type 0} {fits : List ℕ → Type 0} (d : DomainState P) where
   pub reads_more : (seen : List ℕ) (a b c : SeatState V) (o : Outcome) → Reads fits d seen a b
       → length seen + 1 < announcements d.shape → (step : Steps fits d same_view IsSameView act.Scan b c o)
       → Reads fits d (seen ++ step.word ∷ []) a c
@@ -111,16 +122,6 @@ module _ {P V : Type 0} (d : DomainState P) where
         may = inr (ap (λ (v : CoreView). v.phase) core);
         retired = ap (λ (v : CoreView). v.retired) core ∙ before.retired;
       }
-
-  -- the outcome of the last word, and how many entries that leaves
-  record LastRead (b c : SeatState V) (o : Outcome) : Type 0 where
-    pub word : ℕ
-    pub go : ℕ
-    pub answers : o ≡ outcome.Split word (length c.view.core.retired) go
-    pub owed : length c.view.core.owed ≡ go
-    pub retired : length c.view.core.retired + go ≡ length b.view.core.retired
-    pub few : length c.view.core.retired ≤ length b.view.core.seen + 1
-    pub phase : c.view.core.phase ≡ phase.Idle
 
   scan_ends : (b c : SeatState V) (o : Outcome) → is_last d.shape b.view.core ≡ true
       → Steps fits d same_view IsSameView act.Scan b c o → LastRead b c o

@@ -48,7 +48,7 @@ still_known f None is = is
 still_known f (Some all) is = refl
 
 -- a seat that has made a step is a seat
-seated_after : {V : Type 0} (z : Shape) (ts : Terms)
+seated_after : {V : Type 0} {fits : List ℕ → Type 0} (z : Shape) (ts : Terms)
     (next_view : OwnPart → OwnPart → V → PlainAct → ℕ → V) (allows : Plain → Plain → ℕ → V → V → Type 0) (a : Act) (w : ℕ)
     (me new : Me (Unit {0}) (SeatView V)) → me.0.core.shape ≡ z → IsSeated me
     → Told fits z ts next_view allows a me.0 w new.0 → new.1 ≡ me.1 → IsSeated new
@@ -90,18 +90,18 @@ module _ {P D V : Type 0} (law : P → Plain → List V → Type 0) (first : P �
   -- a step that found w tells so for each aim that it has, which is one
   abbrev Tells : ℕ → Me (Unit {0}) (SeatView V) → Type 0
   Tells w new = (x : Aimed P D) → aim ≡ Some x
-      → Finds x.domain (next_view x.deed x.domain.protocol) (allows x.deed x.domain.protocol) x.act
+      → Finds fits x.domain (next_view x.deed x.domain.protocol) (allows x.deed x.domain.protocol) x.act
       seat.me w new
 
   abbrev TellsSome : Me (Unit {0}) (SeatView V) → Type 0
   TellsSome new = (x : Aimed P D) → aim ≡ Some x
-      → (w : ℕ) × Finds x.domain (next_view x.deed x.domain.protocol)
+      → (w : ℕ) × Finds fits x.domain (next_view x.deed x.domain.protocol)
       (allows x.deed x.domain.protocol) x.act seat.me w new
 
   tells : (w : ℕ) (new : Me (Unit {0}) (SeatView V))
       → Finds fits d (next_view deed d.protocol) (allows deed d.protocol) a seat.me w new → Tells w new
   tells w new found x aims =
-      let T : Aimed P D → Type 0 = λ x. Finds x.domain (next_view x.deed x.domain.protocol)
+      let T : Aimed P D → Type 0 = λ x. Finds fits x.domain (next_view x.deed x.domain.protocol)
       (allows x.deed x.domain.protocol) x.act seat.me w new in
       subst T (same_aim (aimed d deed a) x aim is aims) found
 
@@ -126,7 +126,7 @@ module _ {P D V : Type 0} (law : P → Plain → List V → Type 0) (first : P �
         d.terms a e.table.slots seat.id seat.me can.seated.here can.seated.knows can.own can.may
         can.starts can.is_ready in
         let T : DomainState P × (ℕ × (ℕ → ℕ)) → Type 0 = λ x.
-        Allows (Kept (law x.0.protocol) (first x.0.protocol) fits x.0.shape x.0.quotas)
+        Allows (Kept (law x.0.protocol) (first x.0.protocol) fits x.0.shape x.0.terms)
         e.table.slots seat.id seat.me x.1.0 x.1.1
         (λ w new. Finds fits d (next_view deed d.protocol) (allows deed d.protocol) a seat.me w new) in
         subst T (λ i. (sym same i, (sym at i, λ w. kind w i))) r

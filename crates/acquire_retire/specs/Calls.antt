@@ -48,7 +48,7 @@ module _ {P V : Type 0} where
     pub table : s.table_id ≡ d.table
     pub shape : s.me.0.core.shape ≡ d.shape
     pub seated : IsSeated s.me
-    pub own : IsOwn a
+    pub own : IsOwn a s.me.0
     pub may : May d.shape a s.me.0.core
     pub starts : FitsStart fits a s.me.0
     pub is_ready : IsReady ready d.shape a s.me.0

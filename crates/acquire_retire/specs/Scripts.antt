@@ -17,8 +17,6 @@ use Rattle.acquire_retire.specs.Seats.{SeatState}
 -- a call of its own makes it, and asks no more than that the seat may
 abbrev pub IsPlayed : Act → Type 0
 IsPlayed act.Start = ⊥
-IsPlayed (act.Alive j) = ⊥
-IsPlayed act.Ticket = ⊥
 IsPlayed (act.Destroy s) = ⊥
 IsPlayed (act.Leave j) = ⊥
 IsPlayed a = Unit {0}

@@ -9,7 +9,6 @@ use crate::domain::Domain;
 use crate::seat::{Seat, SeatOf};
 use crate::site::Site;
 use atomic_table::Join;
-use core_parts::move_all;
 use domain_rule::SeatView;
 use plain_protocol::Protocol;
 use std::marker::{Brand, PhantomData};
@@ -72,8 +71,8 @@ impl<P: Protocol> Domain<P> {
         } = seat;
         self.join(&mut root.seat, seat);
         root.batch.absorb(&mut batch);
-        move_all(&mut dying, &mut root.dying);
-        move_all(&mut ripe, &mut root.ripe);
+        let _moved = root.dying.append(&mut dying);
+        let _moved_ripe = root.ripe.append(&mut ripe);
         root.left += 1;
     }
 }

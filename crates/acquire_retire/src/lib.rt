@@ -44,6 +44,7 @@ mod standing;
 mod tests;
 #[cfg(test)]
 mod tests_seats;
+mod tickets;
 mod weak_counters;
 
 pub use core_events::{EventPlace, Kind, Outcome, Quota, Shape, ShapeField, SlotId};

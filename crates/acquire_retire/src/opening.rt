@@ -1,5 +1,5 @@
 //! How a domain is opened, with all its seats.
-ghost use Rattle.std.specs.Prelude.{ℕ, ◌≡◌, ◌↔◌, ◌+◌, ◌-◌, ◌*◌, ◌<◌, ◌≤◌, List, [], Option, Some, None, Err, IfOk, OnOk};
+ghost use Rattle.std.specs.Prelude.{ℕ, ◌≡◌, ◌↔◌, ◌+◌, ◌-◌, ◌*◌, ◌^◌, ◌<◌, ◌≤◌, List, [], Option, Some, None, Err, IfOk, OnOk, sum};
 ghost use Rattle.core_events.specs.declared.shape.ShapeField.{ShapeField};
 ghost use Rattle.core_events.specs.Runs.{AreTerms, IsShape};
 ghost use Rattle.core_events.specs.Words.{each_from};
@@ -48,6 +48,7 @@ fn new_seat<W>(
     requires seated { IsSeated seat.me }
     requires new { (grants : List ℕ)
         × (seat.me.0.core ≡ first_view shape.now number quota grants) }
+    requires grants { sum seat.me.0.core.grants ≤ 2 ^ 40 }
     requires room { room_of shape.now ≤ room }
     requires root { number ≡ 0 → shape.now.seats * room_of shape.now ≤ room }
     ensures { IfOk result (λ s. s ≡ record { table = seat.table_id; view = seat.me.0 }) }

@@ -9,7 +9,10 @@ use crate::domain::Domain;
 use crate::seat::Seat;
 use crate::splitting::{ripen, split};
 use core_events::{Act, EventPlace, Kind, Note, Outcome, Phase, SlotId};
-use core_parts::{announced_as, found_in, held_as, note_index, place_index};
+use core_parts::{
+    announced_as, counted, found_in, held_as, note_index, note_of, place_index, slot_in_note, slot_index,
+    validated,
+};
 use plain_protocol::{Deed, Protocol, Still};
 use std::marker::Brand;
 
@@ -86,6 +89,26 @@ impl<P: Protocol> Domain<P> {
             }
         }
         Outcome::Moved(found_in(found))
+    }
+
+    /// Reads the strong word of the slot that was announced for disposal: `Alive` where it counts references, and the seat
+    /// is under a weak snapshot of the slot then, else `Zeroed`.
+    pub fn alive<D: Deed<P>>(&self, seat: &mut Seat<P>, note: u32, deed: D) -> Outcome
+        requires seat { IsOf self.now seat.old }
+        requires may { May self.now.shape (act.Alive note) seat.old.view.core }
+        requires deed { IsReady (D.ready deed self.now.protocol) self.now.shape (act.Alive note)
+            seat.old.view }
+        ensures { Steps P.Kind.fits self.now (D.next deed self.now.protocol)
+            (D.allows deed self.now.protocol) (act.Alive note) seat.old seat.new result }
+    {
+        let announced = note_of(&seat.notes, note);
+        let word = slot_index(&self.shape, slot_in_note(announced));
+        let found = self.load_as::<D, Brand>(&mut seat.seat, Act::Alive(note), deed, word);
+        if counted(found) > 0 {
+            seat.notes[note as usize] = validated(announced);
+            return Outcome::Alive;
+        }
+        Outcome::Zeroed
     }
 
     /// Reads the next announcement word of the domain. The last one splits the retired entries: of equal ones as many

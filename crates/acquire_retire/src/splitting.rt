@@ -1,6 +1,8 @@
 //! The split of a batch by the announcements that a scan has read, and an entry that joins a batch.
-ghost use Rattle.std.specs.Prelude.{◌≡◌, ◌<◌, ◌≤◌, [], length, vec_len, vec_capacity};
+ghost use Rattle.std.specs.Prelude.{◌≡◌, ◌<◌, ◌≤◌, [], ◌∷◌, ◌++◌, true, length, take, vec_len, vec_capacity};
+ghost use Rattle.std.specs.List.{filter};
 ghost use Rattle.plain_state.specs.Steps.{joined};
+ghost use Rattle.core_events.specs.Views.{without};
 ghost use Rattle.retire_batch.specs.Ejection.{kept, ejected};
 ghost use Rattle.retire_batch.specs.Entries.{entry_count};
 ghost use Rattle.eject_scan.specs.Seen.{announced_in};
@@ -37,6 +39,21 @@ fn ripens(ripe: &[SlotId], seen: &Seen, slot: SlotId) -> bool
     !has_slot(ripe, slot) && seen.times(Kind::Disposal, slot) == 0
 }
 
+/// A dying slot joins those that are ripe, of which the first `were` were so before, if it becomes so.
+fn ripen_one(ripe: &mut Vec<SlotId>, were: usize, seen: &Seen, slot: SlotId)
+    requires were { were ≤ vec_len ripe.old }
+    requires room { ripens_by (take were ripe.old.items) (announced_in seen.now.words) slot ≡ true
+        → vec_len ripe.old < vec_capacity ripe.old }
+    ensures joined { ripe.new.items ≡ ripe.old.items
+        ++ filter (ripens_by (take were ripe.old.items) (announced_in seen.now.words))
+        (slot ∷ []) }
+    ensures capacity { vec_capacity ripe.new ≡ vec_capacity ripe.old }
+{
+    if ripens(&ripe[..were], seen, slot) {
+        ripe.push_reserved(slot);
+    }
+}
+
 /// The dying slots that become ripe join those that are.
 pub(crate) fn ripen(ripe: &mut Vec<SlotId>, dying: &[SlotId], seen: &Seen)
     requires { length (ripened_by ripe.old.items dying.now (announced_in seen.now.words))
@@ -47,8 +64,20 @@ pub(crate) fn ripen(ripe: &mut Vec<SlotId>, dying: &[SlotId], seen: &Seen)
 {
     let were = ripe.len();
     for slot in dying {
-        if ripens(&ripe[..were], seen, *slot) {
-            ripe.push_reserved(*slot);
+        ripen_one(ripe, were, seen, *slot);
+    }
+}
+
+/// Takes the first entry of the slot out of the list, if it is there.
+#[tactic(auto, using(core_parts::proofs::Slots::without_at, core_parts::proofs::Slots::without_none))]
+pub(crate) fn forget(list: &mut Vec<SlotId>, slot: SlotId)
+    ensures taken { list.new.items ≡ without slot list.old.items }
+    ensures capacity { vec_capacity list.new ≡ vec_capacity list.old }
+{
+    for i in 0..list.len() {
+        if list[i].0 == slot.0 {
+            let _ = list.remove(i);
+            return;
         }
     }
 }

@@ -2,10 +2,12 @@
 ghost use Rattle.std.specs.Prelude.{◌≡◌};
 ghost use Rattle.core_events.specs.declared.act.Act.TheVariants as act;
 ghost use Rattle.core_events.specs.Steps.{May};
+ghost use Rattle.domain_rule.specs.Views.{HasCleared};
 ghost use Rattle.acquire_retire.specs.Calls.{IsOf, IsSameView, Steps, same_view};
 
 use crate::domain::Domain;
 use crate::seat::Seat;
+use crate::splitting::forget;
 use core_events::{Act, Kind, Outcome, Phase, SlotId};
 use core_parts::{bit_alone, bits_index, counter_index, given_up, slot_in_phase};
 use plain_protocol::{Protocol, Still};
@@ -55,6 +57,29 @@ impl<P: Protocol> Domain<P> {
         let word = counter_index(&self.shape, Kind::Weak, slot);
         let found = self.load_as::<Still, Brand>(&mut seat.seat, Act::Wcount(slot), Still, word);
         Outcome::Word(found)
+    }
+
+    /// Gives up the own weak reference of a ripe slot, all of whose fields the seat itself has left null: `Last` where it
+    /// was the last one, and the seat is to give the slot back then.
+    pub fn destroy(&self, seat: &mut Seat<P>, slot: SlotId) -> Outcome
+        requires seat { IsOf self.now seat.old }
+        requires may { May self.now.shape (act.Destroy slot) seat.old.view.core }
+        requires cleared { HasCleared seat.old.view slot }
+        ensures { Steps P.Kind.fits self.now same_view IsSameView (act.Destroy slot)
+            seat.old seat.new result }
+    {
+        let word = counter_index(&self.shape, Kind::Weak, slot);
+        let found = self.fetch_sub_as::<Still, Brand>(
+            &mut seat.seat,
+            Act::Destroy(slot),
+            Still,
+            word,
+        );
+        forget(&mut seat.dying, slot);
+        forget(&mut seat.ripe, slot);
+        let (phase, outcome) = given_up(Kind::Weak, slot, found);
+        seat.phase = phase;
+        outcome
     }
 
     /// Gives back the slot whose weak word the seat took to 0: it sets the slot's bit, and the slot is free to be

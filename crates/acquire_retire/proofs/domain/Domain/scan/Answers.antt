@@ -12,7 +12,7 @@ load_as-found-requires-clause-can g c = can_still c.args.self.now _ act.Scan
 
 pub note-requires : goal.note-requires
 note-requires g c =
-    let room = room_to_read c.seat.inside.seat.me.0.core _ _ _ _ c.seat.invariant.seated.law
+    let room = room_to_read c.seat.inside.seat.me.0.core _ _ _ _ _ c.seat.invariant.seated.law
     c.seat.invariant.stores c.seat.invariant.rooms in
     search rules
 
@@ -24,9 +24,10 @@ invariant_of-seat-2 g c =
     let shape = c.self.invariant.same ∙ ap (λ (d : DomainState _). d.shape) c.self.view_is in
     let last = reads_last c.args.self.now.shape _ c.seat.inside.seat.me.0.core _ shape
     c.seat.invariant.stores c.if-seat-self.false in
-    rw (c.split-stay.ensures.batch, c.clear.ensures, c.note.ensures)
+    rw (c.split-stay.ensures.batch, c.clear.ensures, c.note.ensures, c.ripen.ensures.ripened,
+    c.ripen.ensures.capacity)
     (scan_ends c.args.self.now _ _ c.seat.inside.seat c.load_as-found.new.seat c.load_as-found.result
-    c.load_as-found.ensures _ _ _ _ c.seat.invariant can.shape last)
+    c.load_as-found.ensures _ _ _ _ _ c.seat.invariant can.shape last)
 
 pub returns : goal.returns
 returns g c =
@@ -40,5 +41,5 @@ returns g c =
     call_tells c.args.self.now _ _ act.Scan c.seat.inside.seat c.load_as-found.new.seat
     c.load_as-found.result c.load_as-found.ensures c.args.seat.now c.seat.view_is _
     (split_answers c.args.self.now _ _ c.seat.inside.seat c.load_as-found.new.seat
-    c.load_as-found.result c.load_as-found.ensures _ _ _ _ c.seat.invariant can.shape last _ _
+    c.load_as-found.result c.load_as-found.ensures _ _ _ _ _ c.seat.invariant can.shape last _ _
     (e.stay ∙ rw (e.batch, c.note.ensures) refl) (e.go ∙ rw (e.batch, c.note.ensures) refl))
