@@ -1,24 +1,32 @@
 -- What a call of a seat makes of the seat, from the atomic step that it makes.
-use Rattle.std.proofs.Common.{◌≡◌, ℕ, ◌*◌, ◌^◌, ◌≤◌, Bool, true, false, List, [], ◌∷◌, sum, ap, sym, ◌∙◌, subst, arith}
-use Rattle.std.specs.Prelude.{◌==◌, if◌then◌else◌}
+use Rattle.std.proofs.Common.{◌≡◌, ℕ, ◌*◌, ◌^◌, ◌≤◌, Bool, true, false, List, [], ◌∷◌, sum, refl, ap, sym, ◌∙◌, subst, arith}
+use Rattle.std.specs.Prelude.{◌==◌, if◌then◌else◌, Option, Some, None}
+use Rattle.std.proofs.lemmas.Bool.Decides.{nat_tests}
 use Rattle.atomic_table.specs.declared.shared.Seat.{Seat as TableSeat}
 use Rattle.plain_state.specs.declared.act.PlainAct.{PlainAct}
 use Rattle.plain_state.specs.declared.act.PlainAct.TheVariants as plain
+use Rattle.plain_state.specs.declared.act.EventPlace.{EventPlace}
+use Rattle.plain_state.specs.declared.slot.Kind.{Kind}
+use Rattle.plain_state.specs.declared.slot.Kind.TheVariants.{Strong, Weak, Disposal}
+use Rattle.plain_state.specs.declared.slot.SlotId.{SlotId}
 use Rattle.plain_state.specs.Lists.{Entry}
+use Rattle.plain_state.specs.Places.{place_kind}
 use Rattle.plain_state.specs.State.{Plain}
+use Rattle.plain_state.specs.Steps.{joined, word_of}
 use Rattle.plain_protocol.specs.Acts.{IsCalm}
 use Rattle.plain_protocol.specs.Owns.{OwnPart}
 use Rattle.core_events.specs.declared.act.Act.{Act}
 use Rattle.core_events.specs.declared.act.Act.TheVariants as act
 use Rattle.core_events.specs.declared.outcome.Outcome.{Outcome}
+use Rattle.core_events.specs.declared.outcome.Outcome.TheVariants as outcome
 use Rattle.core_events.specs.declared.shape.Shape.{Shape}
 use Rattle.core_events.specs.declared.view.CoreView.{CoreView}
 use Rattle.core_events.specs.declared.view.Note.{Note}
 use Rattle.core_events.specs.declared.view.Note.TheVariants as note
 use Rattle.core_events.specs.ShownSteps.{ejects, releases, shown_act}
-use Rattle.core_events.specs.Steps.{May, answer, is_last, moved}
+use Rattle.core_events.specs.Steps.{May, answer, exchanged, is_last, moved, noted}
 use Rattle.core_events.specs.Views.{note_of, room_of, slot_of}
-use Rattle.core_events.specs.Words.{bit_in, has_help}
+use Rattle.core_events.specs.Words.{bit_in, has_help, slot_in}
 use Rattle.domain_rule.specs.declared.view.SeatView.{SeatView}
 use Rattle.domain_rule.specs.Told.{FitsStart, IsOwn}
 use Rattle.acquire_retire.specs.Calls.{CanStep, IsOf, IsReady, Stepped, Steps}
@@ -96,6 +104,28 @@ module _ {P V : Type 0} (d : DomainState P) where
             grants = subst (λ (gs : List ℕ). sum gs ≤ 2 ^ 40) (sym grants) rooms.grants;
           };
         }
+
+-- what a seat stores where a place of kind k gave it up what it held
+exchanged_kept : (a : Act) (o : Outcome) (k : Kind) (new : Option SlotId) (w : ℕ) (v : CoreView)
+    → kept (noted a o (exchanged k new w v))
+    ≡ (record (stored v) { retired = joined k (slot_in w) v.retired }, v.room, v.grants)
+exchanged_kept a o k None w v = refl
+exchanged_kept a o Strong (Some s) w v = refl
+exchanged_kept a o Weak (Some s) w v = refl
+exchanged_kept a o Disposal (Some s) w v = refl
+
+module _ (z : Shape) (p : EventPlace) (old new : Option SlotId) (w : ℕ) (v : CoreView) where
+  pub cas_done : w ≡ word_of old → kept (moved z (act.Cas p old new) w v)
+      ≡ (record (stored v) { retired = joined (place_kind p) (slot_in w) v.retired }, v.room,
+      v.grants)
+  cas_done is =
+      let test : (w == word_of old) ≡ true = grind (arith, nat_tests) in
+      rw test (exchanged_kept (act.Cas p old new) outcome.Done (place_kind p) new w v)
+
+  pub cas_lost : (w ≡ word_of old → ⊥)
+      → kept (moved z (act.Cas p old new) w v) ≡ (stored v, v.room, v.grants)
+  cas_lost lost =
+      let test : (w == word_of old) ≡ false = grind (arith, nat_tests) in rw test refl
 
 -- acts that are calm whatever they find
 abbrev pub IsQuiet : Act → Type 0

@@ -11,7 +11,7 @@ use Rattle.acquire_retire.proofs.Collects.{goes_append}
 pub collects_by : {P V : Type 0} {fits : List ℕ → Type 0} (d : DomainState P) (a b c : SeatState V) (go ended : ℕ)
     → Splits fits d a b go → PaysFor fits d b c go ended
     → Collects fits d a c (record { scanned = announcements d.shape; ejected = go; ended = ended })
-collects_by d a b c go ended split paid =
+collects_by {fits = fits} d a b c go ended split paid =
     let payments = paid.0 in
     let pays = paid.1 in
     let all : length payments ≡ go = paid.2 in

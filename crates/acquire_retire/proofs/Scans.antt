@@ -168,6 +168,19 @@ reads_last z y v s same stores last =
     let seats = ap (λ (x : Shape). x.seats) same in
     let all : length v.seen + 1 ≡ 4 * z.seats = omega arith in grind (arith, nat_tests)
 
+-- and that it isn't
+pub reads_on : (z y : Shape) (v : CoreView) (s : Stored) → y ≡ z → s ≡ stored v
+    → (s.read + 1 ≡ 4 * y.seats → ⊥) → is_last z v ≡ false
+reads_on z y v s same stores more =
+    let read = ap (λ (t : Stored). t.read) stores in
+    let seats = ap (λ (x : Shape). x.seats) same in
+    let on : length v.seen + 1 ≡ 4 * z.seats → ⊥ = λ e. more (omega arith) in
+    grind (arith, nat_tests)
+
+pub reads_word : (z : Shape) (v : CoreView) (w : ℕ) → is_last z v ≡ false
+    → outcome.Word w ≡ answer z act.Scan w v
+reads_word z v w on = rw on refl
+
 module _ {P V : Type 0} {fits : List ℕ → Type 0} (d : DomainState P) (next_view : OwnPart → OwnPart → V → PlainAct → ℕ → V)
     (allows : Plain → Plain → ℕ → V → V → Type 0) (old new : TableSeat (Unit {0}) (SeatView V))
     (w : ℕ) (step : Stepped fits d next_view allows act.Scan old w new) (s : Stored)
