@@ -4,7 +4,7 @@ use Rattle.std.proofs.Common.{◌≡◌, ◌≢◌, ℕ, ◌+◌, Bool, true, fa
 use Rattle.std.specs.Prelude.{◌==◌, nat_lt, if◌then◌else◌, Option}
 use Rattle.std.proofs.lemmas.Bool.Decides.{nat_tests}
 use Rattle.plain_state.specs.declared.slot.Kind.{Kind}
-use Rattle.plain_state.specs.declared.slot.Kind.TheVariants.{Strong, Weak}
+use Rattle.plain_state.specs.declared.slot.Kind.TheVariants.{Strong, Weak, Disposal}
 use Rattle.plain_state.specs.declared.slot.SlotId.{SlotId}
 use Rattle.plain_state.specs.Lists.{Entry}
 use Rattle.plain_state.specs.Places.{place_kind}
@@ -18,7 +18,7 @@ use Rattle.core_events.specs.declared.view.CoreView.{CoreView}
 use Rattle.core_events.specs.declared.view.Phase.TheVariants as phase
 use Rattle.core_events.specs.Steps.{answer, changed, decremented, ended, exchanged, given_up, is_last, is_valid, moved, noted, paid, paid_outcome, scanned, validated, with_note, without_given}
 use Rattle.core_events.specs.Views.{note_of, slot_of, without}
-use Rattle.core_events.specs.Words.{ZERO, has_help, slot_in}
+use Rattle.core_events.specs.Words.{ZERO, bit_in, has_help, slot_in, value}
 
 -- two tests with one answer, where the answers of a test differ
 one_test : (b c : Bool) (x x' y y' : Outcome) → x ≢ y' → x' ≢ y
@@ -38,6 +38,7 @@ given_same Weak s w x v same =
     ap (λ (b : Bool). record v { phase = if b then phase.Give s else phase.Idle })
     (one_test (w == 1) (x == 1) outcome.Last outcome.Last outcome.Left outcome.Left
     (λ e. cc (e)) (λ e. cc (e)) same)
+given_same Disposal s w x v same = refl
 
 paid_same : (es : List Entry) (w x : ℕ) (v : CoreView)
     → paid_outcome w es ≡ paid_outcome x es → paid w es v ≡ paid x es v
@@ -112,6 +113,10 @@ changed_same z (act.Check j p) w x v same =
     ap (λ (b : Bool). if b then with_note j (validated (note_of v j)) v else v)
     (one_test (is_valid w (note_of v j)) (is_valid x (note_of v j)) outcome.Valid outcome.Valid _ _
     (λ e. cc (e)) (λ e. cc (e)) same)
+changed_same z (act.Alive j) w x v same =
+    ap (λ (b : Bool). if b then with_note j (validated (note_of v j)) v else v)
+    (one_test (nat_lt 0 (value w)) (nat_lt 0 (value x)) outcome.Alive outcome.Alive outcome.Zeroed
+    outcome.Zeroed (λ e. cc (e)) (λ e. cc (e)) same)
 changed_same z act.Scan w x v same =
     ap (λ (n : ℕ). scanned z n v) (scan_same z (is_last z v) w x v refl same)
 changed_same z (act.Swap p new) w x v same =
@@ -120,18 +125,23 @@ changed_same z (act.Cas p old new) w x v same =
     cas_same (place_kind p) new (word_of old) w x v (w == word_of old) (x == word_of old) refl refl
     same
 changed_same z (act.Claim s) w x v same =
-    ap (λ (b : Bool). if b then record v { makes = v.makes + 1; phase = phase.Blank s } else v)
-    (one_test (w == ZERO) (x == ZERO) outcome.Claimed outcome.Claimed outcome.Taken outcome.Taken
+    ap (λ (b : Bool). if b then record v { makes = v.makes + 1; phase = phase.Bare s } else v)
+    (one_test (bit_in s w == 1) (bit_in s x == 1) outcome.Claimed outcome.Claimed _ _
     (λ e. cc (e)) (λ e. cc (e)) same)
+changed_same z act.Arm w x v same = refl
 changed_same z (act.Fill i y) w x v same = refl
 changed_same z act.Start w x v same = refl
 changed_same z (act.See s i) w x v same = refl
 changed_same z act.Free w x v same = refl
+changed_same z act.Ticket w x v same =
+    let is : w ≡ x = cc (same) in
+    ap (λ (n : ℕ). record v { adds = v.adds + 1; tickets = v.tickets ++ n ∷ [] }) is
 changed_same z (act.Wadd s) w x v same = refl
 changed_same z (act.Wdrop s) w x v same =
     given_same Weak s w x (record v { weaks = without s v.weaks }) same
 changed_same z (act.Destroy s) w x v same =
-    given_same Weak s w x (record v { dying = without s v.dying }) same
+    given_same Weak s w x (record v { dying = without s v.dying; ripe = without s v.ripe })
+    same
 changed_same z (act.Wcount s) w x v same = refl
 changed_same z (act.Leave j) w x v same = refl
 

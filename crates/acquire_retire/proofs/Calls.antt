@@ -1,24 +1,32 @@
 -- What a call of a seat makes of the seat, from the atomic step that it makes.
-use Rattle.std.proofs.Common.{◌≡◌, ℕ, ◌*◌, ◌≤◌, Bool, true, false, List, [], ◌∷◌, ap, sym, ◌∙◌, subst, arith}
-use Rattle.std.specs.Prelude.{◌==◌, if◌then◌else◌}
+use Rattle.std.proofs.Common.{◌≡◌, ℕ, ◌*◌, ◌^◌, ◌≤◌, Bool, true, false, List, [], ◌∷◌, sum, refl, ap, sym, ◌∙◌, subst, arith}
+use Rattle.std.specs.Prelude.{◌==◌, if◌then◌else◌, Option, Some, None}
+use Rattle.std.proofs.lemmas.Bool.Decides.{nat_tests}
 use Rattle.atomic_table.specs.declared.shared.Seat.{Seat as TableSeat}
 use Rattle.plain_state.specs.declared.act.PlainAct.{PlainAct}
 use Rattle.plain_state.specs.declared.act.PlainAct.TheVariants as plain
+use Rattle.plain_state.specs.declared.act.EventPlace.{EventPlace}
+use Rattle.plain_state.specs.declared.slot.Kind.{Kind}
+use Rattle.plain_state.specs.declared.slot.Kind.TheVariants.{Strong, Weak, Disposal}
+use Rattle.plain_state.specs.declared.slot.SlotId.{SlotId}
 use Rattle.plain_state.specs.Lists.{Entry}
+use Rattle.plain_state.specs.Places.{place_kind}
 use Rattle.plain_state.specs.State.{Plain}
+use Rattle.plain_state.specs.Steps.{joined, word_of}
 use Rattle.plain_protocol.specs.Acts.{IsCalm}
 use Rattle.plain_protocol.specs.Owns.{OwnPart}
 use Rattle.core_events.specs.declared.act.Act.{Act}
 use Rattle.core_events.specs.declared.act.Act.TheVariants as act
 use Rattle.core_events.specs.declared.outcome.Outcome.{Outcome}
+use Rattle.core_events.specs.declared.outcome.Outcome.TheVariants as outcome
 use Rattle.core_events.specs.declared.shape.Shape.{Shape}
 use Rattle.core_events.specs.declared.view.CoreView.{CoreView}
 use Rattle.core_events.specs.declared.view.Note.{Note}
 use Rattle.core_events.specs.declared.view.Note.TheVariants as note
 use Rattle.core_events.specs.ShownSteps.{ejects, releases, shown_act}
-use Rattle.core_events.specs.Steps.{May, answer, is_last, moved}
+use Rattle.core_events.specs.Steps.{May, answer, exchanged, is_last, moved, noted}
 use Rattle.core_events.specs.Views.{note_of, room_of, slot_of}
-use Rattle.core_events.specs.Words.{ZERO, has_help}
+use Rattle.core_events.specs.Words.{bit_in, has_help, slot_in}
 use Rattle.domain_rule.specs.declared.view.SeatView.{SeatView}
 use Rattle.domain_rule.specs.Told.{FitsStart, IsOwn}
 use Rattle.acquire_retire.specs.Calls.{CanStep, IsOf, IsReady, Stepped, Steps}
@@ -26,8 +34,8 @@ use Rattle.acquire_retire.specs.Domains.{DomainState}
 use Rattle.acquire_retire.specs.Seats.{HasRooms, IsSeat, IsSeated, SeatState, Stored, stored}
 
 -- what a seat stores of a view, and the room that the view asks for
-abbrev pub kept : CoreView → Stored × ℕ
-kept v = (stored v, v.room)
+abbrev pub kept : CoreView → Stored × ℕ × List ℕ
+kept v = (stored v, v.room, v.grants)
 
 -- what clauses see of the seat of a table
 abbrev pub value_of : {V : Type 0} → TableSeat (Unit {0}) (SeatView V) → SeatState V
@@ -37,32 +45,32 @@ module _ {P V : Type 0} (d : DomainState P) where
   -- what a call requires is what its atomic step requires
   pub can_step : (ready : OwnPart → V → PlainAct → Type 0) (fits : List ℕ → Type 0) (a : Act)
       (seat : TableSeat (Unit {0}) (SeatView V)) (s : SeatState V) → value_of seat ≡ s
-      → IsSeated seat.me → IsOf d s → IsOwn a → May d.shape a s.view.core → FitsStart fits a s.view
+      → IsSeated seat.me → IsOf d s → IsOwn a s.view → May d.shape a s.view.core → FitsStart fits a s.view
       → IsReady ready d.shape a s.view → CanStep d ready fits a seat
   can_step ready fits a seat s is seated of own may starts is_ready =
-      let T : SeatState V → Type 0 = λ x. IsOf d x × May d.shape a x.view.core
+      let T : SeatState V → Type 0 = λ x. IsOf d x × IsOwn a x.view × May d.shape a x.view.core
       × FitsStart fits a x.view × IsReady ready d.shape a x.view in
-      let t = subst T (sym is) (of, may, starts, is_ready) in
+      let t = subst T (sym is) (of, own, may, starts, is_ready) in
       record {
         table = t.0.0;
         shape = t.0.1;
         seated = seated;
-        own = own;
-        may = t.1;
-        starts = t.2;
-        is_ready = t.3;
+        own = t.1;
+        may = t.2;
+        starts = t.3;
+        is_ready = t.4;
       }
 
-  module _ (next_view : OwnPart → V → PlainAct → ℕ → V)
+  module _ {fits : List ℕ → Type 0} (next_view : OwnPart → OwnPart → V → PlainAct → ℕ → V)
       (allows : Plain → Plain → ℕ → V → V → Type 0) (a : Act)
       (old new : TableSeat (Unit {0}) (SeatView V)) (w : ℕ)
-      (step : Stepped d next_view allows a old w new) where
+      (step : Stepped fits d next_view allows a old w new) where
     -- and what the atomic step told is what the call tells
     pub call_tells : (s : SeatState V) → value_of old ≡ s → (o : Outcome)
         → o ≡ answer d.shape a w old.me.0.core
-        → Steps d next_view allows a s (value_of new) o
+        → Steps fits d next_view allows a s (value_of new) o
     call_tells s is o answers =
-        let T : SeatState V → Type 0 = λ x. Steps d next_view allows a x (value_of new) o in
+        let T : SeatState V → Type 0 = λ x. Steps fits d next_view allows a x (value_of new) o in
         subst T is (record {
           table = step.table;
           word = w;
@@ -71,34 +79,60 @@ module _ {P V : Type 0} (d : DomainState P) where
         })
 
     -- the seat stores what its new view has
-    pub seat_after : (f : Stored → Stored) (s : Stored) (batch_room seen_room dying_room : ℕ)
+    pub seat_after : (f : Stored → Stored) (s : Stored) (batch_room seen_room dying_room ripe_room : ℕ)
         → old.me.0.core.shape ≡ d.shape → s ≡ stored old.me.0.core
-        → HasRooms old.me.0.core batch_room seen_room dying_room
-        → kept (moved d.shape a w old.me.0.core) ≡ (f (stored old.me.0.core), old.me.0.core.room)
-        → IsSeat new.me (f s) batch_room seen_room dying_room
-    seat_after f s batch_room seen_room dying_room same stores rooms goes =
+        → HasRooms old.me.0.core batch_room seen_room dying_room ripe_room
+        → kept (moved d.shape a w old.me.0.core) ≡ (f (stored old.me.0.core), old.me.0.core.room, old.me.0.core.grants)
+        → IsSeat new.me (f s) batch_room seen_room dying_room ripe_room
+    seat_after f s batch_room seen_room dying_room ripe_room same stores rooms goes =
         let after = ap kept step.told.core ∙ goes in
         let shape = step.told.law.same_shape ∙ sym same in
         let seats = ap (λ (z : Shape). z.seats) shape in
         let slots = ap (λ (z : Shape). z.slots) shape in
-        let room = ap (λ (k : Stored × ℕ). k.1) after in
+        let grants = ap (λ (k : Stored × ℕ × List ℕ). k.2) after in
+        let room = ap (λ (k : Stored × ℕ × List ℕ). k.1) after in
         record {
           seated = step.seated;
-          stores = ap f stores ∙ sym (ap (λ (k : Stored × ℕ). k.0) after);
+          stores = ap f stores ∙ sym (ap (λ (k : Stored × ℕ × List ℕ). k.0) after);
           rooms = record {
             batch = omega (arith, rooms.batch);
             root = λ first. subst (λ (z : Shape). z.seats * room_of z ≤ batch_room) (sym shape)
                 (rooms.root (sym step.told.law.number ∙ first));
             seen = omega (arith, rooms.seen);
             dying = omega (arith, rooms.dying);
+            ripe = omega (arith, rooms.ripe);
+            grants = subst (λ (gs : List ℕ). sum gs ≤ 2 ^ 40) (sym grants) rooms.grants;
           };
         }
+
+-- what a seat stores where a place of kind k gave it up what it held
+exchanged_kept : (a : Act) (o : Outcome) (k : Kind) (new : Option SlotId) (w : ℕ) (v : CoreView)
+    → kept (noted a o (exchanged k new w v))
+    ≡ (record (stored v) { retired = joined k (slot_in w) v.retired }, v.room, v.grants)
+exchanged_kept a o k None w v = refl
+exchanged_kept a o Strong (Some s) w v = refl
+exchanged_kept a o Weak (Some s) w v = refl
+exchanged_kept a o Disposal (Some s) w v = refl
+
+module _ (z : Shape) (p : EventPlace) (old new : Option SlotId) (w : ℕ) (v : CoreView) where
+  pub cas_done : w ≡ word_of old → kept (moved z (act.Cas p old new) w v)
+      ≡ (record (stored v) { retired = joined (place_kind p) (slot_in w) v.retired }, v.room,
+      v.grants)
+  cas_done is =
+      let test : (w == word_of old) ≡ true = grind (arith, nat_tests) in
+      rw test (exchanged_kept (act.Cas p old new) outcome.Done (place_kind p) new w v)
+
+  pub cas_lost : (w ≡ word_of old → ⊥)
+      → kept (moved z (act.Cas p old new) w v) ≡ (stored v, v.room, v.grants)
+  cas_lost lost =
+      let test : (w == word_of old) ≡ false = grind (arith, nat_tests) in rw test refl
 
 -- acts that are calm whatever they find
 abbrev pub IsQuiet : Act → Type 0
 IsQuiet (act.Swap p new) = ⊥
 IsQuiet (act.Cas p old new) = ⊥
 IsQuiet act.Start = ⊥
+IsQuiet act.Ticket = ⊥
 IsQuiet (act.Leave j) = ⊥
 IsQuiet a = Unit {0}
 
@@ -132,6 +166,7 @@ quiet_calm z (act.Release j) w v quiet = ended (note_of v j)
     ended (note.Valid k s) = tt
 quiet_calm z (act.Look p) w v quiet = tt
 quiet_calm z (act.Check j p) w v quiet = tt
+quiet_calm z (act.Alive j) w v quiet = tt
 quiet_calm z act.Scan w v quiet = splits (is_last z v)
   where
     splits : (b : Bool) → IsCalm (if b then plain.Split else plain.Still)
@@ -139,15 +174,17 @@ quiet_calm z act.Scan w v quiet = splits (is_last z v)
     splits false = tt
 quiet_calm z (act.Swap p new) w v quiet = absurd quiet
 quiet_calm z (act.Cas p old new) w v quiet = absurd quiet
-quiet_calm z (act.Claim s) w v quiet = claims (w == ZERO)
+quiet_calm z (act.Claim s) w v quiet = claims (bit_in s w == 1)
   where
     claims : (b : Bool) → IsCalm (if b then plain.Claim s else plain.Still)
     claims true = tt
     claims false = tt
+quiet_calm z act.Arm w v quiet = tt
 quiet_calm z (act.Fill i x) w v quiet = tt
 quiet_calm z act.Start w v quiet = absurd quiet
 quiet_calm z (act.See s i) w v quiet = tt
 quiet_calm z act.Free w v quiet = tt
+quiet_calm z act.Ticket w v quiet = absurd quiet
 quiet_calm z (act.Wadd s) w v quiet = tt
 quiet_calm z (act.Wdrop s) w v quiet = tt
 quiet_calm z (act.Destroy s) w v quiet = tt
@@ -160,7 +197,7 @@ not_start a quiet is = subst IsQuiet is quiet
 -- what a call without a deed requires is what its atomic step requires
 pub can_still : {P V : Type 0} (d : DomainState P) (fits : List ℕ → Type 0) (a : Act)
     (seat : TableSeat (Unit {0}) (SeatView V)) (s : SeatState V) → value_of seat ≡ s
-    → IsSeated seat.me → IsOf d s → IsOwn a → IsQuiet a → May d.shape a s.view.core
+    → IsSeated seat.me → IsOf d s → IsOwn a s.view → IsQuiet a → May d.shape a s.view.core
     → CanStep d (λ own v act. IsCalm act) fits a seat
 can_still d fits a seat s is seated of own quiet may =
     can_step d (λ own v act. IsCalm act) fits a seat s is seated of own may

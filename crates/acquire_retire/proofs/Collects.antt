@@ -1,7 +1,7 @@
 -- The steps of a collect: what each leaves, and how moves follow one another.
 use Rattle.std.proofs.Common.{◌≡◌, ℕ, Bool, true, false, List, [], ◌∷◌, ◌++◌, refl, ap, ◌∙◌, subst}
 use Rattle.std.specs.Prelude.{◌==◌, if◌then◌else◌}
-use Rattle.plain_state.specs.declared.slot.Kind.TheVariants.{Strong, Weak}
+use Rattle.plain_state.specs.declared.slot.Kind.TheVariants.{Strong, Weak, Disposal}
 use Rattle.plain_state.specs.declared.slot.SlotId.{SlotId}
 use Rattle.plain_state.specs.Lists.{Entry}
 use Rattle.core_events.specs.declared.act.Act.{Act}
@@ -38,6 +38,7 @@ paid_rest : (w : ℕ) (es : List Entry) (v : CoreView) → rest_of (paid w es v)
 paid_rest w [] v = refl
 paid_rest w ((Strong, s) ∷ es) v = refl
 paid_rest w ((Weak, s) ∷ es) v = refl
+paid_rest w ((Disposal, s) ∷ es) v = refl
 
 ended_rest : (b : Bool) (s : SlotId) (p : Phase) (v : CoreView)
     → rest_of (ended b s p v) ≡ rest_of v
@@ -59,59 +60,63 @@ changed_rest z (act.Announce j k s) w v is = absurd is
 changed_rest z (act.Release j) w v is = absurd is
 changed_rest z (act.Look p) w v is = absurd is
 changed_rest z (act.Check j p) w v is = absurd is
+changed_rest z (act.Alive j) w v is = absurd is
 changed_rest z (act.Swap p new) w v is = absurd is
 changed_rest z (act.Cas p old new) w v is = absurd is
 changed_rest z (act.Claim s) w v is = absurd is
+changed_rest z act.Arm w v is = absurd is
 changed_rest z (act.Fill i x) w v is = absurd is
 changed_rest z act.Start w v is = absurd is
 changed_rest z (act.See s i) w v is = absurd is
+changed_rest z act.Ticket w v is = absurd is
 changed_rest z (act.Wadd s) w v is = absurd is
 changed_rest z (act.Wdrop s) w v is = absurd is
 changed_rest z (act.Destroy s) w v is = absurd is
 changed_rest z (act.Wcount s) w v is = absurd is
 changed_rest z (act.Leave j) w v is = absurd is
 
-module _ {P V : Type 0} (d : DomainState P) where
-  walks_append : (xs ys : List Move) (a b c : SeatState V) → Walks d xs a b → Walks d ys b c
-      → Walks d (xs ++ ys) a c
-  walks_append [] ys a b c first more = subst (λ (x : SeatState V). Walks d ys x c) first more
+module _ {P V : Type 0} (fits : List ℕ → Type 0) (d : DomainState P) where
+  walks_append : (xs ys : List Move) (a b c : SeatState V) → Walks fits d xs a b → Walks fits d ys b c
+      → Walks fits d (xs ++ ys) a c
+  walks_append [] ys a b c first more = subst (λ (x : SeatState V). Walks fits d ys x c) first more
   walks_append (x ∷ xs) ys a b c first more =
       (first.0, first.1, walks_append xs ys first.0 b c first.2 more)
 
-  walks_table : (ms : List Move) (a b : SeatState V) → Walks d ms a b → b.table ≡ a.table
+  walks_table : (ms : List Move) (a b : SeatState V) → Walks fits d ms a b → b.table ≡ a.table
   walks_table [] a b walks = ap (λ (x : SeatState V). x.table) walks
   walks_table (m ∷ ms) a b walks = walks_table ms walks.0 b walks.2 ∙ walks.1.table
 
-  pub goes_append : (xs ys : List Move) (a b c : SeatState V) → Goes d xs a b → Goes d ys b c
-      → Goes d (xs ++ ys) a c
+module _ {P V : Type 0} {fits : List ℕ → Type 0} (d : DomainState P) where
+  pub goes_append : (xs ys : List Move) (a b c : SeatState V) → Goes fits d xs a b → Goes fits d ys b c
+      → Goes fits d (xs ++ ys) a c
   goes_append xs ys a b c first more = record {
-    walks = walks_append xs ys a b c first.walks more.walks;
+    walks = walks_append fits d xs ys a b c first.walks more.walks;
     rest = more.rest ∙ first.rest;
     client = more.client ∙ first.client;
   }
 
-  pub goes_nowhere : (a : SeatState V) → Goes d [] a a
+  pub goes_nowhere : (a : SeatState V) → Goes fits d [] a a
   goes_nowhere a = record { walks = refl; rest = refl; client = refl }
 
   -- a step of a collect, with its outcome by another name
   pub goes_by : (a : Act) (o : Outcome) (old new : SeatState V) → IsGathering a → (x : Outcome)
-      → x ≡ o → Steps d same_view IsSameView a old new x → Goes d (move a o ∷ []) old new
+      → x ≡ o → Steps fits d same_view IsSameView a old new x → Goes fits d (move a o ∷ []) old new
   goes_by a o old new is x same step = record {
-    walks = (new, subst (λ (x : Outcome). Steps d same_view IsSameView a old new x) same step, refl);
+    walks = (new, subst (λ (x : Outcome). Steps fits d same_view IsSameView a old new x) same step, refl);
     rest = ap rest_of step.told.core ∙ changed_rest d.shape a step.word old.view.core is;
     client = step.told.client;
   }
 
   -- a seat stays a seat of the domain
-  pub is_of_after : (ms : List Move) (old new : SeatState V) → IsOf d old → Goes d ms old new
+  pub is_of_after : (ms : List Move) (old new : SeatState V) → IsOf d old → Goes fits d ms old new
       → IsOf d new
   is_of_after ms old new of goes = (
-    walks_table ms old new goes.walks ∙ of.0,
+    walks_table fits d ms old new goes.walks ∙ of.0,
     ap (λ (v : CoreView). v.shape) goes.rest ∙ of.1,
   )
 
   -- one that is in the middle of nothing again is idle
   pub is_idle_after : (ms : List Move) (old new : SeatState V) → IsIdle old.view.core
-      → Goes d ms old new → new.view.core.phase ≡ phase.Idle → IsIdle new.view.core
+      → Goes fits d ms old new → new.view.core.phase ≡ phase.Idle → IsIdle new.view.core
   is_idle_after ms old new idle goes is =
       (is, ap (λ (v : CoreView). v.left) goes.rest ∙ idle.1)

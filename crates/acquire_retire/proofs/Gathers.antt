@@ -1,5 +1,5 @@
 -- A whole scan, and then a payment for each entry that went.
-use Rattle.std.proofs.Common.{◌≡◌, ℕ, ◌++◌, length, ap, sym, subst, arith}
+use Rattle.std.proofs.Common.{◌≡◌, ℕ, List, ◌++◌, length, ap, sym, subst, arith}
 use Rattle.std.specs.Prelude.{flat_map}
 use Rattle.std.proofs.lemmas.List.{nil_from_length}
 use Rattle.core_events.specs.Words.{announcements}
@@ -8,10 +8,10 @@ use Rattle.acquire_retire.specs.Domains.{DomainState}
 use Rattle.acquire_retire.specs.Seats.{SeatState}
 use Rattle.acquire_retire.proofs.Collects.{goes_append}
 
-pub collects_by : {P V : Type 0} (d : DomainState P) (a b c : SeatState V) (go ended : ℕ)
-    → Splits d a b go → PaysFor d b c go ended
-    → Collects d a c (record { scanned = announcements d.shape; ejected = go; ended = ended })
-collects_by d a b c go ended split paid =
+pub collects_by : {P V : Type 0} {fits : List ℕ → Type 0} (d : DomainState P) (a b c : SeatState V) (go ended : ℕ)
+    → Splits fits d a b go → PaysFor fits d b c go ended
+    → Collects fits d a c (record { scanned = announcements d.shape; ejected = go; ended = ended })
+collects_by {fits = fits} d a b c go ended split paid =
     let payments = paid.0 in
     let pays = paid.1 in
     let all : length payments ≡ go = paid.2 in
@@ -27,7 +27,7 @@ collects_by d a b c go ended split paid =
       payments = payments;
       all = split.all;
       goes =
-          subst (λ (n : ℕ × ℕ). Goes d (scanned_by split.seen split.last n.0 n.1
+          subst (λ (n : ℕ × ℕ). Goes fits d (scanned_by split.seen split.last n.0 n.1
           ++ flat_map paid_by payments) a c) (λ i. (sym stay i, sym all i)) goes;
       did =
           λ i. record {

@@ -12,31 +12,35 @@ use Rattle.plain_state.specs.declared.slot.PlainSlot.{PlainSlot}
 use Rattle.plain_state.specs.declared.slot.Stage.{Stage}
 use Rattle.plain_state.specs.declared.slot.Stage.TheVariants.{Free, Blank, Live, Ended, Husk}
 use Rattle.plain_state.specs.Fits.{AllFit}
-use Rattle.plain_state.specs.Images.{IsImage, free_image, image_at, image_of, weak_by}
+use Rattle.plain_state.specs.Images.{IsImage, free_image, image_at, image_of}
 use Rattle.plain_state.specs.References.{own_reference, strong_refs, weak_refs}
 use Rattle.plain_state.specs.State.{seat_at}
 use Rattle.plain_state.specs.Steps.{word_of}
 use Rattle.core_events.specs.declared.shape.Shape.{Shape}
-use Rattle.core_events.specs.Counts.{stage, stage_of, strong, weak}
+use Rattle.core_events.specs.declared.view.CoreView.{CoreView}
+use Rattle.core_events.specs.declared.view.Phase.TheVariants as phase
+use Rattle.core_events.specs.Counts.{barers, baring, strong, weak}
 use Rattle.core_events.specs.Good.{CountLaw}
 use Rattle.core_events.specs.Runs.{Core, view_at}
-use Rattle.core_events.specs.Shows.{each_from, show_slot, shows}
-use Rattle.core_events.specs.Words.{ZERO, cell_at, field_at, has_zero, payload_at, slot_at, slot_in, weak_cell_at, weak_field_at}
+use Rattle.core_events.specs.Shows.{show_slot, shows}
+use Rattle.core_events.specs.Words.{ZERO, cell_at, each_from, field_at, has_zero, payload_at, slot_at, slot_in, weak_cell_at, weak_field_at}
 use Rattle.core_invariant.specs.Sound.{Sound}
 use Rattle.core_law.proofs.Always.{history_sound}
 use Rattle.core_invariant.proofs.Parts.{sound_good}
-use Rattle.core_shows.proofs.Bridge.{shown_slot, shown_strong, shown_weak}
-use Rattle.core_shows.proofs.Lists.{each_push, each_same, get_each, length_each}
+use Rattle.core_shows.proofs.Bridge.{shown_slot, shown_strong, shown_weak, total_zero}
+use Rattle.core_invariant.proofs.Each.{get_each, length_each}
+use Rattle.core_shows.proofs.Lists.{each_push, each_same}
 use Rattle.domain_rule.specs.declared.view.SeatView.{SeatView}
 use Rattle.domain_rule.specs.declared.view.Whole.{Whole}
 use Rattle.domain_rule.specs.Reading.{HasRead}
+use Rattle.domain_rule.specs.Rule.{OthersLeft}
 use Rattle.domain_rule.proofs.Reading.{known_is}
 use Rattle.acquire_retire.specs.Domains.{DomainState}
 use Rattle.acquire_retire.specs.Wholes.{IsSame, KnowsCore, core_known, known_core, known_state, known_word, strong_image}
 
 module _ {P V : Type 0} (d : DomainState P) (fits : List ℕ → Type 0)
     (old new : TableSeat (Unit {0}) (SeatView V)) (word w : ℕ) (table : new.table_id ≡ old.table_id)
-    (read : HasRead fits d.shape d.quotas word w old.me.0 new.me.0) (carries : new.me.1 ≡ old.me.1)
+    (read : HasRead fits d.shape d.terms word w old.me.0 new.me.0) (carries : new.me.1 ≡ old.me.1)
     (knows : IsSome old.me.0.whole) where
   view_stays : new.me.0 ≡ old.me.0
   view_stays = read.same
@@ -53,14 +57,44 @@ module _ {P V : Type 0} (d : DomainState P) (fits : List ℕ → Type 0)
   pub read_word : w ≡ known_word old word
   read_word = read.found.word ∙ ap (λ (c : Core). slice_index c.words word) (sym core_is)
 
-  pub read_knows : old.table_id ≡ d.table → old.me.0.gone ≡ false → KnowsCore d fits old
-  read_knows of here = record {
+  -- no slot is claimed bare where that seat is idle, and all others have left
+  none_bare : old.me.0.core.phase ≡ phase.Idle → (x : SlotId) → barers read.found.core x ≡ 0
+  none_bare idle x = total_zero (λ (v : CoreView). baring x v.phase) c.views each
+    where
+      c : Core
+      c = read.found.core
+
+      so : Sound d.shape c
+      so = history_sound d.shape d.terms read.found.events c read.found.shape read.found.terms
+          read.found.history
+
+      others : (new.me.0.core.seat ≡ 0) × OthersLeft c
+      others = known_is old.me.0.whole ((new.me.0.core.seat ≡ 0) × OthersLeft c)
+          (λ all e. let t = read.found.says.whole all (read.stays knows ∙ e) in (t.1, t.2)) knows
+
+      own : (view_at c 0).phase ≡ phase.Idle
+      own = sym (ap (λ (u : CoreView). u.phase)
+          (read.found.says.core ∙ ap (view_at c) others.0))
+          ∙ (ap (λ (v : SeatView V). v.core.phase) view_stays ∙ idle)
+
+      each : (n : ℕ) → n < length c.views → baring x (view_at c n).phase ≡ 0
+      each n below = ⊎_elim
+          (λ (first : n ≡ 0). ap (baring x) (ap (λ (m : ℕ). (view_at c m).phase) first ∙ own))
+          (λ (later : n ≢ 0).
+          let views = so.views in
+          ap (baring x) ((so.seats n (omega arith)).gone (others.1 n (omega arith) below)).0)
+          (cases_eq n 0)
+
+  pub read_knows : old.table_id ≡ d.table → old.me.0.gone ≡ false
+      → old.me.0.core.phase ≡ phase.Idle → KnowsCore d fits old
+  read_knows of here idle = record {
     table = of;
     here = here;
     knows = knows;
+    armed = λ x. ap (λ (c : Core). barers c x) core_is ∙ none_bare idle x;
     sound = subst (Sound d.shape) (sym core_is)
-        (history_sound d.shape d.quotas read.found.events read.found.core read.found.shape
-        read.found.quotas read.found.history);
+        (history_sound d.shape d.terms read.found.events read.found.core read.found.shape
+        read.found.terms read.found.history);
     fit = subst (λ (c : Core). AllFit fits (shows d.shape c)) (sym core_is) read.found.fit;
     half = subst (λ (v : SeatView V). v.core ≡ view_at read.found.core v.core.seat) view_stays
         read.found.says.core
@@ -79,6 +113,8 @@ module _ {V : Type 0} (s t : TableSeat (Unit {0}) (SeatView V)) (same : IsSame s
         (sym same.1) k.sound;
     fit = subst (λ (m : Me (Unit {0}) (SeatView V)). AllFit fits (shows d.shape (known_core m.0)))
         (sym same.1) k.fit;
+    armed = λ x. ap (λ (m : Me (Unit {0}) (SeatView V)). barers (known_core m.0) x) same.1
+        ∙ k.armed x;
     half = subst (λ (m : Me (Unit {0}) (SeatView V)). m.0.core
         ≡ view_at (known_core m.0) m.0.core.seat) (sym same.1) k.half;
   }
@@ -137,38 +173,8 @@ pub words_held : (f : ℕ → ℕ) (i n : ℕ) → map word_of (each_from i n (�
 words_held f i zero = refl
 words_held f i (suc n) = λ j. word_held (f i) j ∷ words_held f (i + 1) n j
 
--- a weak word is what the image of a slot has by its stage
-weak_image : (stage : Stage) (w refs : ℕ) → (stage ≡ Free → w ≡ ZERO) → (stage ≢ Free → w ≡ refs)
-    → weak_by stage refs ≡ w
-weak_image Free w refs free other = sym (free refl)
-weak_image Blank w refs free other = sym (other (λ e. absurd (cc (e))))
-weak_image Live w refs free other = sym (other (λ e. absurd (cc (e))))
-weak_image Ended w refs free other = sym (other (λ e. absurd (cc (e))))
-weak_image Husk w refs free other = sym (other (λ e. absurd (cc (e))))
-
-not_free : (a b d : Bool)
-    → (if a then Blank else if b then Ended else if d then Live else Husk) ≡ Free → ⊥
-not_free true b d is = absurd (cc (is))
-not_free false true d is = absurd (cc (is))
-not_free false false true is = absurd (cc (is))
-not_free false false false is = absurd (cc (is))
-
--- a slot is free exactly where its weak word is the zero flag
-free_weak : (strong weak fillers dying : ℕ) → stage_of strong weak fillers dying ≡ Free
-    → weak ≡ ZERO
-unfolding stage_of
-free_weak strong weak fillers dying is = ⊎_elim (λ (e : weak ≡ ZERO). e)
-    (λ (ne : weak ≢ ZERO).
-    let test : (weak == ZERO) ≡ false = grind (arith, nat_tests) in
-    absurd (not_free _ _ _ (rw test at is)))
-    (cases_eq weak ZERO)
-
-weak_free : (strong weak fillers dying : ℕ) → weak ≡ ZERO
-    → stage_of strong weak fillers dying ≡ Free
-unfolding stage_of
-weak_free strong weak fillers dying e = rw e refl
-
-module _ (z : Shape) (c : Core) (so : Sound z c) (s : SlotId) (h : s.0 < z.slots) where
+module _ (z : Shape) (c : Core) (so : Sound z c) (s : SlotId) (h : s.0 < z.slots)
+    (armed : barers c s ≡ 0) where
   counted : CountLaw z c s
   counted = (sound_good z c so).counts s h
 
@@ -185,15 +191,12 @@ module _ (z : Shape) (c : Core) (so : Sound z c) (s : SlotId) (h : s.0 < z.slots
       rw (mark, below) refl)
       (cases_lt (strong z c s) ZERO)
 
-  weak_shown : weak_by (stage z c s) (weak_refs (shows z c) s) ≡ weak z c s
-  weak_shown = weak_image (stage z c s) (weak z c s) (weak_refs (shows z c) s)
-      (free_weak _ _ _ _)
-      (λ used. ⊎_elim
-      (λ counts.
+  weak_shown : weak_refs (shows z c) s ≡ weak z c s
+  weak_shown =
       let shown = shown_weak z c s in
-      let same = ap (λ (x : PlainSlot). own_reference x.stage) (shown_slot z c s h) in omega arith)
-      (λ free. absurd (used (weak_free _ _ _ _ free.0)))
-      counted.weak_count)
+      let same = ap (λ (x : PlainSlot). own_reference x.stage) (shown_slot z c s h) in
+      ⊎_elim (λ counts. omega arith) (λ bare. let some = bare.1 in absurd (omega arith))
+      counted.weak_count
 
   -- the image of a slot, by its words
   pub image_words : image_at (shows z c) s ≡ record {

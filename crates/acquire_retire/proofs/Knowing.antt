@@ -6,7 +6,7 @@ use Rattle.atomic_table.specs.Table.{Allows, Me}
 use Rattle.atomic_table.specs.declared.shared.Seat.{Seat as TableSeat}
 use Rattle.plain_state.specs.State.{Plain}
 use Rattle.core_events.specs.declared.shape.Shape.{Shape}
-use Rattle.core_events.specs.declared.shape.Quota.{Quota}
+use Rattle.core_events.specs.Views.{Terms}
 use Rattle.core_events.specs.declared.view.CoreView.{CoreView}
 use Rattle.core_events.specs.Counts.{total}
 use Rattle.core_events.specs.Good.{SeatLaw, staying_room}
@@ -22,7 +22,7 @@ use Rattle.domain_rule.specs.Rule.{Kept}
 use Rattle.domain_rule.proofs.Counting.{gone, history_counted}
 use Rattle.domain_rule.proofs.Reading.{reads}
 use Rattle.acquire_retire.specs.Domains.{DomainState, IsDomain}
-use Rattle.acquire_retire.proofs.Dying.{few_dying_in}
+use Rattle.acquire_retire.proofs.Dying.{few_dying_in, few_ripe_in}
 
 -- no more seats have left than there are
 few_gone : (vs : List CoreView) → total gone vs ≤ length vs
@@ -33,10 +33,10 @@ few_gone (v ∷ vs) =
     let r = few_gone vs in
     let one : gone v ≤ 1 = grind arith in omega arith
 
-module _ {V : Type 0} (fits : List ℕ → Type 0) (z : Shape) (qs : List Quota) (v : SeatView V)
-    (i w : ℕ) (f : FoundIn fits z qs v i w) (inside : v.core.seat < z.seats) where
+module _ {V : Type 0} (fits : List ℕ → Type 0) (z : Shape) (ts : Terms) (v : SeatView V)
+    (i w : ℕ) (f : FoundIn fits z ts v i w) (inside : v.core.seat < z.seats) where
   sound : Sound z f.core
-  sound = history_sound z qs f.events f.core f.shape f.quotas f.history
+  sound = history_sound z ts f.events f.core f.shape f.terms f.history
 
   there : v.core.seat < length f.core.views
   there = let views = sound.views in omega arith
@@ -50,6 +50,11 @@ module _ {V : Type 0} (fits : List ℕ → Type 0) (z : Shape) (qs : List Quota)
       let few = few_dying_in z f.core v.core.seat sound there in
       let same = ap (λ (u : CoreView). length u.dying) f.says.core in omega arith
 
+  pub found_ripe : length v.core.ripe ≤ z.slots
+  found_ripe =
+      let few = few_ripe_in z f.core v.core.seat sound there in
+      let same = ap (λ (u : CoreView). length u.ripe) f.says.core in omega arith
+
   pub found_entries : length v.core.retired + length v.core.owed ≤ v.core.room
   found_entries =
       let few = sound.room.each v.core.seat no_view there in
@@ -62,7 +67,7 @@ module _ {V : Type 0} (fits : List ℕ → Type 0) (z : Shape) (qs : List Quota)
     root_is = f.says.core ∙ ap (view_at f.core) root
 
     here : (view_at f.core 0).left ≡ false
-    here = (history_counted z qs f.events f.core f.shape f.quotas f.history).here
+    here = (history_counted z ts f.events f.core f.shape f.terms f.history).here
 
     -- seat 0 has room for no more than all seats began with
     pub found_room : v.core.room ≤ z.seats * room_of z
@@ -74,12 +79,12 @@ module _ {V : Type 0} (fits : List ℕ → Type 0) (z : Shape) (qs : List Quota)
         let room = ap (λ (u : CoreView). u.room) root_is in omega arith
 
     -- and at most as many have left as there are
-    pub found_trails : length v.core.left_trails ≤ z.seats
-    found_trails =
-        let count = (history_counted z qs f.events f.core f.shape f.quotas f.history).count in
+    pub found_left : length v.core.left_seats ≤ z.seats
+    found_left =
+        let count = (history_counted z ts f.events f.core f.shape f.terms f.history).count in
         let few = few_gone f.core.views in
         let views = sound.views in
-        let trails = ap (λ (u : CoreView). length u.left_trails) root_is in omega arith
+        let trails = ap (λ (u : CoreView). length u.left_seats) root_is in omega arith
 
 module _ {P V : Type 0} (law : P → Plain → List V → Type 0) (first : P → ℕ → V)
     (fits : List ℕ → Type 0) (d : DomainState P) (site : Option (DomainState P))
@@ -87,27 +92,27 @@ module _ {P V : Type 0} (law : P → Plain → List V → Type 0) (first : P →
   -- a load tells what it found for each domain that it is in, which is one
   abbrev Tells : ℕ → Me (Unit {0}) (SeatView V) → Type 0
   Tells w new = (x : DomainState P) → site ≡ Some x
-      → HasRead fits x.shape x.quotas word w seat.me.0 new.0 × (new.1 ≡ seat.me.1)
+      → HasRead fits x.shape x.terms word w seat.me.0 new.0 × (new.1 ≡ seat.me.1)
 
   tells : (w : ℕ) (new : Me (Unit {0}) (SeatView V))
-      → HasRead fits d.shape d.quotas word w seat.me.0 new.0 × (new.1 ≡ seat.me.1) → Tells w new
+      → HasRead fits d.shape d.terms word w seat.me.0 new.0 × (new.1 ≡ seat.me.1) → Tells w new
   tells w new read x names =
       let same : d ≡ x = cc (is, names) in
-      subst (λ (y : DomainState P). HasRead fits y.shape y.quotas word w seat.me.0 new.0
+      subst (λ (y : DomainState P). HasRead fits y.shape y.terms word w seat.me.0 new.0
       × (new.1 ≡ seat.me.1)) same read
 
   -- what the table requires of the load
   pub read_requires : seat.table_id ≡ d.table → seat.me.0.gone ≡ false → word < word_count d.shape
-      → (e : DomainState P) → e ≡ d → (kept : Shape) → IsDomain e.table e.shape e.quotas kept
+      → (e : DomainState P) → e ≡ d → (kept : Shape) → IsDomain e.table e.shape e.terms kept
       → (seat.table_id ≡ e.table) × (word < e.table.words)
-      × Allows (Kept (law e.protocol) (first e.protocol) fits e.shape e.quotas) e.table.slots
+      × Allows (Kept (law e.protocol) (first e.protocol) fits e.shape e.terms) e.table.slots
       seat.id seat.me word (λ w. w) Tells
   read_requires table here inside e same kept in_domain =
       let count = in_domain.words ∙ ap (λ (x : DomainState P). word_count x.shape) same in
       let T : DomainState P → Type 0 = λ x. Allows (Kept (law x.protocol) (first x.protocol) fits
-      x.shape x.quotas) e.table.slots seat.id seat.me word (λ w. w)
-      (λ w new. HasRead fits d.shape d.quotas word w seat.me.0 new.0 × (new.1 ≡ seat.me.1)) in
-      let r = subst T (sym same) (reads (law d.protocol) (first d.protocol) fits d.shape d.quotas
+      x.shape x.terms) e.table.slots seat.id seat.me word (λ w. w)
+      (λ w new. HasRead fits d.shape d.terms word w seat.me.0 new.0 × (new.1 ≡ seat.me.1)) in
+      let r = subst T (sym same) (reads (law d.protocol) (first d.protocol) fits d.shape d.terms
       e.table.slots seat.id word seat.me here) in (
         table ∙ sym (ap (λ (x : DomainState P). x.table) same),
         omega arith,

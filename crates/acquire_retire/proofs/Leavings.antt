@@ -1,5 +1,5 @@
 -- Seat 0 takes over what a seat had that leaves.
-use Rattle.std.proofs.Common.{◌≡◌, ℕ, ◌+◌, ◌*◌, ◌^◌, ◌<◌, ◌≤◌, List, [], ◌∷◌, ◌++◌, length, ap, sym, ◌∙◌, subst, arith, length-append}
+use Rattle.std.proofs.Common.{◌≡◌, ℕ, ◌+◌, ◌*◌, ◌^◌, ◌<◌, ◌≤◌, List, [], ◌∷◌, ◌++◌, length, sum, ap, sym, ◌∙◌, subst, arith, length-append}
 use Rattle.std.specs.Prelude.{Option, Some}
 use Rattle.atomic_table.specs.Table.{Joins}
 use Rattle.atomic_table.specs.declared.shared.Seat.{Seat as TableSeat}
@@ -24,7 +24,7 @@ use Rattle.acquire_retire.specs.Domains.{DomainState, IsDomain}
 use Rattle.acquire_retire.specs.Leavings.{HasJoined, MayJoin, joined_in}
 use Rattle.acquire_retire.specs.Seats.{HasRooms, IsSeat, IsSeated, SeatState, Stored, stored}
 use Rattle.acquire_retire.proofs.Calls.{value_of}
-use Rattle.acquire_retire.proofs.Knowing.{found_dying, found_entries, found_law, found_room, found_trails}
+use Rattle.acquire_retire.proofs.Knowing.{found_dying, found_entries, found_law, found_left, found_ripe, found_room}
 
 module _ {P V : Type 0} (law : P → Plain → List V → Type 0) (first : P → ℕ → V)
     (fits : List ℕ → Type 0) (joined : P → V → V → V) (gone : V)
@@ -33,22 +33,22 @@ module _ {P V : Type 0} (law : P → Plain → List V → Type 0) (first : P →
     (root v : TableSeat (Unit {0}) (SeatView V)) (may : MayJoin d root v) where
   -- what the table requires where seat 0 takes over what another has
   pub join_requires : (e : DomainState P) → e ≡ d → (kept : Shape)
-      → IsDomain e.table e.shape e.quotas kept
+      → IsDomain e.table e.shape e.terms kept
       → (root.table_id ≡ e.table) × (v.table_id ≡ e.table) × (v.me.1 ≡ []) × (0 < e.table.words)
-      × Joins (Kept (law e.protocol) (first e.protocol) fits e.shape e.quotas) root.id root.me.0
+      × Joins (Kept (law e.protocol) (first e.protocol) fits e.shape e.terms) root.id root.me.0
       v.id v.me.0 (joined_in joined site root.me.0 v.me.0) (gone_view gone)
   join_requires e same kept in_domain =
       let count = in_domain.words in
       let table = sym (ap (λ (x : DomainState P). x.table) same) in
       let T : DomainState P × Option (DomainState P) → Type 0 = λ x.
-      Joins (Kept (law x.0.protocol) (first x.0.protocol) fits x.0.shape x.0.quotas) root.id
+      Joins (Kept (law x.0.protocol) (first x.0.protocol) fits x.0.shape x.0.terms) root.id
       root.me.0 v.id v.me.0 (joined_in joined x.1 root.me.0 v.me.0) (gone_view gone) in (
         may.tables.0 ∙ table,
         may.tables.1 ∙ table,
         may.seated.1.carries,
         omega arith,
         subst T (λ i. (sym same i, sym is i))
-            (leaves (law d.protocol) (first d.protocol) fits d.shape d.quotas (joined d.protocol) gone
+            (leaves (law d.protocol) (first d.protocol) fits d.shape d.terms (joined d.protocol) gone
             (leave d.protocol) root.id v.id root.me.0 v.me.0 may.seated.0.here may.seated.1.here
             may.first may.may.0 may.may.1),
       )
@@ -59,6 +59,7 @@ taken s t = record s {
   retired = s.retired ++ t.retired;
   owed = s.owed ++ t.owed;
   dying = s.dying ++ t.dying;
+  ripe = s.ripe ++ t.ripe;
   left = s.left + 1;
 }
 
@@ -102,22 +103,26 @@ module _ {P V : Type 0} (d : DomainState P) (fits : List ℕ → Type 0) (joined
   stored_both =
       let owes : root.me.0.core.owed ≡ root.me.0.core.owed ++ v.me.0.core.owed =
       may.may.0.1 ∙ sym (λ i. may.may.0.1 i ++ may.may.1.1 i) in
-      let left = length-append root.me.0.core.left_trails
-      (record { seat = v.me.0.core.seat; trail = v.me.0.core.trail } ∷ []) in
+      let left = length-append root.me.0.core.left_seats
+      (record {
+        seat = v.me.0.core.seat;
+        trail = v.me.0.core.trail;
+        tickets = v.me.0.core.tickets;
+      } ∷ []) in
       λ i. record (taken (stored root.me.0.core) (stored v.me.0.core)) {
         owed = owes i;
         left = left i;
       }
 
-  module _ (s t : Stored) (batch_room seen_room dying_room : ℕ) (stores : s ≡ stored root.me.0.core)
+  module _ (s t : Stored) (batch_room seen_room dying_room ripe_room : ℕ) (stores : s ≡ stored root.me.0.core)
       (other_stores : t ≡ stored v.me.0.core)
-      (rooms : HasRooms root.me.0.core batch_room seen_room dying_room) where
+      (rooms : HasRooms root.me.0.core batch_room seen_room dying_room ripe_room) where
     stores_after : taken s t ≡ stored new.me.0.core
     stores_after = (λ i. taken (stores i) (other_stores i)) ∙ sym (ap stored core_is ∙ stored_both)
 
     room_after : new.me.0.core.room ≤ batch_room
     room_after =
-        let most = found_room fits d.shape d.quotas new.me.0 0 join.word join.found inside
+        let most = found_room fits d.shape d.terms new.me.0 0 join.word join.found inside
         root_after in
         let all = rooms.root may.first in
         let same = ap (λ (z : Shape). z.seats * room_of z) may.shape in omega arith
@@ -126,7 +131,7 @@ module _ {P V : Type 0} (d : DomainState P) (fits : List ℕ → Type 0) (joined
     pub entries_fit : length s.retired + length s.owed + (length t.retired + length t.owed)
         ≤ batch_room
     entries_fit =
-        let few = found_entries fits d.shape d.quotas new.me.0 0 join.word join.found inside in
+        let few = found_entries fits d.shape d.terms new.me.0 0 join.word join.found inside in
         let room = room_after in
         let retired = ap (λ (x : Stored). length x.retired) stores_after in
         let owed = ap (λ (x : Stored). length x.owed) stores_after in
@@ -136,47 +141,59 @@ module _ {P V : Type 0} (d : DomainState P) (fits : List ℕ → Type 0) (joined
     -- and so do the slots that they have ended
     pub dying_fit : length s.dying + length t.dying ≤ dying_room
     dying_fit =
-        let few = found_dying fits d.shape d.quotas new.me.0 0 join.word join.found inside in
+        let few = found_dying fits d.shape d.terms new.me.0 0 join.word join.found inside in
         let dying = ap (λ (x : Stored). length x.dying) stores_after in
         let more = length-append s.dying t.dying in
         let slots = ap (λ (z : Shape). z.slots) may.shape in
         let room = rooms.dying in omega arith
 
+    pub ripe_fit : length s.ripe + length t.ripe ≤ ripe_room
+    ripe_fit =
+        let few = found_ripe fits d.shape d.terms new.me.0 0 join.word join.found inside in
+        let ripe = ap (λ (x : Stored). length x.ripe) stores_after in
+        let more = length-append s.ripe t.ripe in
+        let slots = ap (λ (z : Shape). z.slots) may.shape in
+        let room = rooms.ripe in omega arith
+
     pub left_fits : s.left + 1 < 2 ^ 32
     left_fits =
-        let few = found_trails fits d.shape d.quotas new.me.0 0 join.word join.found inside
+        let few = found_left fits d.shape d.terms new.me.0 0 join.word join.found inside
         root_after in
         let left = ap (λ (x : Stored). x.left) stores_after in
         let most = join.found.shape.1 in omega arith
 
     -- seat 0 is a seat still, and stores what its view has
-    pub taken_seat : (batch : Entries) (slots : List SlotId) (room : ℕ)
+    pub taken_seat : (batch : Entries) (slots ripe : List SlotId)
+        (room more_room : ℕ)
         → batch ≡ record {
           retired = s.retired ++ t.retired;
           owed = s.owed ++ t.owed;
           room = batch_room;
         }
-        → slots ≡ s.dying ++ t.dying → dying_room ≤ room
+        → slots ≡ s.dying ++ t.dying → ripe ≡ s.ripe ++ t.ripe → dying_room ≤ room
+        → ripe_room ≤ more_room
         → IsSeat new.me (record s {
           retired = batch.retired;
           owed = batch.owed;
           dying = slots;
+          ripe = ripe;
           left = s.left + 1;
-        }) batch.room seen_room room
-    taken_seat batch slots room is dying more = record {
+        }) batch.room seen_room room more_room
+    taken_seat batch slots ripe room more_room is dying ripe_is more more_ripe = record {
       seated = record {
         carries = join.carries ∙ may.seated.0.carries;
         here = ap (λ (x : SeatView V). x.gone) join.view ∙ may.seated.0.here;
         shape = subst IsShape (sym shape_after) join.found.shape;
         there = subst (λ (z : Shape). new.me.0.core.seat < z.seats) (sym shape_after) inside;
         law = subst (λ (z : Shape). SeatLaw z new.me.0.core.seat new.me.0.core) (sym shape_after)
-            (found_law fits d.shape d.quotas new.me.0 0 join.word join.found inside);
+            (found_law fits d.shape d.terms new.me.0 0 join.word join.found inside);
         knows = join.knows.1;
       };
       stores = (λ i. record (taken s t) {
         retired = (is i).retired;
         owed = (is i).owed;
         dying = dying i;
+        ripe = ripe_is i;
       }) ∙ stores_after;
       rooms = record {
         batch = let few = room_after in let same = ap (λ (b : Entries). b.room) is in omega arith;
@@ -188,6 +205,11 @@ module _ {P V : Type 0} (d : DomainState P) (fits : List ℕ → Type 0) (joined
             let now = ap (λ (z : Shape). z.seats) shape_after in
             let was = ap (λ (z : Shape). z.seats) may.shape in omega arith;
         dying = let room = rooms.dying in
+            let now = ap (λ (z : Shape). z.slots) shape_after in
+            let was = ap (λ (z : Shape). z.slots) may.shape in omega arith;
+        grants = let few = rooms.grants in
+            let same = ap (λ (u : CoreView). sum u.grants) core_is in omega arith;
+        ripe = let room = rooms.ripe in
             let now = ap (λ (z : Shape). z.slots) shape_after in
             let was = ap (λ (z : Shape). z.slots) may.shape in omega arith;
       };

@@ -14,10 +14,11 @@ use Rattle.core_events.specs.declared.outcome.Outcome.{Outcome}
 use Rattle.core_events.specs.declared.outcome.Outcome.TheVariants as outcome
 use Rattle.core_events.specs.declared.view.CoreView.{CoreView}
 use Rattle.core_events.specs.declared.view.Move.{Move}
+use Rattle.core_events.specs.declared.view.Phase.{Phase}
 use Rattle.core_events.specs.declared.view.Phase.TheVariants as phase
 use Rattle.core_events.specs.Steps.{moved}
 use Rattle.core_events.specs.Views.{slot_of}
-use Rattle.core_events.specs.Words.{ZERO}
+use Rattle.core_events.specs.Words.{bit_in}
 use Rattle.domain_rule.specs.Told.{changed_object}
 use Rattle.domain_rule.specs.Views.{object_in}
 use Rattle.domain_rule.proofs.Others.{fills_has}
@@ -51,9 +52,34 @@ word_more payload new n there words i below = ⊎_elim
     (cases_eq i n)
 
 module _ {P V : Type 0} (d : DomainState P) (s : SlotId) (payload : List ℕ) where
+  -- a slot that is filled with a record has a record
+  pub filled_fits : (a b : SeatState V) → Fills payload 16 s a b → IsRecord payload
+      → IsRecord (object_in b.view s).payload
+  filled_fits a b fills is = (
+    is.0,
+    is.1,
+    is.2,
+    record {
+      words = fills.size;
+      size = fills.words 0 (omega arith) ∙ is.3.size;
+      bytes = λ k lt. fills.words (k + 1) (omega arith) ∙ is.3.bytes k lt;
+    },
+  )
+
+-- what the seat has after a claim that found the slot free, in this phase
+abbrev Claimed : {V : Type 0} → Phase → SeatState V → SeatState V → Type 0
+Claimed p a b =
+    b.view.core
+    ≡ record a.view.core {
+      makes = a.view.core.makes + 1;
+      phase = p;
+      trail = b.view.core.trail;
+    }
+
+module _ {P V : Type 0} {fits : List ℕ → Type 0} (d : DomainState P) (s : SlotId) (payload : List ℕ) where
   pub fill_more : (n : ℕ) (a b c : SeatState V) (o : Outcome)
       → a.view.core.phase ≡ phase.Blank s → n < 16 → Fills payload n s a b
-      → Steps d same_view IsSameView (act.Fill n (slice_index payload n)) b c o
+      → Steps fits d same_view IsSameView (act.Fill n (slice_index payload n)) b c o
       → Fills payload (n + 1) s a c
   fill_more n a b c o blank below had step =
       let x = slice_index payload n in
@@ -76,53 +102,37 @@ module _ {P V : Type 0} (d : DomainState P) (s : SlotId) (payload : List ℕ) wh
             ∙ word_more payload (object_in b.view s).payload n (omega arith) had.words i lt;
       }
 
-  -- a slot that is filled with a record has a record
-  pub filled_fits : (a b : SeatState V) → Fills payload 16 s a b → IsRecord payload
-      → IsRecord (object_in b.view s).payload
-  filled_fits a b fills is = (
-    is.0,
-    is.1,
-    is.2,
-    record {
-      words = fills.size;
-      size = fills.words 0 (omega arith) ∙ is.3.size;
-      bytes = λ k lt. fills.words (k + 1) (omega arith) ∙ is.3.bytes k lt;
-    },
-  )
-
-  -- what the seat has after a claim that found the slot free
-  abbrev Claimed : SeatState V → SeatState V → Type 0
-  Claimed a b =
-      b.view.core
-      ≡ record a.view.core {
-        makes = a.view.core.makes + 1;
-        phase = phase.Blank s;
-        trail = b.view.core.trail;
-      }
-
   pub claim_holds : (a b : SeatState V) (o : Outcome) → o ≡ outcome.Claimed
-      → Steps d same_view IsSameView (act.Claim s) a b o → Claimed a b
+      → Steps fits d same_view IsSameView (act.Claim s) a b o → Claimed (phase.Bare s) a b
   claim_holds a b o is step =
-      but_trail (record a.view.core { makes = a.view.core.makes + 1; phase = phase.Blank s })
+      but_trail (record a.view.core { makes = a.view.core.makes + 1; phase = phase.Bare s })
       b.view.core _
-      (step.told.core ∙ go (step.word == ZERO) (sym step.answers ∙ is))
+      (step.told.core ∙ go (bit_in s step.word == 1) (sym step.answers ∙ is))
     where
-      go : (t : Bool) → (if t then outcome.Claimed else outcome.Taken) ≡ outcome.Claimed
+      go : (t : Bool) → (if t then outcome.Claimed else outcome.Taken step.word) ≡ outcome.Claimed
           → ◌≡◌ {A = CoreView} (record (if t
-          then record a.view.core { makes = a.view.core.makes + 1; phase = phase.Blank s }
+          then record a.view.core { makes = a.view.core.makes + 1; phase = phase.Bare s }
           else a.view.core) {
             trail = (moved d.shape (act.Claim s) step.word a.view.core).trail;
           })
           (record a.view.core {
             makes = a.view.core.makes + 1;
-            phase = phase.Blank s;
+            phase = phase.Bare s;
             trail = (moved d.shape (act.Claim s) step.word a.view.core).trail;
           })
       go true e = refl
       go false e = absurd (cc (e))
 
-  pub made : (a b c e : SeatState V) (o : Outcome) → Claimed a b → Fills payload 16 s b c
-      → Steps d same_view IsSameView act.Start c e o → HasMade s a e
+  -- an arm makes it ready to be filled
+  pub arm_holds : (a b c : SeatState V) (o : Outcome) → Claimed (phase.Bare s) a b
+      → Steps fits d same_view IsSameView act.Arm b c o → Claimed (phase.Blank s) a c
+  arm_holds a b c o claimed step =
+      but_trail (record a.view.core { makes = a.view.core.makes + 1; phase = phase.Blank s })
+      c.view.core _
+      (step.told.core ∙ ap (λ (v : CoreView). moved d.shape act.Arm step.word v) claimed)
+
+  pub made : (a b c e : SeatState V) (o : Outcome) → Claimed (phase.Blank s) a b → Fills payload 16 s b c
+      → Steps fits d same_view IsSameView act.Start c e o → HasMade s a e
   made a b c e o claimed fills step =
       but_trail (with_made s a.view.core) e.view.core _
       (step.told.core ∙ ap (λ (v : CoreView). moved d.shape act.Start step.word v)

@@ -1,5 +1,5 @@
 -- A domain as it is opened, and its seats.
-use Rattle.std.proofs.Common.{◌≡◌, ℕ, suc, ◌+◌, ◌<◌, false, List, [], ◌∷◌, ◌++◌, length, refl, ap, sym, ◌∙◌, subst, arith}
+use Rattle.std.proofs.Common.{◌≡◌, ℕ, suc, ◌+◌, ◌^◌, ◌<◌, ◌≤◌, false, List, [], ◌∷◌, ◌++◌, length, sum, refl, ap, sym, ◌∙◌, subst, arith}
 use Rattle.std.specs.Prelude.{◌==◌, Option, Some, None, IsSome, if◌then◌else◌}
 use Rattle.std.proofs.lemmas.Bool.Decides.{nat_tests}
 use Rattle.atomic_table.specs.Seated.{TableId}
@@ -8,11 +8,12 @@ use Rattle.atomic_table.specs.declared.shared.Seat.{Seat as TableSeat}
 use Rattle.plain_state.specs.State.{Plain}
 use Rattle.plain_protocol.specs.Laws.{Starts}
 use Rattle.core_events.specs.declared.shape.Shape.{Shape}
+use Rattle.core_events.specs.Views.{Terms}
 use Rattle.core_events.specs.declared.shape.Quota.{Quota}
-use Rattle.core_events.specs.Runs.{AreQuotas, IsShape}
-use Rattle.core_events.specs.Shows.{each_from}
+use Rattle.core_events.specs.Runs.{AreTerms, IsShape}
+use Rattle.core_events.specs.Words.{each_from}
 use Rattle.core_events.specs.Words.{first_words, word_count}
-use Rattle.core_invariant.proofs.Starts.{first_seat, start_sound}
+use Rattle.core_invariant.proofs.Starts.{start_sound}
 use Rattle.core_shows.proofs.Lists.{each_push}
 use Rattle.domain_rule.specs.declared.view.SeatView.{SeatView}
 use Rattle.domain_rule.specs.declared.view.Whole.{Whole}
@@ -20,76 +21,91 @@ use Rattle.domain_rule.specs.Opening.{first_of, opened_more, opened_view}
 use Rattle.domain_rule.specs.Rule.{Kept}
 use Rattle.domain_rule.specs.Views.{quota_at}
 use Rattle.domain_rule.proofs.Opens.{opens}
+use Rattle.domain_rule.proofs.SeatLaws.{opened_law}
 use Rattle.domain_rule.proofs.Splits.{splits}
 use Rattle.acquire_retire.specs.Domains.{DomainState, IsDomain}
 use Rattle.acquire_retire.specs.Openings.{IsFirst, IsNew, begun_seat, newcomer}
 use Rattle.acquire_retire.specs.Seats.{IsSeated, SeatState}
 
+pub same_terms : (a b : List Quota) (g h : List ℕ) → a ≡ b → g ≡ h
+    → ◌≡◌ {A = Terms} (record { quotas = a; grants = g }) (record { quotas = b; grants = h })
+same_terms a b g h quotas grants = λ i. record { quotas = quotas i; grants = grants i }
+
 -- a table with the first words is one of a domain
-pub begun_domain : (z : Shape) (qs kept : List Quota) (table : TableId) (key : Shape)
-    (words : List ℕ) → IsShape z → AreQuotas z qs → key ≡ z → kept ≡ qs → words ≡ first_words z
+pub begun_domain : (z : Shape) (ts kept : Terms) (table : TableId) (key : Shape)
+    (words : List ℕ) → IsShape z → AreTerms z ts → key ≡ z → kept ≡ ts → words ≡ first_words z
     → table.words ≡ length words → table.slots ≡ 0 → IsDomain table key kept z
-begun_domain z qs kept table key words shape quotas same same_quotas are count none = record {
+begun_domain z ts kept table key words shape terms same same_terms are count none = record {
   shape = subst IsShape (sym same) shape;
-  quotas = subst (λ (t : Shape × List Quota). AreQuotas t.0 t.1)
-      (λ i. (sym same i, sym same_quotas i)) quotas;
+  terms = subst (λ (t : Shape × Terms). AreTerms t.0 t.1)
+      (λ i. (sym same i, sym same_terms i)) terms;
   same = sym same;
   words = subst (λ (y : Shape). table.words ≡ word_count y) (sym same)
-      (count ∙ (ap length are ∙ (start_sound z qs shape quotas).words));
+      (count ∙ (ap length are ∙ (start_sound z ts shape terms).words));
   slots = none;
 }
 
 -- and the rule holds of it
 pub begun_kept : {V : Type 0} (law : Plain → List V → Type 0) (first : ℕ → V)
-    (fits : List ℕ → Type 0) (z : Shape) (qs kept : List Quota) (words : List ℕ) → IsShape z
-    → AreQuotas z qs → kept ≡ qs → words ≡ first_words z → Starts law first
+    (fits : List ℕ → Type 0) (z : Shape) (ts kept : Terms) (words : List ℕ) → IsShape z
+    → AreTerms z ts → kept ≡ ts → words ≡ first_words z → Starts law first
     → Kept law first fits z kept (opening words [] (first_of first z kept))
-begun_kept law first fits z qs kept words shape quotas same are starts =
+begun_kept law first fits z ts kept words shape terms same are starts =
     subst
-    (λ (t : List Quota × List ℕ). Kept law first fits z t.0 (opening t.1 [] (first_of first z t.0)))
-    (λ i. (sym same i, sym are i)) (opens law first fits z qs shape quotas starts)
+    (λ (t : Terms × List ℕ). Kept law first fits z t.0 (opening t.1 [] (first_of first z t.0)))
+    (λ i. (sym same i, sym are i)) (opens law first fits z ts shape terms starts)
 
 -- a domain of one seat begins with one that knows the whole core
 knows_one : (n : ℕ) (all : Whole) → n ≡ 1 → IsSome (if n == 1 then Some all else None)
 knows_one n all one = rw one refl
 
 -- a seat that was just opened is one
-pub opened_seated : {V : Type 0} (first : ℕ → V) (z : Shape) (qs : List Quota) (n opened : ℕ)
-    → IsShape z → AreQuotas z qs → n < z.seats
-    → IsSeated (record (opened_view first z qs n) { opened = opened }, [])
-opened_seated first z qs n opened shape quotas there = record {
+pub opened_seated : {V : Type 0} (first : ℕ → V) (z : Shape) (ts : Terms) (n opened : ℕ)
+    → IsShape z → AreTerms z ts → n < z.seats
+    → IsSeated (record (opened_view first z ts n) { opened = opened }, [])
+opened_seated first z ts n opened shape terms there = record {
   carries = refl;
   here = refl;
   shape = shape;
   there = there;
-  law = first_seat z n (quota_at qs n) shape.0
-      (quotas.1 n (record { makes = 0; adds = 0 }) (let l = quotas.0 in omega arith));
+  law = opened_law z ts n shape terms there;
   knows = λ alone. knows_one z.seats _ (let a = alone.1 in omega arith);
 }
 
 -- the sizes of a domain are in their ranges
 pub in_ranges : {P : Type 0} (d e : DomainState P) (kept : Shape) → e ≡ d
-    → IsDomain e.table e.shape e.quotas kept → IsShape d.shape × AreQuotas d.shape d.quotas
+    → IsDomain e.table e.shape e.terms kept → IsShape d.shape × AreTerms d.shape d.terms
 in_ranges {P = P} d e kept same in_domain =
-    subst (λ (x : DomainState P). IsShape x.shape × AreQuotas x.shape x.quotas) same
-    (in_domain.shape, in_domain.quotas)
+    subst (λ (x : DomainState P). IsShape x.shape × AreTerms x.shape x.terms) same
+    (in_domain.shape, in_domain.terms)
 
 module _ {P V : Type 0} where
   module _ (first : ℕ → V) (d : DomainState P)
-      (ranges : IsShape d.shape × AreQuotas d.shape d.quotas) (n : ℕ) (s : TableSeat (Unit {0}) (SeatView V)) where
+      (ranges : IsShape d.shape × AreTerms d.shape d.terms) (n : ℕ) (s : TableSeat (Unit {0}) (SeatView V)) where
     pub first_seated : IsFirst first d n s → IsSeated s.me
     first_seated is = subst IsSeated (sym is.1)
-        (opened_seated first d.shape d.quotas 0 n ranges.0 ranges.1
+        (opened_seated first d.shape d.terms 0 n ranges.0 ranges.1
         (let h = ranges.0.0 in omega arith))
 
     pub new_seated : n < d.shape.seats → IsNew first d n s → IsSeated s.me
     new_seated there is = subst IsSeated (sym is.1)
-        (opened_seated first d.shape d.quotas n 1 ranges.0 ranges.1 there)
+        (opened_seated first d.shape d.terms n 1 ranges.0 ranges.1 there)
+
+    -- and the grants that it sees are few
+    pub first_grants : IsFirst first d n s → sum s.me.0.core.grants ≤ 2 ^ 40
+    first_grants is =
+        let same = ap (λ (m : Me (Unit {0}) (SeatView V)). sum m.0.core.grants) is.1 in
+        let few = ranges.1.2 in omega arith
+
+    pub new_grants : IsNew first d n s → sum s.me.0.core.grants ≤ 2 ^ 40
+    new_grants is =
+        let same = ap (λ (m : Me (Unit {0}) (SeatView V)). sum m.0.core.grants) is.1 in
+        let few = ranges.1.2 in omega arith
 
   -- a seat other than seat 0 has counted none
   begun_later : (first : ℕ → V) (d : DomainState P) (n : ℕ) → 0 < n
       → begun_seat first d n
-      ≡ record { table = d.table; view = opened_view first d.shape d.quotas n }
+      ≡ record { table = d.table; view = opened_view first d.shape d.terms n }
   begun_later first d n later =
       let test : (n == 0) ≡ false = grind (arith, nat_tests) in rw test refl
 
@@ -114,19 +130,19 @@ module _ {P V : Type 0} (law : P → Plain → List V → Type 0) (first : P →
     (begun : IsFirst (first d.protocol) d root.me.0.opened root) where
   -- what the table requires where seat 0 opens one more seat
   pub another_requires : root.me.0.opened < d.shape.seats → (e : DomainState P) → e ≡ d
-      → (kept : Shape) → IsDomain e.table e.shape e.quotas kept
+      → (kept : Shape) → IsDomain e.table e.shape e.terms kept
       → (root.table_id ≡ e.table) × (0 < e.table.words)
-      × Splits (Kept (law e.protocol) (first e.protocol) fits e.shape e.quotas) root.id root.me.0
+      × Splits (Kept (law e.protocol) (first e.protocol) fits e.shape e.terms) root.id root.me.0
       (opened_more root.me.0) (newcomer first site root.me.0)
   another_requires more e same kept in_domain =
       let T : DomainState P × Option (DomainState P) → Type 0 = λ x.
-      Splits (Kept (law x.0.protocol) (first x.0.protocol) fits x.0.shape x.0.quotas) root.id
+      Splits (Kept (law x.0.protocol) (first x.0.protocol) fits x.0.shape x.0.terms) root.id
       root.me.0 (opened_more root.me.0) (newcomer first x.1 root.me.0) in
       let count = in_domain.words in (
         begun.0 ∙ sym (ap (λ (x : DomainState P). x.table) same),
         omega arith,
         subst T (λ i. (sym same i, sym is i))
-            (splits (law d.protocol) (first d.protocol) fits d.shape d.quotas root.id root.me.0
+            (splits (law d.protocol) (first d.protocol) fits d.shape d.terms root.id root.me.0
             (ap (λ (m : Me (Unit {0}) (SeatView V)). m.0.gone) begun.1)
             (ap (λ (m : Me (Unit {0}) (SeatView V)). m.0.core.seat) begun.1) more),
       )

@@ -3,7 +3,7 @@ use Rattle.std.proofs.Common.{◌≡◌, ◌≢◌, ℕ, ◌+◌, Bool, true, fa
 use Rattle.std.specs.Prelude.{◌==◌, cond, if◌then◌else◌, count_by, flat_map}
 use Rattle.std.proofs.lemmas.List.Sums.{sum_by-append, sum_by-cons}
 use Rattle.std.proofs.lemmas.Grind.{flat_map-append}
-use Rattle.plain_state.specs.declared.slot.Kind.TheVariants.{Strong, Weak}
+use Rattle.plain_state.specs.declared.slot.Kind.TheVariants.{Strong, Weak, Disposal}
 use Rattle.plain_state.specs.declared.slot.SlotId.{SlotId}
 use Rattle.plain_state.specs.Lists.{Entry}
 use Rattle.core_events.specs.declared.act.Act.TheVariants as act
@@ -28,19 +28,21 @@ paid_lists : (w : ℕ) (es : List Entry) (v : CoreView) → es ≢ []
 paid_lists w [] v some = absurd (some refl)
 paid_lists w ((Strong, s) ∷ es) v some = (omega arith, refl)
 paid_lists w ((Weak, s) ∷ es) v some = (omega arith, refl)
+paid_lists w ((Disposal, s) ∷ es) v some = (omega arith, refl)
 
-paid_idle : (w : ℕ) (es : List Entry) (v : CoreView) → es ≢ []
+paid_idle : (w : ℕ) (es : List Entry) (v : CoreView) → es ≢ [] → v.phase ≡ phase.Idle
     → paid_outcome w es ≢ outcome.Zeroed → paid_outcome w es ≢ outcome.Last
     → (paid_outcome w es ≡ outcome.Left) × ((paid w es v).phase ≡ phase.Idle)
-paid_idle w [] v some zeroed last = absurd (some refl)
-paid_idle w ((Strong, s) ∷ es) v some zeroed last = by_word (w == 1) zeroed
+paid_idle w [] v some idle zeroed last = absurd (some refl)
+paid_idle w ((Disposal, s) ∷ es) v some idle zeroed last = (refl, idle)
+paid_idle w ((Strong, s) ∷ es) v some idle zeroed last = by_word (w == 1) zeroed
   where
     by_word : (b : Bool) → (if b then outcome.Zeroed else outcome.Left) ≢ outcome.Zeroed
         → ((if b then outcome.Zeroed else outcome.Left) ≡ outcome.Left)
         × ((if b then phase.Finish s else phase.Idle) ≡ phase.Idle)
     by_word true not = absurd (not refl)
     by_word false not = (refl, refl)
-paid_idle w ((Weak, s) ∷ es) v some zeroed last = by_word (w == 1) last
+paid_idle w ((Weak, s) ∷ es) v some idle zeroed last = by_word (w == 1) last
   where
     by_word : (b : Bool) → (if b then outcome.Last else outcome.Left) ≢ outcome.Last
         → ((if b then outcome.Last else outcome.Left) ≡ outcome.Left)
@@ -91,15 +93,16 @@ ended_more ps p n is = by_end (ends p)
     by_end true more = omega arith
     by_end false more = omega arith
 
-module _ {P V : Type 0} (d : DomainState P) where
+module _ {P V : Type 0} (fits : List ℕ → Type 0) (d : DomainState P) where
   -- the seat has made these moves, by which it gave up n of the entries that it owed
   pub record Part (ms : List Move) (n : ℕ) (old new : SeatState V) : Type 0 where
-    pub goes : Goes d ms old new
+    pub goes : Goes fits d ms old new
     pub owed : length new.view.core.owed + n ≡ length old.view.core.owed
     pub retired : new.view.core.retired ≡ old.view.core.retired
 
-  pub part_append : (xs ys : List Move) (n m : ℕ) (a b c : SeatState V) → Part xs n a b
-      → Part ys m b c → Part (xs ++ ys) (n + m) a c
+module _ {P V : Type 0} {fits : List ℕ → Type 0} (d : DomainState P) where
+  pub part_append : (xs ys : List Move) (n m : ℕ) (a b c : SeatState V) → Part fits d xs n a b
+      → Part fits d ys m b c → Part fits d (xs ++ ys) (n + m) a c
   part_append xs ys n m a b c first more = record {
     goes = goes_append d xs ys a b c first.goes more.goes;
     owed = omega (arith, first.owed, more.owed);
@@ -107,8 +110,8 @@ module _ {P V : Type 0} (d : DomainState P) where
   }
 
   pub pay_step : (old new : SeatState V) (o x : Outcome) → old.view.core.owed ≢ []
-      → Steps d same_view IsSameView act.Pay old new o → o ≡ x
-      → Part (move act.Pay x ∷ []) 1 old new
+      → Steps fits d same_view IsSameView act.Pay old new o → o ≡ x
+      → Part fits d (move act.Pay x ∷ []) 1 old new
   pay_step old new o x some step is =
       let v = old.view.core in
       let lists = paid_lists step.word v.owed v some in
@@ -119,8 +122,8 @@ module _ {P V : Type 0} (d : DomainState P) where
       }
 
   pub finish_step : (old new : SeatState V) (o x : Outcome)
-      → Steps d same_view IsSameView act.Finish old new o → o ≡ x
-      → Part (move act.Finish x ∷ []) 0 old new
+      → Steps fits d same_view IsSameView act.Finish old new o → o ≡ x
+      → Part fits d (move act.Finish x ∷ []) 0 old new
   finish_step old new o x step is =
       let v = old.view.core in
       let lists = ended_lists (step.word == 0) (slot_of v.phase) v _ in
@@ -133,8 +136,8 @@ module _ {P V : Type 0} (d : DomainState P) where
       }
 
   pub take_step : (old new : SeatState V) (o x : Outcome)
-      → Steps d same_view IsSameView act.Take old new o → o ≡ x
-      → Part (move act.Take x ∷ []) 0 old new
+      → Steps fits d same_view IsSameView act.Take old new o → o ≡ x
+      → Part fits d (move act.Take x ∷ []) 0 old new
   take_step old new o x step is =
       let v = old.view.core in
       let lists = ended_lists (has_help step.word) (slot_of v.phase) v phase.Idle in
@@ -147,8 +150,8 @@ module _ {P V : Type 0} (d : DomainState P) where
       }
 
   pub free_step : (old new : SeatState V) (o : Outcome)
-      → Steps d same_view IsSameView act.Free old new o
-      → Part (move act.Free outcome.Plain ∷ []) 0 old new
+      → Steps fits d same_view IsSameView act.Free old new o
+      → Part fits d (move act.Free outcome.Plain ∷ []) 0 old new
   free_step old new o step = record {
     goes = goes_by d act.Free outcome.Plain old new tt o step.answers step;
     owed =
@@ -158,10 +161,10 @@ module _ {P V : Type 0} (d : DomainState P) where
   }
 
   -- a payment is whole where the seat is in the middle of nothing again
-  pub pays_one : (p : Payment) (old new : SeatState V) → Part (paid_by p) 1 old new
-      → IsIdle old.view.core → new.view.core.phase ≡ phase.Idle → Pays d (p ∷ []) old new
+  pub pays_one : (p : Payment) (old new : SeatState V) → Part fits d (paid_by p) 1 old new
+      → IsIdle old.view.core → new.view.core.phase ≡ phase.Idle → Pays fits d (p ∷ []) old new
   pays_one p old new part idle is = record {
-    goes = subst (λ (ms : List Move). Goes d ms old new) (sym (append-nil (paid_by p))) part.goes;
+    goes = subst (λ (ms : List Move). Goes fits d ms old new) (sym (append-nil (paid_by p))) part.goes;
     idle = is_idle_after d (paid_by p) old new idle part.goes is;
     owed = part.owed;
     retired = part.retired;
@@ -169,16 +172,17 @@ module _ {P V : Type 0} (d : DomainState P) where
 
   -- the phase after the step that ends a payment
   pub idle_after_pay : (old new : SeatState V) (o : Outcome) → old.view.core.owed ≢ []
-      → Steps d same_view IsSameView act.Pay old new o → o ≢ outcome.Zeroed → o ≢ outcome.Last
+      → Steps fits d same_view IsSameView act.Pay old new o → o ≢ outcome.Zeroed → o ≢ outcome.Last
       → (o ≡ outcome.Left) × (new.view.core.phase ≡ phase.Idle)
   idle_after_pay old new o some step zeroed last =
       let v = old.view.core in
-      let r = paid_idle step.word v.owed v some (λ e. zeroed (step.answers ∙ e))
+      let r = paid_idle step.word v.owed v some
+      (ap (λ (v : CoreView). v.phase) step.told.happened.view ∙ step.told.happened.enabled.1.0.0) (λ e. zeroed (step.answers ∙ e))
       (λ e. last (step.answers ∙ e)) in
       (step.answers ∙ r.0, ap (λ (v : CoreView). v.phase) step.told.core ∙ r.1)
 
   pub idle_after_finish : (old new : SeatState V) (o : Outcome)
-      → Steps d same_view IsSameView act.Finish old new o → o ≢ outcome.Help
+      → Steps fits d same_view IsSameView act.Finish old new o → o ≢ outcome.Help
       → new.view.core.phase ≡ phase.Idle
   idle_after_finish old new o step help =
       ap (λ (v : CoreView). v.phase) step.told.core
@@ -186,7 +190,7 @@ module _ {P V : Type 0} (d : DomainState P) where
       old.view.core (λ e. help (step.answers ∙ e))
 
   pub finish_lost : (old new : SeatState V) (o : Outcome)
-      → Steps d same_view IsSameView act.Finish old new o → o ≢ outcome.Ended → o ≢ outcome.Help
+      → Steps fits d same_view IsSameView act.Finish old new o → o ≢ outcome.Ended → o ≢ outcome.Help
       → o ≡ outcome.Lost
   finish_lost old new o step ended help =
       step.answers
@@ -194,22 +198,22 @@ module _ {P V : Type 0} (d : DomainState P) where
       (λ e. help (step.answers ∙ e))
 
   pub idle_after_take : (old new : SeatState V) (o : Outcome)
-      → Steps d same_view IsSameView act.Take old new o → new.view.core.phase ≡ phase.Idle
+      → Steps fits d same_view IsSameView act.Take old new o → new.view.core.phase ≡ phase.Idle
   idle_after_take old new o step =
       ap (λ (v : CoreView). v.phase) step.told.core
       ∙ taken_idle (has_help step.word) (slot_of old.view.core.phase) old.view.core
 
   pub take_no_help : (old new : SeatState V) (o : Outcome)
-      → Steps d same_view IsSameView act.Take old new o → o ≢ outcome.Ended → o ≡ outcome.NoHelp
+      → Steps fits d same_view IsSameView act.Take old new o → o ≢ outcome.Ended → o ≡ outcome.NoHelp
   take_no_help old new o step ended =
       step.answers ∙ had_no_help (has_help step.word) (λ e. ended (step.answers ∙ e))
 
   pub idle_after_free : (old new : SeatState V) (o : Outcome)
-      → Steps d same_view IsSameView act.Free old new o → new.view.core.phase ≡ phase.Idle
+      → Steps fits d same_view IsSameView act.Free old new o → new.view.core.phase ≡ phase.Idle
   idle_after_free old new o step = ap (λ (v : CoreView). v.phase) step.told.core
 
   -- payments follow one another
-  pub pays_none : (a : SeatState V) → IsIdle a.view.core → Pays d [] a a
+  pub pays_none : (a : SeatState V) → IsIdle a.view.core → Pays fits d [] a a
   pays_none a idle = record {
     goes = goes_nowhere d a;
     idle = idle;
@@ -217,13 +221,13 @@ module _ {P V : Type 0} (d : DomainState P) where
     retired = refl;
   }
 
-  pub pays_append : (ps qs : List Payment) (a b c : SeatState V) → Pays d ps a b → Pays d qs b c
-      → Pays d (ps ++ qs) a c
+  pub pays_append : (ps qs : List Payment) (a b c : SeatState V) → Pays fits d ps a b → Pays fits d qs b c
+      → Pays fits d (ps ++ qs) a c
   pays_append ps qs a b c first more =
       let len = length-append ps qs in
       record {
         goes =
-            subst (λ (ms : List Move). Goes d ms a c) (sym (flat_map-append paid_by ps qs))
+            subst (λ (ms : List Move). Goes fits d ms a c) (sym (flat_map-append paid_by ps qs))
             (goes_append d (flat_map paid_by ps) (flat_map paid_by qs) a b c first.goes more.goes);
         idle = more.idle;
         owed = omega (arith, first.owed, more.owed);
@@ -231,9 +235,9 @@ module _ {P V : Type 0} (d : DomainState P) where
       }
 
   pub pays_for_more : (owed ended_before ended_now : ℕ) (p : Payment) (a b c : SeatState V)
-      → PaysFor d a b owed ended_before → Pays d (p ∷ []) b c
+      → PaysFor fits d a b owed ended_before → Pays fits d (p ∷ []) b c
       → ended_now ≡ (if ends p then ended_before + 1 else ended_before)
-      → PaysFor d a c (owed + 1) ended_now
+      → PaysFor fits d a c (owed + 1) ended_now
   pays_for_more owed ended_before ended_now p a b c before more is =
       let ps = before.0 in
       let len = length-append ps (p ∷ []) in (

@@ -37,8 +37,8 @@ module _ (script : Script) (i : ℕ) (none : Act × Outcome) (there : i < length
       let r = subst (λ ms. MayPlay z ms v) from_turn may in (r.0, r.1)
 
   -- an act has answered as it was expected
-  module _ {P V : Type 0} (d : DomainState P) (old new : SeatState V) (o : Outcome)
-      (step : Steps d same_view IsSameView (get_or script i none).0 old new o)
+  module _ {P V : Type 0} {fits : List ℕ → Type 0} (d : DomainState P) (old new : SeatState V) (o : Outcome)
+      (step : Steps fits d same_view IsSameView (get_or script i none).0 old new o)
       (is : o ≡ (get_or script i none).1) where
     pub may_go_on : MayPlay d.shape (drop i script) old.view.core
         → MayPlay d.shape (drop (i + 1) script) new.view.core

@@ -13,7 +13,7 @@ use Rattle.core_events.specs.declared.view.CoreView.{CoreView}
 use Rattle.core_events.specs.declared.view.Move.{Move}
 use Rattle.core_events.specs.declared.view.Phase.TheVariants as phase
 use Rattle.core_events.specs.Ejection.{code_of, ejected, is_seen, kept, seen_times, without_word}
-use Rattle.core_events.specs.Steps.{IsIdle, all_seen, answer, is_last, moved}
+use Rattle.core_events.specs.Steps.{IsIdle, all_seen, answer, is_last, moved, ripened}
 use Rattle.core_events.specs.Words.{announcements}
 use Rattle.core_invariant.proofs.Splits.{split_length}
 use Rattle.acquire_retire.specs.Calls.{IsSameView, Steps, same_view}
@@ -49,6 +49,7 @@ read_last w v =
         seen = [];
         retired = kept v.retired (all_seen w v);
         owed = ejected v.retired (all_seen w v);
+        ripe = ripened v.ripe v.dying (all_seen w v);
         trail = v.trail ++ move act.Scan o ∷ [];
       },
       o,
@@ -87,10 +88,20 @@ few_kept (e ∷ es) seen = go (is_seen (code_of e) seen) refl (few_kept es)
         let i = rest (without_word (code_of e) seen) in omega arith
     go false is rest = rest seen
 
-module _ {P V : Type 0} (d : DomainState P) where
-  pub reads_more : (seen : List ℕ) (a b c : SeatState V) (o : Outcome) → Reads d seen a b
-      → length seen + 1 < announcements d.shape → (step : Steps d same_view IsSameView act.Scan b c o)
-      → Reads d (seen ++ step.word ∷ []) a c
+-- the outcome of the last word, and how many entries that leaves
+record LastRead {V : Type 0} (b c : SeatState V) (o : Outcome) : Type 0 where
+  pub word : ℕ
+  pub go : ℕ
+  pub answers : o ≡ outcome.Split word (length c.view.core.retired) go
+  pub owed : length c.view.core.owed ≡ go
+  pub retired : length c.view.core.retired + go ≡ length b.view.core.retired
+  pub few : length c.view.core.retired ≤ length b.view.core.seen + 1
+  pub phase : c.view.core.phase ≡ phase.Idle
+
+module _ {P V : Type 0} {fits : List ℕ → Type 0} (d : DomainState P) where
+  pub reads_more : (seen : List ℕ) (a b c : SeatState V) (o : Outcome) → Reads fits d seen a b
+      → length seen + 1 < announcements d.shape → (step : Steps fits d same_view IsSameView act.Scan b c o)
+      → Reads fits d (seen ++ step.word ∷ []) a c
   reads_more seen a b c o before more step =
       let w = step.word in
       let v = b.view.core in
@@ -102,7 +113,7 @@ module _ {P V : Type 0} (d : DomainState P) where
       let one = goes_by d act.Scan (outcome.Word w) b c tt o answers step in
       record {
         goes =
-            subst (λ (ms : List Move). Goes d ms a c)
+            subst (λ (ms : List Move). Goes fits d ms a c)
             (sym (map-append (λ w. move act.Scan (outcome.Word w)) seen (w ∷ [])))
             (goes_append d (read_by seen) (move act.Scan (outcome.Word w) ∷ []) a b c before.goes
             one);
@@ -112,18 +123,8 @@ module _ {P V : Type 0} (d : DomainState P) where
         retired = ap (λ (v : CoreView). v.retired) core ∙ before.retired;
       }
 
-  -- the outcome of the last word, and how many entries that leaves
-  record LastRead (b c : SeatState V) (o : Outcome) : Type 0 where
-    pub word : ℕ
-    pub go : ℕ
-    pub answers : o ≡ outcome.Split word (length c.view.core.retired) go
-    pub owed : length c.view.core.owed ≡ go
-    pub retired : length c.view.core.retired + go ≡ length b.view.core.retired
-    pub few : length c.view.core.retired ≤ length b.view.core.seen + 1
-    pub phase : c.view.core.phase ≡ phase.Idle
-
   scan_ends : (b c : SeatState V) (o : Outcome) → is_last d.shape b.view.core ≡ true
-      → Steps d same_view IsSameView act.Scan b c o → LastRead b c o
+      → Steps fits d same_view IsSameView act.Scan b c o → LastRead b c o
   scan_ends b c o last step =
       let w = step.word in
       let v = b.view.core in
@@ -148,9 +149,9 @@ module _ {P V : Type 0} (d : DomainState P) where
 
   -- the seat has read all words but one, and then the last
   pub splits_by : (seen : List ℕ) (a b c : SeatState V) (o : Outcome) → IsIdle a.view.core
-      → length seen + 1 ≡ announcements d.shape → Reads d seen a b
-      → Steps d same_view IsSameView act.Scan b c o
-      → (word stay go : ℕ) → o ≡ outcome.Split word stay go → Splits d a c go
+      → length seen + 1 ≡ announcements d.shape → Reads fits d seen a b
+      → Steps fits d same_view IsSameView act.Scan b c o
+      → (word stay go : ℕ) → o ≡ outcome.Split word stay go → Splits fits d a c go
   splits_by seen a b c o idle all before step word stay go is =
       let reads = before.reads in
       let len : length b.view.core.seen ≡ length seen = ap length reads in
@@ -166,7 +167,7 @@ module _ {P V : Type 0} (d : DomainState P) where
         last = ends.word;
         all = all;
         goes =
-            subst (λ n. Goes d (scanned_by seen ends.word (length c.view.core.retired) n) a c) same
+            subst (λ n. Goes fits d (scanned_by seen ends.word (length c.view.core.retired) n) a c) same
             goes;
         idle = is_idle_after d (read_by seen ++ move act.Scan o' ∷ []) a c idle goes ends.phase;
         owed = ends.owed ∙ same;

@@ -15,9 +15,13 @@ use Rattle.core_events.specs.declared.view.Move.{Move}
 use Rattle.core_events.specs.Ejection.{seen_times}
 use Rattle.core_events.specs.Steps.{IsIdle, May, answer, moved}
 use Rattle.core_events.specs.Views.{first_view}
-use Rattle.core_law.specs.Rows.{slot0, wide}
-use Rattle.acquire_retire.specs.Scripts.{IsPlayed, MayPlay, Plays, one_seat, with_made}
+use Rattle.plain_state.specs.declared.slot.SlotId.{SlotId}
+use Rattle.acquire_retire.specs.Scripts.{IsPlayed, MayPlay, Plays, one_seat, wide, with_made}
 use Rattle.acquire_retire.proofs.Answered.{moved_same}
+
+-- the slot of a domain that has one
+abbrev pub slot0 : SlotId
+slot0 = record { 0 = 0 }
 
 -- the acts may be made in turn where they find these words
 abbrev MayFinding : Shape → List (Act × Outcome) → List ℕ → CoreView → Type 0
@@ -57,16 +61,16 @@ plays_to z (m ∷ ms) (w ∷ ws) v u may plays =
 -- a seat that has made a slot live in a domain of the shape z, as its first acts
 module _ (z : Shape) (old new : CoreView) (t : List Move) where
   abbrev pub HasBegun : Type 0
-  HasBegun = (old ≡ first_view z 0 wide) × (new ≡ record (with_made slot0 old) { trail = t })
+  HasBegun = (old ≡ first_view z 0 wide []) × (new ≡ record (with_made slot0 old) { trail = t })
 
 abbrev made_view : Shape → List Move → CoreView
-made_view z t = record (with_made slot0 (first_view z 0 wide)) { trail = t }
+made_view z t = record (with_made slot0 (first_view z 0 wide [])) { trail = t }
 
 begun_view : (z y : Shape) → z ≡ y → (old new : CoreView) (t : List Move)
     → HasBegun z old new t → new ≡ made_view y t
 begun_view z y same old new t begun =
     begun.1 ∙ ap (λ (v : CoreView). record (with_made slot0 v) { trail = t })
-    (begun.0 ∙ ap (λ (z : Shape). first_view z 0 wide) same)
+    (begun.0 ∙ ap (λ (z : Shape). first_view z 0 wide []) same)
 
 module _ (y : Shape) (ms : List (Act × Outcome)) (ws : List ℕ)
     (may : (t : List Move) → MayFinding y ms ws (made_view y t)) (z : Shape) (same : z ≡ y)

@@ -11,7 +11,7 @@ use Rattle.plain_protocol.specs.Laws.{Keeps}
 use Rattle.plain_protocol.specs.Owns.{OwnPart}
 use Rattle.core_events.specs.declared.act.Act.{Act}
 use Rattle.core_events.specs.declared.shape.Shape.{Shape}
-use Rattle.core_events.specs.declared.shape.Quota.{Quota}
+use Rattle.core_events.specs.Views.{Terms}
 use Rattle.core_events.specs.declared.view.CoreView.{CoreView}
 use Rattle.core_events.specs.Good.{SeatLaw}
 use Rattle.core_events.specs.Runs.{IsShape, after}
@@ -48,11 +48,11 @@ still_known f None is = is
 still_known f (Some all) is = refl
 
 -- a seat that has made a step is a seat
-seated_after : {V : Type 0} (z : Shape) (qs : List Quota)
-    (next_view : OwnPart → V → PlainAct → ℕ → V) (allows : Plain → Plain → ℕ → V → V → Type 0) (a : Act) (w : ℕ)
+seated_after : {V : Type 0} {fits : List ℕ → Type 0} (z : Shape) (ts : Terms)
+    (next_view : OwnPart → OwnPart → V → PlainAct → ℕ → V) (allows : Plain → Plain → ℕ → V → V → Type 0) (a : Act) (w : ℕ)
     (me new : Me (Unit {0}) (SeatView V)) → me.0.core.shape ≡ z → IsSeated me
-    → Told z qs next_view allows a me.0 w new.0 → new.1 ≡ me.1 → IsSeated new
-seated_after z qs next_view allows a w me new same seated told carried = record {
+    → Told fits z ts next_view allows a me.0 w new.0 → new.1 ≡ me.1 → IsSeated new
+seated_after z ts next_view allows a w me new same seated told carried = record {
   carries = carried ∙ seated.carries;
   here = told.here;
   shape = subst IsShape (same ∙ sym shape_is) seated.shape;
@@ -73,14 +73,14 @@ seated_after z qs next_view allows a w me new same seated told carried = record 
 
     alone_before : IsAlone new.0 → IsAlone me.0
     alone_before alone =
-        let trails = ap (λ (v : CoreView). length v.left_trails) told.core in
-        let stay = ap length (changed_trail z a w me.0.core).left_trails in
+        let trails = ap (λ (v : CoreView). length v.left_seats) told.core in
+        let stay = ap length (changed_trail z a w me.0.core).left_seats in
         let seats = ap (λ (y : Shape). y.seats) (same ∙ sym shape_is) in
         let number = seat_is in (omega (arith, alone.0), omega (arith, alone.1))
 
 module _ {P D V : Type 0} (law : P → Plain → List V → Type 0) (first : P → ℕ → V) (gone : V)
     (fits : List ℕ → Type 0) (ready : D → P → OwnPart → V → PlainAct → Type 0)
-    (next_view : D → P → OwnPart → V → PlainAct → ℕ → V)
+    (next_view : D → P → OwnPart → OwnPart → V → PlainAct → ℕ → V)
     (allows : D → P → Plain → Plain → ℕ → V → V → Type 0)
     (keep : (deed : D) (it : P)
     → Keeps (law it) gone (ready deed it) (next_view deed it) (allows deed it))
@@ -90,25 +90,25 @@ module _ {P D V : Type 0} (law : P → Plain → List V → Type 0) (first : P �
   -- a step that found w tells so for each aim that it has, which is one
   abbrev Tells : ℕ → Me (Unit {0}) (SeatView V) → Type 0
   Tells w new = (x : Aimed P D) → aim ≡ Some x
-      → Finds x.domain (next_view x.deed x.domain.protocol) (allows x.deed x.domain.protocol) x.act
+      → Finds fits x.domain (next_view x.deed x.domain.protocol) (allows x.deed x.domain.protocol) x.act
       seat.me w new
 
   abbrev TellsSome : Me (Unit {0}) (SeatView V) → Type 0
   TellsSome new = (x : Aimed P D) → aim ≡ Some x
-      → (w : ℕ) × Finds x.domain (next_view x.deed x.domain.protocol)
+      → (w : ℕ) × Finds fits x.domain (next_view x.deed x.domain.protocol)
       (allows x.deed x.domain.protocol) x.act seat.me w new
 
   tells : (w : ℕ) (new : Me (Unit {0}) (SeatView V))
-      → Finds d (next_view deed d.protocol) (allows deed d.protocol) a seat.me w new → Tells w new
+      → Finds fits d (next_view deed d.protocol) (allows deed d.protocol) a seat.me w new → Tells w new
   tells w new found x aims =
-      let T : Aimed P D → Type 0 = λ x. Finds x.domain (next_view x.deed x.domain.protocol)
+      let T : Aimed P D → Type 0 = λ x. Finds fits x.domain (next_view x.deed x.domain.protocol)
       (allows x.deed x.domain.protocol) x.act seat.me w new in
       subst T (same_aim (aimed d deed a) x aim is aims) found
 
   module _ (e : DomainState P) (same : e ≡ d) (kept : Shape)
-      (in_domain : IsDomain e.table e.shape e.quotas kept)
+      (in_domain : IsDomain e.table e.shape e.terms kept)
       (word : ℕ) (at : word ≡ place d.shape a seat.me.0.core) (f : ℕ → ℕ)
-      (kind : (w : ℕ) → next a w ≡ f w) where
+      (kind : (w : ℕ) → next a seat.me.0.core w ≡ f w) where
     table_is : seat.table_id ≡ e.table
     table_is = can.table ∙ sym (ap (λ (x : DomainState P). x.table) same)
 
@@ -117,23 +117,23 @@ module _ {P D V : Type 0} (law : P → Plain → List V → Type 0) (first : P �
         can.shape can.may
         (in_domain.words ∙ ap (λ (x : DomainState P). word_count x.shape) same) at
 
-    allowed : Allows (Kept (law e.protocol) (first e.protocol) fits e.shape e.quotas) e.table.slots
+    allowed : Allows (Kept (law e.protocol) (first e.protocol) fits e.shape e.terms) e.table.slots
         seat.id seat.me word f
-        (λ w new. Finds d (next_view deed d.protocol) (allows deed d.protocol) a seat.me w new)
+        (λ w new. Finds fits d (next_view deed d.protocol) (allows deed d.protocol) a seat.me w new)
     allowed =
         let r = step_allowed (law d.protocol) (first d.protocol) gone fits (ready deed d.protocol)
         (next_view deed d.protocol) (allows deed d.protocol) (keep deed d.protocol) d.shape
-        d.quotas a e.table.slots seat.id seat.me can.seated.here can.seated.knows can.own can.may
+        d.terms a e.table.slots seat.id seat.me can.seated.here can.seated.knows can.own can.may
         can.starts can.is_ready in
         let T : DomainState P × (ℕ × (ℕ → ℕ)) → Type 0 = λ x.
-        Allows (Kept (law x.0.protocol) (first x.0.protocol) fits x.0.shape x.0.quotas)
+        Allows (Kept (law x.0.protocol) (first x.0.protocol) fits x.0.shape x.0.terms)
         e.table.slots seat.id seat.me x.1.0 x.1.1
-        (λ w new. Finds d (next_view deed d.protocol) (allows deed d.protocol) a seat.me w new) in
+        (λ w new. Finds fits d (next_view deed d.protocol) (allows deed d.protocol) a seat.me w new) in
         subst T (λ i. (sym same i, (sym at i, λ w. kind w i))) r
 
     -- what the table requires of an atomic step, where the step tells the word that it finds
     pub step_requires : (seat.table_id ≡ e.table) × (word < e.table.words)
-        × Allows (Kept (law e.protocol) (first e.protocol) fits e.shape e.quotas) e.table.slots
+        × Allows (Kept (law e.protocol) (first e.protocol) fits e.shape e.terms) e.table.slots
         seat.id seat.me word f Tells
     step_requires = (
       table_is,
@@ -144,7 +144,7 @@ module _ {P D V : Type 0} (law : P → Plain → List V → Type 0) (first : P �
 
     -- and where it doesn't
     pub store_requires : (seat.table_id ≡ e.table) × (word < e.table.words)
-        × Allows (Kept (law e.protocol) (first e.protocol) fits e.shape e.quotas) e.table.slots
+        × Allows (Kept (law e.protocol) (first e.protocol) fits e.shape e.terms) e.table.slots
         seat.id seat.me word f (λ _ new. TellsSome new)
     store_requires = (
       table_is,
@@ -156,22 +156,22 @@ module _ {P D V : Type 0} (law : P → Plain → List V → Type 0) (first : P �
 
   -- what the step has told the seat
   stepped_by : (w : ℕ) (new : TableSeat (Unit {0}) (SeatView V)) → new.table_id ≡ seat.table_id
-      → Finds d (next_view deed d.protocol) (allows deed d.protocol) a seat.me w new.me
-      → Stepped d (next_view deed d.protocol) (allows deed d.protocol) a seat w new
+      → Finds fits d (next_view deed d.protocol) (allows deed d.protocol) a seat.me w new.me
+      → Stepped fits d (next_view deed d.protocol) (allows deed d.protocol) a seat w new
   stepped_by w new table found = record {
     table = table;
-    seated = seated_after d.shape d.quotas (next_view deed d.protocol) (allows deed d.protocol) a w
+    seated = seated_after d.shape d.terms (next_view deed d.protocol) (allows deed d.protocol) a w
         seat.me new.me can.shape can.seated found.0 found.1;
     told = found.0;
   }
 
   pub step_made : (w : ℕ) (new : TableSeat (Unit {0}) (SeatView V))
       → new.table_id ≡ seat.table_id → Tells w new.me
-      → Stepped d (next_view deed d.protocol) (allows deed d.protocol) a seat w new
+      → Stepped fits d (next_view deed d.protocol) (allows deed d.protocol) a seat w new
   step_made w new table told = stepped_by w new table (told (aimed d deed a) is)
 
   pub store_made : (new : TableSeat (Unit {0}) (SeatView V)) → new.table_id ≡ seat.table_id
       → TellsSome new.me
-      → (w : ℕ) × Stepped d (next_view deed d.protocol) (allows deed d.protocol) a seat w new
+      → (w : ℕ) × Stepped fits d (next_view deed d.protocol) (allows deed d.protocol) a seat w new
   store_made new table told =
       let found = told (aimed d deed a) is in (found.0, stepped_by found.0 new table found.1)

@@ -11,7 +11,7 @@ use Rattle.plain_state.specs.Fits.{AllFit}
 use Rattle.plain_state.specs.Images.{IsImage}
 use Rattle.plain_state.specs.State.{Plain}
 use Rattle.core_events.specs.declared.shape.Shape.{Shape}
-use Rattle.core_events.specs.declared.shape.Quota.{Quota}
+use Rattle.core_events.specs.Views.{Terms}
 use Rattle.core_events.specs.declared.view.CoreView.{CoreView}
 use Rattle.core_events.specs.Runs.{Core}
 use Rattle.core_events.specs.Shows.{shows}
@@ -46,25 +46,25 @@ knows_state fits z c v all shape so fit knows same = record {
 }
 
 module _ {V : Type 0} (law : Plain → List V → Type 0) (first : ℕ → V) (fits : List ℕ → Type 0)
-    (z : Shape) (qs : List Quota) (s : State (Unit {0}) (SeatView V))
-    (k : Kept law first fits z qs s) (id : ℕ) (v : SeatView V) (at : get_elem? s.views id ≡ some v)
+    (z : Shape) (ts : Terms) (s : State (Unit {0}) (SeatView V))
+    (k : Kept law first fits z ts s) (id : ℕ) (v : SeatView V) (at : get_elem? s.views id ≡ some v)
     (here : v.gone ≡ false) (root : v.core.seat ≡ 0) where
   abbrev all_clients : List V
   all_clients = clients first z.seats s.views
 
   first_client : (rest : List V) × (all_clients ≡ v.client ∷ rest)
   first_client =
-      let first_seat = is_root z qs s k id v at here root in
+      let first_seat = is_root z ts s k id v at here root in
       split_first all_clients v.client
       (client_found first z.seats s.views 0 v
       (subst (λ (n : ℕ). get_elem? s.views n ≡ some v) first_seat at))
 
   known_last : (all : Whole) → v.whole ≡ Some all → IsLast fits law z.seats v
   known_last all knows =
-      let says = true_of z qs s k id v at here in
-      let so = kept_sound z qs s k in
+      let says = true_of z ts s k id v at here in
+      let so = kept_sound z ts s k in
       let shape = ap (λ (u : CoreView). u.shape) says.core
-      ∙ (so.seats id (in_seats z qs s k id v at)).same_shape in
+      ∙ (so.seats id (in_seats z ts s k id v at)).same_shape in
       let count = clients_length first z.seats s.views k.few.1 in
       let length_is = ap length first_client.1 in record {
         state = shows z k.core;
@@ -82,13 +82,13 @@ pub closed_last : {P V : Type 0} (law : P → Plain → List V → Type 0) (firs
     (fits : List ℕ → Type 0) (d e : DomainState P) → e ≡ d
     → (seat : TableSeat (Unit {0}) (SeatView V)) (r : SeatState V) → value_of seat ≡ r
     → IsSeated seat.me → IsAlone r.view → (s : State (Unit {0}) (SeatView V))
-    → Seen (Kept (law e.protocol) (first e.protocol) fits e.shape e.quotas) seat.id seat.me.0 s
+    → Seen (Kept (law e.protocol) (first e.protocol) fits e.shape e.terms) seat.id seat.me.0 s
     → IsLast fits (law d.protocol) d.shape.seats r.view
 closed_last {P = P} {V = V} law first fits d e same seat r is seated alone s seen =
     let T : DomainState P × SeatState V → Type 0 = λ x.
     IsAlone x.1.view → IsLast fits (law x.0.protocol) x.0.shape.seats x.1.view in
     subst T (λ i. (same i, is i))
-    (λ here. last (law e.protocol) (first e.protocol) fits e.shape e.quotas s seen.0 seat.id
+    (λ here. last (law e.protocol) (first e.protocol) fits e.shape e.terms s seen.0 seat.id
     seat.me.0 seen.1 seated.here here.0 (seated.knows here)) alone
 
 -- an image of the state that a seat knows is one of what clauses see of the seat

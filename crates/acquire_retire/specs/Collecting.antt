@@ -48,24 +48,25 @@ ends payment.Helped = true
 ends payment.NoHelp = false
 ends payment.Freed = false
 
--- all that a seat has but its batch, its dying slots, what it is in the middle of, and its trail
+-- all that a seat has but its batch, its dying and ripe slots, what it is in the middle of, and its trail
 abbrev pub rest_of : CoreView → CoreView
 rest_of v =
     record v {
       retired = [];
       owed = [];
       dying = [];
+      ripe = [];
       phase = phase.Idle;
       seen = [];
       trail = [];
     }
 
-module _ {P V : Type 0} where
+module _ {P V : Type 0} (fits : List ℕ → Type 0) where
   -- these moves, in turn and without a deed, lead from one state of a seat to another
   abbrev pub Walks : DomainState P → List Move → SeatState V → SeatState V → Type 0
   Walks d [] old new = new ≡ old
   Walks d (m ∷ ms) old new =
-      (mid : SeatState V) × Steps d same_view IsSameView m.act old mid m.outcome
+      (mid : SeatState V) × Steps fits d same_view IsSameView m.act old mid m.outcome
       × Walks d ms mid new
 
   -- and the rest of what the seat has, and the client's view, stay as they are

@@ -1,9 +1,9 @@
 -- What callers see of a domain.
-use Rattle.std.specs.Prelude.{◌≡◌, List}
+use Rattle.std.specs.Prelude.{◌≡◌}
 use Rattle.atomic_table.specs.Seated.{TableId}
 use Rattle.core_events.specs.declared.shape.Shape.{Shape}
-use Rattle.core_events.specs.declared.shape.Quota.{Quota}
-use Rattle.core_events.specs.Runs.{AreQuotas, IsShape}
+use Rattle.core_events.specs.Runs.{AreTerms, IsShape}
+use Rattle.core_events.specs.Views.{Terms}
 use Rattle.core_events.specs.Words.{word_count}
 
 -- which table its words are in, its protocol, its sizes, and what each seat may use up
@@ -11,13 +11,13 @@ pub record DomainState (P : Type 0) : Type 0 where
   pub table : TableId
   pub protocol : P
   pub shape : Shape
-  pub quotas : List Quota
+  pub terms : Terms
 
--- shape and quotas are in their ranges, the domain keeps the shape, and the table has its words and
+-- shape and terms are in their ranges, the domain keeps the shape, and the table has its words and
 -- nothing else
-pub record IsDomain (table : TableId) (z : Shape) (qs : List Quota) (kept : Shape) : Type 0 where
+pub record IsDomain (table : TableId) (z : Shape) (ts : Terms) (kept : Shape) : Type 0 where
   pub shape : IsShape z
-  pub quotas : AreQuotas z qs
+  pub terms : AreTerms z ts
   pub same : kept ≡ z
   pub words : table.words ≡ word_count z
   pub slots : table.slots ≡ 0

@@ -32,7 +32,7 @@ module _ {P V : Type 0} where
     pub view : new.me.0 ≡ record (joined_view joined root.me.0 v.me.0) { whole = new.me.0.whole }
     pub knows : IsSome new.me.0.whole ↔ IsAlone new.me.0
     pub word : ℕ
-    pub found : FoundIn fits d.shape d.quotas new.me.0 0 word
+    pub found : FoundIn fits d.shape d.terms new.me.0 0 word
 
 module _ {V : Type 0} where
   -- seat 0 has taken over what a seat had that left, and knows the whole core exactly where it is

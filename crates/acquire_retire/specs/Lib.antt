@@ -1,6 +1,7 @@
 pub mod Domains
 pub mod Seats
 pub mod Calls
+pub mod Ripening
 pub mod Openings
 pub mod Leavings
 pub mod Collecting

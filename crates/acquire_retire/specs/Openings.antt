@@ -2,8 +2,8 @@
 use Rattle.std.specs.Prelude.{ℕ, ◌≡◌, ◌==◌, List, [], Option, Some, None, if◌then◌else◌}
 use Rattle.atomic_table.specs.declared.shared.Seat.{Seat as TableSeat}
 use Rattle.core_events.specs.declared.shape.Shape.{Shape}
-use Rattle.core_events.specs.declared.shape.Quota.{Quota}
-use Rattle.core_events.specs.Shows.{each_from}
+use Rattle.core_events.specs.Views.{Terms}
+use Rattle.core_events.specs.Words.{each_from}
 use Rattle.domain_rule.specs.declared.view.SeatView.{SeatView}
 use Rattle.domain_rule.specs.Opening.{opened_view}
 use Rattle.acquire_retire.specs.Domains.{DomainState}
@@ -11,13 +11,13 @@ use Rattle.acquire_retire.specs.Seats.{SeatState}
 
 module _ {V : Type 0} where
   -- the view of seat n once all seats are open: seat 0 has counted them
-  abbrev pub begun_view : (ℕ → V) → Shape → List Quota → ℕ → SeatView V
-  begun_view first z qs n =
-      record (opened_view first z qs n) { opened = if n == 0 then z.seats else 1 }
+  abbrev pub begun_view : (ℕ → V) → Shape → Terms → ℕ → SeatView V
+  begun_view first z ts n =
+      record (opened_view first z ts n) { opened = if n == 0 then z.seats else 1 }
 
 module _ {P V : Type 0} where
   abbrev pub begun_seat : (ℕ → V) → DomainState P → ℕ → SeatState V
-  begun_seat first d n = record { table = d.table; view = begun_view first d.shape d.quotas n }
+  begun_seat first d n = record { table = d.table; view = begun_view first d.shape d.terms n }
 
   -- the seats of a domain that was just opened, in order
   abbrev pub opened_seats : (ℕ → V) → DomainState P → List (SeatState V)
@@ -27,14 +27,14 @@ module _ {P V : Type 0} where
   abbrev pub IsFirst : (ℕ → V) → DomainState P → ℕ → TableSeat (Unit {0}) (SeatView V) → Type 0
   IsFirst first d n s =
       (s.table_id ≡ d.table)
-      × (s.me ≡ (record (opened_view first d.shape d.quotas 0) { opened = n }, []))
+      × (s.me ≡ (record (opened_view first d.shape d.terms 0) { opened = n }, []))
 
   -- the bare seat n when it has just been opened
   abbrev pub IsNew : (ℕ → V) → DomainState P → ℕ → TableSeat (Unit {0}) (SeatView V) → Type 0
   IsNew first d n s =
-      (s.table_id ≡ d.table) × (s.me ≡ (opened_view first d.shape d.quotas n, []))
+      (s.table_id ≡ d.table) × (s.me ≡ (opened_view first d.shape d.terms n, []))
 
   -- the next seat of the domain that was named
   abbrev pub newcomer : (P → ℕ → V) → Option (DomainState P) → SeatView V → SeatView V
   newcomer first None v = v
-  newcomer first (Some d) v = opened_view (first d.protocol) d.shape d.quotas v.opened
+  newcomer first (Some d) v = opened_view (first d.protocol) d.shape d.terms v.opened

@@ -1,5 +1,5 @@
 -- Acts that a seat makes in turn, each with the answer that is expected, for tests.
-use Rattle.std.specs.Prelude.{ℕ, ◌≡◌, ◌+◌, ◌<◌, List, [], ◌∷◌, ◌++◌, length, slice_index}
+use Rattle.std.specs.Prelude.{ℕ, ◌≡◌, ◌+◌, ◌^◌, ◌<◌, List, [], ◌∷◌, ◌++◌, length, slice_index}
 use Rattle.plain_state.specs.declared.slot.SlotId.{SlotId}
 use Rattle.core_events.specs.declared.act.Act.{Act}
 use Rattle.core_events.specs.declared.act.Act.TheVariants as act
@@ -9,7 +9,7 @@ use Rattle.core_events.specs.declared.view.CoreView.{CoreView}
 use Rattle.core_events.specs.declared.view.Phase.TheVariants as phase
 use Rattle.core_events.specs.Steps.{May, answer, moved}
 use Rattle.core_events.specs.Views.{first_view}
-use Rattle.core_law.specs.Rows.{wide}
+use Rattle.core_events.specs.declared.shape.Quota.{Quota}
 use Rattle.domain_rule.specs.Views.{object_in}
 use Rattle.acquire_retire.specs.Domains.{DomainState}
 use Rattle.acquire_retire.specs.Seats.{SeatState}
@@ -45,13 +45,17 @@ with_made s v =
       phase = phase.Idle;
     }
 
+-- a seat of a test may use up as much as a seat ever may
+abbrev pub wide : Quota
+wide = record { makes = 2 ^ 40; adds = 2 ^ 40 }
+
 -- the domain of the worked rows of one seat
 abbrev pub one_seat : Shape
 one_seat = record { seats = 1; slots = 1; cells = 2; weak_cells = 0; batch = 4 }
 
 -- seat n of the domain, and it has done nothing
 abbrev pub IsFresh : {P V : Type 0} → DomainState P → ℕ → SeatState V → Type 0
-IsFresh d n s = (s.table ≡ d.table) × (s.view.core ≡ first_view d.shape n wide)
+IsFresh d n s = (s.table ≡ d.table) × (s.view.core ≡ first_view d.shape n wide [])
 
 module _ {V : Type 0} where
   abbrev pub HasMade : SlotId → SeatState V → SeatState V → Type 0

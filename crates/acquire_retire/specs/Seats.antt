@@ -1,5 +1,5 @@
 -- What callers see of a seat, and what the seat stores of its view.
-use Rattle.std.specs.Prelude.{ℕ, ◌≡◌, ◌<◌, ◌≤◌, ◌*◌, false, List, [], length}
+use Rattle.std.specs.Prelude.{ℕ, ◌≡◌, ◌<◌, ◌≤◌, ◌*◌, ◌^◌, false, List, [], length, sum}
 use Rattle.atomic_table.specs.Seated.{TableId}
 use Rattle.atomic_table.specs.Table.{Me}
 use Rattle.plain_state.specs.declared.slot.SlotId.{SlotId}
@@ -33,6 +33,7 @@ pub record Stored : Type 0 where
   pub seen : List ℕ
   pub read : ℕ
   pub dying : List SlotId
+  pub ripe : List SlotId
   pub left : ℕ
 
 -- of the words that its scan has read it stores those that announce something, and of the seats
@@ -50,16 +51,19 @@ stored v = record {
   seen = announcements v.seen;
   read = length v.seen;
   dying = v.dying;
-  left = length v.left_trails;
+  ripe = v.ripe;
+  left = length v.left_seats;
 }
 
 -- there is room for all that it may have to store: at seat 0 for what all seats may retire, since
--- it takes over from those that leave
-pub record HasRooms (v : CoreView) (batch_room seen_room dying_room : ℕ) : Type 0 where
+-- it takes over from those that leave; and the makes that it may have to count are few
+pub record HasRooms (v : CoreView) (batch_room seen_room dying_room ripe_room : ℕ) : Type 0 where
   pub batch : v.room ≤ batch_room
   pub root : v.seat ≡ 0 → v.shape.seats * room_of v.shape ≤ batch_room
   pub seen : seen_room ≡ 4 * v.shape.seats
   pub dying : v.shape.slots ≤ dying_room
+  pub ripe : v.shape.slots ≤ ripe_room
+  pub grants : sum v.grants ≤ 2 ^ 40
 
 -- it carries no slot of the table and hasn't left, and what holds of a seat by itself holds of it
 pub record IsSeated {V : Type 0} (me : Me (Unit {0}) (SeatView V)) : Type 0 where
@@ -72,7 +76,7 @@ pub record IsSeated {V : Type 0} (me : Me (Unit {0}) (SeatView V)) : Type 0 wher
 
 -- between calls it stores what its view has
 pub record IsSeat {V : Type 0} (me : Me (Unit {0}) (SeatView V)) (s : Stored)
-    (batch_room seen_room dying_room : ℕ) : Type 0 where
+    (batch_room seen_room dying_room ripe_room : ℕ) : Type 0 where
   pub seated : IsSeated me
   pub stores : s ≡ stored me.0.core
-  pub rooms : HasRooms me.0.core batch_room seen_room dying_room
+  pub rooms : HasRooms me.0.core batch_room seen_room dying_room ripe_room

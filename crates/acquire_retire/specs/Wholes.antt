@@ -6,9 +6,11 @@ use Rattle.plain_state.specs.Fits.{AllFit}
 use Rattle.plain_state.specs.Images.{IsImage}
 use Rattle.plain_state.specs.Lawful.{Lawful}
 use Rattle.plain_state.specs.State.{Plain}
+use Rattle.core_events.specs.Counts.{barers}
 use Rattle.core_events.specs.Runs.{Core, view_at}
 use Rattle.core_events.specs.Shows.{shows}
 use Rattle.core_events.specs.Words.{ZERO}
+use Rattle.plain_state.specs.declared.slot.SlotId.{SlotId}
 use Rattle.core_invariant.specs.Sound.{Sound}
 use Rattle.domain_rule.specs.declared.view.SeatView.{SeatView}
 use Rattle.domain_rule.specs.declared.view.Whole.{Whole}
@@ -28,8 +30,8 @@ abbrev pub known_core : {V : Type 0} → SeatView V → Core
 known_core v = core_known v.whole
 
 module _ {P V : Type 0} where
-  -- the bare seat is of the domain and knows the whole core: that is sound, its payloads fit, and
-  -- the seat's half of it is the view's
+  -- the bare seat is of the domain and knows the whole core: that is sound, its payloads fit, no
+  -- slot is claimed bare, and the seat's half of it is the view's
   pub record KnowsCore (d : DomainState P) (fits : List ℕ → Type 0)
       (s : TableSeat (Unit {0}) (SeatView V)) : Type 0 where
     pub table : s.table_id ≡ d.table
@@ -37,6 +39,7 @@ module _ {P V : Type 0} where
     pub knows : IsSome s.me.0.whole
     pub sound : Sound d.shape (known_core s.me.0)
     pub fit : AllFit fits (shows d.shape (known_core s.me.0))
+    pub armed : (x : SlotId) → barers (known_core s.me.0) x ≡ 0
     pub half : s.me.0.core ≡ view_at (known_core s.me.0) s.me.0.core.seat
 
   -- what the bare seat knows of the plain state

@@ -24,7 +24,7 @@ pub(crate) struct Reads<P, D, B> {
 
 impl<P: Protocol, D: Deed<P>, B: Aim<P, D>> Play<(), SeatView<P::View>> for Reads<P, D, B> {
     ghost then = { λ _ old w new. (a : Aimed P D) → B.aim ≡ Some a
-        → Finds a.domain (D.next a.deed a.domain.protocol) (D.allows a.deed a.domain.protocol)
+        → Finds P.Kind.fits a.domain (D.next a.deed a.domain.protocol) (D.allows a.deed a.domain.protocol)
         a.act old w new };
 }
 
@@ -35,6 +35,6 @@ pub(crate) struct Writes<P, D, B> {
 
 impl<P: Protocol, D: Deed<P>, B: Aim<P, D>> Play<(), SeatView<P::View>> for Writes<P, D, B> {
     ghost then = { λ _ old _ new. (a : Aimed P D) → B.aim ≡ Some a
-        → (w : ℕ) × Finds a.domain (D.next a.deed a.domain.protocol)
+        → (w : ℕ) × Finds P.Kind.fits a.domain (D.next a.deed a.domain.protocol)
         (D.allows a.deed a.domain.protocol) a.act old w new };
 }

@@ -1,7 +1,7 @@
 //! The kinds of atomic step, each as one event of the table of events.
-ghost use Rattle.std.specs.Prelude.{ℕ, ◌≡◌, ◌==◌, bit_and, Some};
+ghost use Rattle.std.specs.Prelude.{ℕ, ◌≡◌, ◌==◌, ◌+◌, ◌%◌, ◌^◌, bit_and, Some};
 ghost use prog.Atomic.{either};
-ghost use Rattle.core_events.specs.Steps.{minus_one, next, place, plus_one};
+ghost use Rattle.core_events.specs.Steps.{minus_one, next, place};
 ghost use Rattle.acquire_retire.specs.Calls.{CanStep, Stepped, aimed};
 
 use crate::aim::{Aim, Reads, Writes};
@@ -23,8 +23,8 @@ impl<P: Protocol> Domain<P> {
         requires aim { B.aim ≡ Some (aimed self.now deed act) }
         requires can { CanStep self.now (D.ready deed self.now.protocol) P.Kind.fits act seat.old }
         requires word { word ≡ place self.now.shape act seat.old.me.0.core }
-        requires kind { (w : ℕ) → next act w ≡ w }
-        ensures { Stepped self.now (D.next deed self.now.protocol)
+        requires kind { (w : ℕ) → next act seat.old.me.0.core w ≡ w }
+        ensures { Stepped P.Kind.fits self.now (D.next deed self.now.protocol)
             (D.allows deed self.now.protocol) act seat.old result seat.new }
     {
         self.table.shared.load::<Reads<P, D, B>>(seat, word)
@@ -42,8 +42,8 @@ impl<P: Protocol> Domain<P> {
         requires aim { B.aim ≡ Some (aimed self.now deed act) }
         requires can { CanStep self.now (D.ready deed self.now.protocol) P.Kind.fits act seat.old }
         requires word { word ≡ place self.now.shape act seat.old.me.0.core }
-        requires kind { (w : ℕ) → next act w ≡ new }
-        ensures { (w : ℕ) × Stepped self.now (D.next deed self.now.protocol)
+        requires kind { (w : ℕ) → next act seat.old.me.0.core w ≡ new }
+        ensures { (w : ℕ) × Stepped P.Kind.fits self.now (D.next deed self.now.protocol)
             (D.allows deed self.now.protocol) act seat.old w seat.new }
     {
         self.table.shared.store::<Writes<P, D, B>>(seat, word, new);
@@ -61,8 +61,8 @@ impl<P: Protocol> Domain<P> {
         requires aim { B.aim ≡ Some (aimed self.now deed act) }
         requires can { CanStep self.now (D.ready deed self.now.protocol) P.Kind.fits act seat.old }
         requires word { word ≡ place self.now.shape act seat.old.me.0.core }
-        requires kind { (w : ℕ) → next act w ≡ new }
-        ensures { Stepped self.now (D.next deed self.now.protocol)
+        requires kind { (w : ℕ) → next act seat.old.me.0.core w ≡ new }
+        ensures { Stepped P.Kind.fits self.now (D.next deed self.now.protocol)
             (D.allows deed self.now.protocol) act seat.old result seat.new }
     {
         self.table.shared.swap::<Reads<P, D, B>>(seat, word, new)
@@ -81,8 +81,8 @@ impl<P: Protocol> Domain<P> {
         requires aim { B.aim ≡ Some (aimed self.now deed act) }
         requires can { CanStep self.now (D.ready deed self.now.protocol) P.Kind.fits act seat.old }
         requires word { word ≡ place self.now.shape act seat.old.me.0.core }
-        requires kind { (w : ℕ) → next act w ≡ either (w == old) new w }
-        ensures { Stepped self.now (D.next deed self.now.protocol)
+        requires kind { (w : ℕ) → next act seat.old.me.0.core w ≡ either (w == old) new w }
+        ensures { Stepped P.Kind.fits self.now (D.next deed self.now.protocol)
             (D.allows deed self.now.protocol) act seat.old result seat.new }
     {
         self.table
@@ -90,22 +90,25 @@ impl<P: Protocol> Domain<P> {
             .compare_exchange::<Reads<P, D, B>>(seat, word, old, new)
     }
 
-    /// An act that adds 1.
+    /// An act that adds an amount.
     pub(crate) fn fetch_add_as<D: Deed<P>, B: Aim<P, D>>(
         &self,
         seat: &mut atomic_table::Seat<(), SeatView<P::View>>,
         act: Act,
         deed: D,
         word: usize,
+        amount: u64,
     ) -> u64
         requires aim { B.aim ≡ Some (aimed self.now deed act) }
         requires can { CanStep self.now (D.ready deed self.now.protocol) P.Kind.fits act seat.old }
         requires word { word ≡ place self.now.shape act seat.old.me.0.core }
-        requires kind { (w : ℕ) → next act w ≡ plus_one w }
-        ensures { Stepped self.now (D.next deed self.now.protocol)
+        requires kind { (w : ℕ) → next act seat.old.me.0.core w ≡ (w + amount) % 2 ^ 64 }
+        ensures { Stepped P.Kind.fits self.now (D.next deed self.now.protocol)
             (D.allows deed self.now.protocol) act seat.old result seat.new }
     {
-        self.table.shared.fetch_add::<Reads<P, D, B>>(seat, word, 1)
+        self.table
+            .shared
+            .fetch_add::<Reads<P, D, B>>(seat, word, amount)
     }
 
     /// An act that subtracts 1.
@@ -119,8 +122,8 @@ impl<P: Protocol> Domain<P> {
         requires aim { B.aim ≡ Some (aimed self.now deed act) }
         requires can { CanStep self.now (D.ready deed self.now.protocol) P.Kind.fits act seat.old }
         requires word { word ≡ place self.now.shape act seat.old.me.0.core }
-        requires kind { (w : ℕ) → next act w ≡ minus_one w }
-        ensures { Stepped self.now (D.next deed self.now.protocol)
+        requires kind { (w : ℕ) → next act seat.old.me.0.core w ≡ minus_one w }
+        ensures { Stepped P.Kind.fits self.now (D.next deed self.now.protocol)
             (D.allows deed self.now.protocol) act seat.old result seat.new }
     {
         self.table.shared.fetch_sub::<Reads<P, D, B>>(seat, word, 1)
@@ -138,8 +141,8 @@ impl<P: Protocol> Domain<P> {
         requires aim { B.aim ≡ Some (aimed self.now deed act) }
         requires can { CanStep self.now (D.ready deed self.now.protocol) P.Kind.fits act seat.old }
         requires word { word ≡ place self.now.shape act seat.old.me.0.core }
-        requires kind { (w : ℕ) → next act w ≡ bit_and w mask }
-        ensures { Stepped self.now (D.next deed self.now.protocol)
+        requires kind { (w : ℕ) → next act seat.old.me.0.core w ≡ bit_and w mask }
+        ensures { Stepped P.Kind.fits self.now (D.next deed self.now.protocol)
             (D.allows deed self.now.protocol) act seat.old result seat.new }
     {
         self.table

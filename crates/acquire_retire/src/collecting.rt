@@ -21,7 +21,7 @@ impl<P: Protocol> Domain<P> {
         requires seat { IsOf self.now seat.old }
         requires idle { IsIdle seat.old.view.core }
         requires owes_nothing { seat.old.view.core.owed ≡ [] }
-        ensures { Collects self.now seat.old seat.new result }
+        ensures { Collects P.Kind.fits self.now seat.old seat.new result }
     {
         let scanned = 4 * self.shape.seats;
         let ejected = self.scan_all(seat);
@@ -38,7 +38,7 @@ impl<P: Protocol> Domain<P> {
         requires seat { IsOf self.now seat.old }
         requires idle { IsIdle seat.old.view.core }
         requires owes_nothing { seat.old.view.core.owed ≡ [] }
-        ensures { ReadsAllButOne self.now seat.old seat.new }
+        ensures { ReadsAllButOne P.Kind.fits self.now seat.old seat.new }
     {
         for _place in seat.read + 1..4 * self.shape.seats {
             self.scan(seat);
@@ -50,7 +50,7 @@ impl<P: Protocol> Domain<P> {
         requires seat { IsOf self.now seat.old }
         requires idle { IsIdle seat.old.view.core }
         requires owes_nothing { seat.old.view.core.owed ≡ [] }
-        ensures { Splits self.now seat.old seat.new result }
+        ensures { Splits P.Kind.fits self.now seat.old seat.new result }
     {
         self.read_on(seat);
         match self.scan(seat) {
@@ -64,7 +64,7 @@ impl<P: Protocol> Domain<P> {
         requires seat { IsOf self.now seat.old }
         requires idle { IsIdle seat.old.view.core }
         requires owed { owed ≡ length seat.old.view.core.owed }
-        ensures { PaysFor self.now seat.old seat.new owed result }
+        ensures { PaysFor P.Kind.fits self.now seat.old seat.new owed result }
     {
         let mut ended = 0;
         for _entry in 0..owed {
@@ -80,7 +80,7 @@ impl<P: Protocol> Domain<P> {
         requires seat { IsOf self.now seat.old }
         requires idle { IsIdle seat.old.view.core }
         requires owes { seat.old.view.core.owed ≢ [] }
-        ensures { Pays self.now (result ∷ []) seat.old seat.new }
+        ensures { Pays P.Kind.fits self.now (result ∷ []) seat.old seat.new }
     {
         match self.pay(seat) {
             Outcome::Zeroed => match self.finish(seat) {

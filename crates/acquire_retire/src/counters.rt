@@ -33,11 +33,11 @@ impl<P: Protocol> Domain<P> {
         requires may { May self.now.shape (act.Add slot) seat.old.view.core }
         requires deed { IsReady (D.ready deed self.now.protocol) self.now.shape (act.Add slot)
             seat.old.view }
-        ensures { Steps self.now (D.next deed self.now.protocol)
+        ensures { Steps P.Kind.fits self.now (D.next deed self.now.protocol)
             (D.allows deed self.now.protocol) (act.Add slot) seat.old seat.new result }
     {
         let word = slot_index(&self.shape, slot);
-        let found = self.fetch_add_as::<D, Brand>(&mut seat.seat, Act::Add(slot), deed, word);
+        let found = self.fetch_add_as::<D, Brand>(&mut seat.seat, Act::Add(slot), deed, word, 1);
         seat.adds += 1;
         added(found)
     }
@@ -47,7 +47,8 @@ impl<P: Protocol> Domain<P> {
     pub fn drop(&self, seat: &mut Seat<P>, slot: SlotId) -> Outcome
         requires seat { IsOf self.now seat.old }
         requires may { May self.now.shape (act.Drop slot) seat.old.view.core }
-        ensures { Steps self.now same_view IsSameView (act.Drop slot) seat.old seat.new result }
+        ensures { Steps P.Kind.fits self.now same_view IsSameView (act.Drop slot)
+            seat.old seat.new result }
     {
         let word = slot_index(&self.shape, slot);
         let found = self.fetch_sub_as::<Still, Brand>(&mut seat.seat, Act::Drop(slot), Still, word);
@@ -61,7 +62,7 @@ impl<P: Protocol> Domain<P> {
     pub fn pay(&self, seat: &mut Seat<P>) -> Outcome
         requires seat { IsOf self.now seat.old }
         requires may { May self.now.shape act.Pay seat.old.view.core }
-        ensures { Steps self.now same_view IsSameView act.Pay seat.old seat.new result }
+        ensures { Steps P.Kind.fits self.now same_view IsSameView act.Pay seat.old seat.new result }
     {
         let Some((kind, slot)) = seat.batch.next_owed() else {
             return Outcome::Left;
@@ -78,7 +79,8 @@ impl<P: Protocol> Domain<P> {
     pub fn finish(&self, seat: &mut Seat<P>) -> Outcome
         requires seat { IsOf self.now seat.old }
         requires may { May self.now.shape act.Finish seat.old.view.core }
-        ensures { Steps self.now same_view IsSameView act.Finish seat.old seat.new result }
+        ensures { Steps P.Kind.fits self.now same_view IsSameView act.Finish
+            seat.old seat.new result }
     {
         let slot = slot_in_phase(seat.phase);
         let word = slot_index(&self.shape, slot);
@@ -107,7 +109,8 @@ impl<P: Protocol> Domain<P> {
     pub fn take(&self, seat: &mut Seat<P>) -> Outcome
         requires seat { IsOf self.now seat.old }
         requires may { May self.now.shape act.Take seat.old.view.core }
-        ensures { Steps self.now same_view IsSameView act.Take seat.old seat.new result }
+        ensures { Steps P.Kind.fits self.now same_view IsSameView act.Take
+            seat.old seat.new result }
     {
         let slot = slot_in_phase(seat.phase);
         let word = slot_index(&self.shape, slot);
@@ -133,7 +136,7 @@ impl<P: Protocol> Domain<P> {
         requires may { May self.now.shape (act.Count slot) seat.old.view.core }
         requires deed { IsReady (D.ready deed self.now.protocol) self.now.shape (act.Count slot)
             seat.old.view }
-        ensures { Steps self.now (D.next deed self.now.protocol)
+        ensures { Steps P.Kind.fits self.now (D.next deed self.now.protocol)
             (D.allows deed self.now.protocol) (act.Count slot) seat.old seat.new result }
     {
         let word = slot_index(&self.shape, slot);
@@ -151,7 +154,7 @@ impl<P: Protocol> Domain<P> {
         requires may { May self.now.shape act.Mark seat.old.view.core }
         requires deed { IsReady (D.ready deed self.now.protocol) self.now.shape act.Mark
             seat.old.view }
-        ensures { Steps self.now (D.next deed self.now.protocol)
+        ensures { Steps P.Kind.fits self.now (D.next deed self.now.protocol)
             (D.allows deed self.now.protocol) act.Mark seat.old seat.new result }
     {
         let slot = slot_in_phase(seat.phase);

@@ -23,9 +23,15 @@ impl<P: Protocol> Model for Domain<P> {
       table = d.table.shared.table_id;
       protocol = d.table.shared.key.protocol;
       shape = d.table.shared.key.shape;
-      quotas = d.table.shared.key.quotas.items;
+      terms = record {
+        quotas = d.table.shared.key.quotas.items;
+        grants = d.table.shared.key.grants.items;
+      };
     } };
 
     ghost invariant = { λ d. IsDomain d.table.shared.table_id d.table.shared.key.shape
-        d.table.shared.key.quotas.items d.shape };
+        (record {
+          quotas = d.table.shared.key.quotas.items;
+          grants = d.table.shared.key.grants.items;
+        }) d.shape };
 }

@@ -26,7 +26,7 @@ impl<P: Protocol> Domain<P> {
         requires may { May self.now.shape (act.Swap place new) seat.old.view.core }
         requires deed { IsReady (D.ready deed self.now.protocol) self.now.shape
             (act.Swap place new) seat.old.view }
-        ensures { Steps self.now (D.next deed self.now.protocol)
+        ensures { Steps P.Kind.fits self.now (D.next deed self.now.protocol)
             (D.allows deed self.now.protocol) (act.Swap place new) seat.old seat.new result }
     {
         let at = place_index(&self.shape, place);
@@ -50,7 +50,7 @@ impl<P: Protocol> Domain<P> {
         requires may { May self.now.shape (act.Cas place old new) seat.old.view.core }
         requires deed { IsReady (D.ready deed self.now.protocol) self.now.shape
             (act.Cas place old new) seat.old.view }
-        ensures { Steps self.now (D.next deed self.now.protocol)
+        ensures { Steps P.Kind.fits self.now (D.next deed self.now.protocol)
             (D.allows deed self.now.protocol) (act.Cas place old new) seat.old seat.new result }
     {
         let at = place_index(&self.shape, place);

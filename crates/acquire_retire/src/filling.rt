@@ -11,7 +11,7 @@ ghost use Rattle.acquire_retire.specs.Calls.{IsOf, IsReady, IsSameView, Steps, s
 use crate::domain::Domain;
 use crate::seat::Seat;
 use core_events::{Act, Kind, Outcome, Phase, SlotId};
-use core_parts::{ZERO_FLAG, counter_index, slot_in_phase, slot_index};
+use core_parts::{bit_alone, bits_index, counter_index, has_bit, slot_in_phase, slot_index};
 use plain_protocol::{Deed, Protocol, Still};
 use std::marker::Brand;
 
@@ -19,34 +19,45 @@ use std::marker::Brand;
 const FIRST_PAYLOAD: usize = 5;
 
 impl<P: Protocol> Domain<P> {
-    /// Claims a slot: `Claimed` where it was free, and the seat fills it then, else `Taken`.
+    /// Claims a slot: `Claimed` where its bit was set, and the seat is to arm it then, else `Taken`, with the word
+    /// that has the slot's bit and those of its neighbours.
     pub fn claim(&self, seat: &mut Seat<P>, slot: SlotId) -> Outcome
         requires seat { IsOf self.now seat.old }
         requires may { May self.now.shape (act.Claim slot) seat.old.view.core }
-        ensures { Steps self.now same_view IsSameView (act.Claim slot) seat.old seat.new result }
+        ensures { Steps P.Kind.fits self.now same_view IsSameView (act.Claim slot)
+            seat.old seat.new result }
     {
-        let word = counter_index(&self.shape, Kind::Weak, slot);
-        let found = self.compare_exchange_as::<Still, Brand>(
-            &mut seat.seat,
-            Act::Claim(slot),
-            Still,
-            word,
-            ZERO_FLAG,
-            1,
-        );
-        if found == ZERO_FLAG {
+        let word = bits_index(&self.shape, slot);
+        let mask = !bit_alone(slot);
+        let found =
+            self.fetch_and_as::<Still, Brand>(&mut seat.seat, Act::Claim(slot), Still, word, mask);
+        if has_bit(found, slot) {
             seat.makes += 1;
-            seat.phase = Phase::Blank(slot);
+            seat.phase = Phase::Bare(slot);
             return Outcome::Claimed;
         }
-        Outcome::Taken
+        Outcome::Taken(found)
     }
 
-    /// Writes a payload word of the slot that the seat has claimed.
+    /// Gives the slot that the seat has claimed its own weak reference, and the seat fills it then.
+    pub fn arm(&self, seat: &mut Seat<P>) -> Outcome
+        requires seat { IsOf self.now seat.old }
+        requires may { May self.now.shape act.Arm seat.old.view.core }
+        ensures { Steps P.Kind.fits self.now same_view IsSameView act.Arm
+            seat.old seat.new result }
+    {
+        let slot = slot_in_phase(seat.phase);
+        let word = counter_index(&self.shape, Kind::Weak, slot);
+        self.store_as::<Still, Brand>(&mut seat.seat, Act::Arm, Still, word, 1);
+        seat.phase = Phase::Blank(slot);
+        Outcome::Plain
+    }
+
+    /// Writes a payload word of the slot that the seat has claimed and armed.
     pub fn fill(&self, seat: &mut Seat<P>, index: u32, word: u64) -> Outcome
         requires seat { IsOf self.now seat.old }
         requires may { May self.now.shape (act.Fill index word) seat.old.view.core }
-        ensures { Steps self.now same_view IsSameView (act.Fill index word) seat.old
+        ensures { Steps P.Kind.fits self.now same_view IsSameView (act.Fill index word) seat.old
             seat.new result }
     {
         let slot = slot_in_phase(seat.phase);
@@ -55,7 +66,7 @@ impl<P: Protocol> Domain<P> {
         Outcome::Plain
     }
 
-    /// Makes the slot that the seat has claimed live, with one strong reference, which is the seat's. What the seat
+    /// Makes the slot that the seat has filled live, with one strong reference, which is the seat's. What the seat
     /// has filled it with fits the protocol's kind of payload.
     pub fn start<D: Deed<P>>(&self, seat: &mut Seat<P>, deed: D) -> Outcome
         requires seat { IsOf self.now seat.old }
@@ -64,7 +75,7 @@ impl<P: Protocol> Domain<P> {
             → P.Kind.fits (object_in seat.old.view slot).payload }
         requires deed { IsReady (D.ready deed self.now.protocol) self.now.shape act.Start
             seat.old.view }
-        ensures { Steps self.now (D.next deed self.now.protocol)
+        ensures { Steps P.Kind.fits self.now (D.next deed self.now.protocol)
             (D.allows deed self.now.protocol) act.Start seat.old seat.new result }
     {
         let slot = slot_in_phase(seat.phase);
@@ -79,7 +90,7 @@ impl<P: Protocol> Domain<P> {
     pub fn see(&self, seat: &mut Seat<P>, slot: SlotId, index: u32) -> Outcome
         requires seat { IsOf self.now seat.old }
         requires may { May self.now.shape (act.See slot index) seat.old.view.core }
-        ensures { Steps self.now same_view IsSameView (act.See slot index) seat.old
+        ensures { Steps P.Kind.fits self.now same_view IsSameView (act.See slot index) seat.old
             seat.new result }
     {
         let at = slot_index(&self.shape, slot) + FIRST_PAYLOAD + index as usize;

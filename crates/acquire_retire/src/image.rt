@@ -2,8 +2,8 @@
 ghost use Rattle.std.specs.Prelude.{◌≡◌, ◌+◌, ◌<◌, ◌≤◌, false, IfOk, IsSome};
 ghost use Rattle.plain_state.specs.Images.{IsImage, image_at};
 ghost use Rattle.plain_state.specs.State.{seat_at};
-ghost use Rattle.core_events.specs.Shows.{each_from};
-ghost use Rattle.core_events.specs.Steps.{CanLeave};
+ghost use Rattle.core_events.specs.Words.{each_from};
+ghost use Rattle.core_events.specs.Steps.{CanLeave, IsIdle};
 ghost use Rattle.core_events.specs.Words.{word_count};
 ghost use Rattle.domain_rule.specs.Views.{IsAlone};
 ghost use Rattle.acquire_retire.specs.Calls.{IsOf};
@@ -32,6 +32,7 @@ impl<P: Protocol> Domain<P> {
         requires table { seat.old.table_id ≡ self.now.table }
         requires here { seat.old.me.0.gone ≡ false }
         requires knows { IsSome seat.old.me.0.whole }
+        requires idle { IsIdle seat.old.me.0.core }
         ensures stays { IsSame seat.old seat.new }
         ensures knows { KnowsCore self.now P.Kind.fits seat.old }
     {

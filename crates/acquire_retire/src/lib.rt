@@ -44,11 +44,12 @@ mod standing;
 mod tests;
 #[cfg(test)]
 mod tests_seats;
+mod tickets;
 mod weak_counters;
 
 pub use core_events::{EventPlace, Kind, Outcome, Quota, Shape, ShapeField, SlotId};
 pub use domain::Domain;
 pub use errors::OpenError;
-pub use opening::open_domain;
+pub use opening::{open_domain, open_granted};
 pub use payment::{Payment, Work};
 pub use seat::{Seat, SeatOf};

@@ -1,8 +1,8 @@
 //! How a domain is opened, with all its seats.
-ghost use Rattle.std.specs.Prelude.{ℕ, ◌≡◌, ◌↔◌, ◌+◌, ◌-◌, ◌*◌, ◌<◌, ◌≤◌, [], Option, Some, None, Err, IfOk, OnOk, vec_len, vec_capacity};
+ghost use Rattle.std.specs.Prelude.{ℕ, ◌≡◌, ◌↔◌, ◌+◌, ◌-◌, ◌*◌, ◌^◌, ◌<◌, ◌≤◌, List, [], Option, Some, None, Err, IfOk, OnOk, sum};
 ghost use Rattle.core_events.specs.declared.shape.ShapeField.{ShapeField};
-ghost use Rattle.core_events.specs.Runs.{AreQuotas, IsShape};
-ghost use Rattle.core_events.specs.Shows.{each_from};
+ghost use Rattle.core_events.specs.Runs.{AreTerms, IsShape};
+ghost use Rattle.core_events.specs.Words.{each_from};
 ghost use Rattle.core_events.specs.Views.{first_view, room_of};
 ghost use Rattle.core_parts.specs.Fields.{IsFirstBad};
 ghost use Rattle.domain_rule.specs.Opening.{opened_more};
@@ -46,7 +46,9 @@ fn new_seat<W>(
     room: u32,
 ) -> Result<SeatOf<W>, OutOfMemory>
     requires seated { IsSeated seat.me }
-    requires new { seat.me.0.core ≡ first_view shape.now number quota }
+    requires new { (grants : List ℕ)
+        × (seat.me.0.core ≡ first_view shape.now number quota grants) }
+    requires grants { sum seat.me.0.core.grants ≤ 2 ^ 40 }
     requires room { room_of shape.now ≤ room }
     requires root { number ≡ 0 → shape.now.seats * room_of shape.now ≤ room }
     ensures { IfOk result (λ s. s ≡ record { table = seat.table_id; view = seat.me.0 }) }
@@ -54,6 +56,7 @@ fn new_seat<W>(
     let batch = Batch::with_room(alloc, room)?;
     let seen = Seen::with_room(alloc, 4 * shape.seats)?;
     let dying = Vec::with_capacity(alloc, shape.slots as usize)?;
+    let ripe = Vec::with_capacity(alloc, shape.slots as usize)?;
     Ok(SeatOf {
         seat,
         number,
@@ -66,6 +69,7 @@ fn new_seat<W>(
         seen,
         read: 0,
         dying,
+        ripe,
         left: 0,
     })
 }
@@ -76,17 +80,18 @@ impl<P: Protocol> Domain<P> {
         alloc: Global,
         shape: Shape,
         quotas: &[Quota],
+        grants: &[u64],
         protocol: P,
     ) -> Result<(Domain<P>, atomic_table::Seat<(), SeatView<P::View>>), OutOfMemory>
     where
         P: Drop,
         requires shape { IsShape shape }
-        requires quotas { AreQuotas shape quotas.now }
+        requires terms { AreTerms shape (record { quotas = quotas.now; grants = grants.now }) }
         ensures domain { IfOk result (λ r. r.0 ≡ record {
           table = r.0.table;
           protocol = protocol;
           shape = shape;
-          quotas = quotas.now;
+          terms = record { quotas = quotas.now; grants = grants.now };
         }) }
         ensures root { IfOk result (λ r. IsFirst (P.first protocol) r.0 1 r.1) }
     {
@@ -95,6 +100,7 @@ impl<P: Protocol> Domain<P> {
             protocol,
             shape,
             quotas: quotas.to_vec(alloc)?,
+            grants: grants.to_vec(alloc)?,
         };
         let (table, root) = Table::of_words(alloc, words.as_slice(), &charter)?;
         Ok((Domain { table, shape }, root))
@@ -136,7 +142,7 @@ impl<P: Protocol> Domain<P> {
         quotas: &[Quota],
     ) -> Result<Vec<Seat<P>>, OutOfMemory>
         requires root { IsFirst (P.first self.now.protocol) self.now 1 root.old }
-        requires quotas { quotas.now ≡ self.now.quotas }
+        requires quotas { quotas.now ≡ self.now.terms.quotas }
         ensures root { OnOk result
             (IsFirst (P.first self.now.protocol) self.now self.now.shape.seats root.new) }
         ensures others { IfOk result (λ others. others.items ≡ each_from 1
@@ -160,7 +166,7 @@ impl<P: Protocol> Domain<P> {
         quotas: &[Quota],
     ) -> Result<Vec<Seat<P>>, OutOfMemory>
         requires root { IsFirst (P.first self.now.protocol) self.now 1 root }
-        requires quotas { quotas.now ≡ self.now.quotas }
+        requires quotas { quotas.now ≡ self.now.terms.quotas }
         ensures { IfOk result (λ seats. seats.items
             ≡ opened_seats (P.first self.now.protocol) self.now) }
     {
@@ -172,10 +178,39 @@ impl<P: Protocol> Domain<P> {
     }
 }
 
-/// A domain in which nothing has happened, and its seats in order, one for each quota.
+/// A domain in which nothing has happened, and its seats in order, one for each quota. Who draws a ticket may make as
+/// many more objects as the grant of its number says.
 ///
-/// `BadShape` names the first field, in the order of `ShapeField`, that is out of its range. It takes all the memory
-/// that the domain ever needs.
+/// `BadShape` names the first field, in the order of `ShapeField`, that is out of its range; the grants are among the
+/// quotas. It takes all the memory that the domain ever needs.
+pub fn open_granted<P: Protocol + Drop>(
+    alloc: Global,
+    shape: Shape,
+    quotas: &[Quota],
+    grants: &[u64],
+    protocol: P,
+) -> Result<(Domain<P>, Vec<Seat<P>>), OpenError>
+    ensures domain { IfOk result (λ r. r.0 ≡ record {
+      table = r.0.table;
+      protocol = protocol;
+      shape = shape;
+      terms = record { quotas = quotas.now; grants = grants.now };
+    }) }
+    ensures seats { IfOk result (λ r. r.1.items ≡ opened_seats (P.first protocol) r.0) }
+    ensures ranges { OnOk result (IsShape shape
+        × AreTerms shape (record { quotas = quotas.now; grants = grants.now })) }
+    ensures bad { (f : ShapeField) → (result ≡ Err (BadShape f))
+        ↔ IsFirstBad shape (record { quotas = quotas.now; grants = grants.now }) f }
+{
+    if let Some(field) = first_bad(&shape, quotas, grants) {
+        return Err(OpenError::BadShape(field));
+    }
+    let (domain, root) = Domain::begin(alloc, shape, quotas, grants, protocol)?;
+    let seats = domain.open_seats(alloc, root, quotas)?;
+    Ok((domain, seats))
+}
+
+/// The same, where no ticket grants anything.
 pub fn open_domain<P: Protocol + Drop>(
     alloc: Global,
     shape: Shape,
@@ -186,16 +221,13 @@ pub fn open_domain<P: Protocol + Drop>(
       table = r.0.table;
       protocol = protocol;
       shape = shape;
-      quotas = quotas.now;
+      terms = record { quotas = quotas.now; grants = [] };
     }) }
     ensures seats { IfOk result (λ r. r.1.items ≡ opened_seats (P.first protocol) r.0) }
-    ensures ranges { OnOk result (IsShape shape × AreQuotas shape quotas.now) }
-    ensures bad { (f : ShapeField) → (result ≡ Err (BadShape f)) ↔ IsFirstBad shape quotas.now f }
+    ensures ranges { OnOk result (IsShape shape
+        × AreTerms shape (record { quotas = quotas.now; grants = [] })) }
+    ensures bad { (f : ShapeField) → (result ≡ Err (BadShape f))
+        ↔ IsFirstBad shape (record { quotas = quotas.now; grants = [] }) f }
 {
-    if let Some(field) = first_bad(&shape, quotas) {
-        return Err(OpenError::BadShape(field));
-    }
-    let (domain, root) = Domain::begin(alloc, shape, quotas, protocol)?;
-    let seats = domain.open_seats(alloc, root, quotas)?;
-    Ok((domain, seats))
+    open_granted(alloc, shape, quotas, &[], protocol)
 }

@@ -7,9 +7,12 @@ ghost use Rattle.acquire_retire.specs.Calls.{IsOf, IsReady, IsSameView, Steps, s
 
 use crate::domain::Domain;
 use crate::seat::Seat;
-use crate::splitting::split;
+use crate::splitting::{ripen, split};
 use core_events::{Act, EventPlace, Kind, Note, Outcome, Phase, SlotId};
-use core_parts::{announced_as, found_in, held_as, note_index, place_index};
+use core_parts::{
+    announced_as, counted, found_in, held_as, note_index, note_of, place_index, slot_in_note, slot_index,
+    validated,
+};
 use plain_protocol::{Deed, Protocol, Still};
 use std::marker::Brand;
 
@@ -18,8 +21,8 @@ impl<P: Protocol> Domain<P> {
     pub fn announce(&self, seat: &mut Seat<P>, note: u32, kind: Kind, slot: SlotId) -> Outcome
         requires seat { IsOf self.now seat.old }
         requires may { May self.now.shape (act.Announce note kind slot) seat.old.view.core }
-        ensures { Steps self.now same_view IsSameView (act.Announce note kind slot) seat.old
-            seat.new result }
+        ensures { Steps P.Kind.fits self.now same_view IsSameView (act.Announce note kind slot)
+            seat.old seat.new result }
     {
         let at = note_index(seat.number, note);
         let code = announced_as(kind, slot);
@@ -38,7 +41,8 @@ impl<P: Protocol> Domain<P> {
     pub fn release(&self, seat: &mut Seat<P>, note: u32) -> Outcome
         requires seat { IsOf self.now seat.old }
         requires may { May self.now.shape (act.Release note) seat.old.view.core }
-        ensures { Steps self.now same_view IsSameView (act.Release note) seat.old seat.new result }
+        ensures { Steps P.Kind.fits self.now same_view IsSameView (act.Release note)
+            seat.old seat.new result }
     {
         let at = note_index(seat.number, note);
         self.store_as::<Still, Brand>(&mut seat.seat, Act::Release(note), Still, at, 0);
@@ -52,7 +56,7 @@ impl<P: Protocol> Domain<P> {
         requires may { May self.now.shape (act.Look place) seat.old.view.core }
         requires deed { IsReady (D.ready deed self.now.protocol) self.now.shape (act.Look place)
             seat.old.view }
-        ensures { Steps self.now (D.next deed self.now.protocol)
+        ensures { Steps P.Kind.fits self.now (D.next deed self.now.protocol)
             (D.allows deed self.now.protocol) (act.Look place) seat.old seat.new result }
     {
         let at = place_index(&self.shape, place);
@@ -73,7 +77,7 @@ impl<P: Protocol> Domain<P> {
         requires may { May self.now.shape (act.Check note place) seat.old.view.core }
         requires deed { IsReady (D.ready deed self.now.protocol) self.now.shape
             (act.Check note place) seat.old.view }
-        ensures { Steps self.now (D.next deed self.now.protocol)
+        ensures { Steps P.Kind.fits self.now (D.next deed self.now.protocol)
             (D.allows deed self.now.protocol) (act.Check note place) seat.old seat.new result }
     {
         let at = place_index(&self.shape, place);
@@ -87,12 +91,34 @@ impl<P: Protocol> Domain<P> {
         Outcome::Moved(found_in(found))
     }
 
+    /// Reads the strong word of the slot that was announced for disposal: `Alive` where it counts references, and the seat
+    /// is under a weak snapshot of the slot then, else `Zeroed`.
+    pub fn alive<D: Deed<P>>(&self, seat: &mut Seat<P>, note: u32, deed: D) -> Outcome
+        requires seat { IsOf self.now seat.old }
+        requires may { May self.now.shape (act.Alive note) seat.old.view.core }
+        requires deed { IsReady (D.ready deed self.now.protocol) self.now.shape (act.Alive note)
+            seat.old.view }
+        ensures { Steps P.Kind.fits self.now (D.next deed self.now.protocol)
+            (D.allows deed self.now.protocol) (act.Alive note) seat.old seat.new result }
+    {
+        let announced = note_of(&seat.notes, note);
+        let word = slot_index(&self.shape, slot_in_note(announced));
+        let found = self.load_as::<D, Brand>(&mut seat.seat, Act::Alive(note), deed, word);
+        if counted(found) > 0 {
+            seat.notes[note as usize] = validated(announced);
+            return Outcome::Alive;
+        }
+        Outcome::Zeroed
+    }
+
     /// Reads the next announcement word of the domain. The last one splits the retired entries: of equal ones as many
-    /// stay as were announced, and the others become owed.
+    /// stay as were announced, and the others become owed; and the dying slots that no word announces for disposal
+    /// become ripe.
     pub fn scan(&self, seat: &mut Seat<P>) -> Outcome
         requires seat { IsOf self.now seat.old }
         requires may { May self.now.shape act.Scan seat.old.view.core }
-        ensures { Steps self.now same_view IsSameView act.Scan seat.old seat.new result }
+        ensures { Steps P.Kind.fits self.now same_view IsSameView act.Scan
+            seat.old seat.new result }
     {
         let at = 1 + seat.read as usize;
         let found = self.load_as::<Still, Brand>(&mut seat.seat, Act::Scan, Still, at);
@@ -103,6 +129,7 @@ impl<P: Protocol> Domain<P> {
             return Outcome::Word(found);
         }
         let (stay, go) = split(&mut seat.batch, &seat.seen);
+        ripen(&mut seat.ripe, &seat.dying, &seat.seen);
         seat.seen.clear();
         seat.read = 0;
         seat.phase = Phase::Idle;

@@ -18,7 +18,7 @@ pub(crate) struct Learns<P, B> {
 
 impl<P: Protocol, B: Site<P>> Play<(), SeatView<P::View>> for Learns<P, B> {
     ghost then = { λ s old w new. (d : DomainState P) → B.site ≡ Some d
-        → HasRead P.Kind.fits d.shape d.quotas s.word w old.0 new.0 × (new.1 ≡ old.1) };
+        → HasRead P.Kind.fits d.shape d.terms s.word w old.0 new.0 × (new.1 ≡ old.1) };
 }
 
 impl<P: Protocol> Domain<P> {
@@ -32,7 +32,7 @@ impl<P: Protocol> Domain<P> {
         requires here { seat.old.me.0.gone ≡ false }
         requires word { word < word_count self.now.shape }
         ensures table { seat.new.table_id ≡ seat.old.table_id }
-        ensures read { HasRead P.Kind.fits self.now.shape self.now.quotas word result
+        ensures read { HasRead P.Kind.fits self.now.shape self.now.terms word result
             seat.old.me.0 seat.new.me.0 }
         ensures carries { seat.new.me.1 ≡ seat.old.me.1 }
     {
@@ -49,7 +49,7 @@ impl<P: Protocol> Domain<P> {
         requires here { seat.old.me.0.gone ≡ false }
         requires word { word < word_count self.now.shape }
         ensures table { seat.new.table_id ≡ seat.old.table_id }
-        ensures read { HasRead P.Kind.fits self.now.shape self.now.quotas word result
+        ensures read { HasRead P.Kind.fits self.now.shape self.now.terms word result
             seat.old.me.0 seat.new.me.0 }
         ensures carries { seat.new.me.1 ≡ seat.old.me.1 }
     {

@@ -21,6 +21,8 @@ pub struct SeatOf<W> {
     /// How many words its scan has read.
     pub(crate) read: u32,
     pub(crate) dying: Vec<SlotId>,
+    /// Those of the dying slots that a whole scan found under no announcement.
+    pub(crate) ripe: Vec<SlotId>,
     /// At seat 0: how many seats have left.
     pub(crate) left: u32,
 }
@@ -46,8 +48,9 @@ impl<W> Model for SeatOf<W> {
       seen = s.seen.words;
       read = s.read;
       dying = s.dying.items;
+      ripe = s.ripe.items;
       left = s.left;
-    }) s.batch.room s.seen.room (vec_capacity s.dying) };
+    }) s.batch.room s.seen.room (vec_capacity s.dying) (vec_capacity s.ripe) };
 }
 
 /// A seat of a domain under the protocol P.

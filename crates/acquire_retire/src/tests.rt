@@ -29,8 +29,8 @@ const ONE_SEAT: Shape = Shape {
 };
 
 const WIDE: Quota = Quota {
-    makes: 100,
-    adds: 100,
+    makes: 1 << 40,
+    adds: 1 << 40,
 };
 
 /// Makes an act by the call of its name.
@@ -38,7 +38,7 @@ fn play(domain: &Domain<Records>, seat: &mut Seat<Records>, act: Act) -> Outcome
     requires seat { IsOf domain.now seat.old }
     requires may { May domain.now.shape act seat.old.view.core }
     requires played { IsPlayed act }
-    ensures { Steps domain.now same_view IsSameView act seat.old seat.new result }
+    ensures { Steps IsRecord domain.now same_view IsSameView act seat.old seat.new result }
 {
     match act {
         Act::Add(slot) => domain.add(seat, slot, AnyStep),
@@ -56,6 +56,9 @@ fn play(domain: &Domain<Records>, seat: &mut Seat<Records>, act: Act) -> Outcome
         Act::Swap(place, new) => domain.swap(seat, place, new, AnyStep),
         Act::Cas(place, old, new) => domain.cas(seat, place, old, new, AnyStep),
         Act::Claim(slot) => domain.claim(seat, slot),
+        Act::Arm => domain.arm(seat),
+        Act::Alive(note) => domain.alive(seat, note, AnyStep),
+        Act::Ticket => domain.ticket(seat, AnyStep),
         Act::Fill(index, word) => domain.fill(seat, index, word),
         Act::See(slot, index) => domain.see(seat, slot, index),
         Act::Free => domain.free(seat),
@@ -91,7 +94,7 @@ fn plays(domain: &Domain<Records>, seat: &mut Seat<Records>, script: &[(Act, Out
     true
 }
 
-/// Fills the slot that the seat has claimed.
+/// Fills the slot that the seat has claimed and armed.
 fn fill_all(domain: &Domain<Records>, seat: &mut Seat<Records>, slot: SlotId, payload: &[u64; 16])
     requires seat { IsOf domain.now seat.old }
     requires blank { seat.old.view.core.phase ≡ phase.Blank slot }
@@ -104,7 +107,7 @@ fn fill_all(domain: &Domain<Records>, seat: &mut Seat<Records>, slot: SlotId, pa
     }
 }
 
-/// Claims the slot, fills it with a record and makes it live, and tells whether each answers as it should.
+/// Claims the slot, arms it, fills it with a record and makes it live, and tells whether each answers as it should.
 fn make(
     domain: &Domain<Records>,
     seat: &mut Seat<Records>,
@@ -120,6 +123,7 @@ fn make(
     if !agrees(domain.claim(seat, slot), Outcome::Claimed) {
         return false;
     }
+    domain.arm(seat);
     fill_all(domain, seat, slot, payload);
     agrees(domain.start(seat, AnyStep), Outcome::Plain)
 }

@@ -63,7 +63,7 @@ fn one_seat_leaves_and_the_other_closes(rt: HostRuntime) -> Result<(), Fail> {
     for slot in &heap.slots {
         assert_eq!(rt;
             (slot.strong, slot.weak, slot.payload),
-            (ZERO, ZERO, [0; 16])
+            (ZERO, 0, [0; 16])
         );
     }
     domain.close(root);

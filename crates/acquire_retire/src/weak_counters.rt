@@ -1,13 +1,15 @@
-//! Calls on the weak words of slots. Each is one atomic step.
+//! Calls on the weak words of slots, and the one that gives a slot back. Each is one atomic step.
 ghost use Rattle.std.specs.Prelude.{◌≡◌};
 ghost use Rattle.core_events.specs.declared.act.Act.TheVariants as act;
 ghost use Rattle.core_events.specs.Steps.{May};
+ghost use Rattle.domain_rule.specs.Views.{HasCleared};
 ghost use Rattle.acquire_retire.specs.Calls.{IsOf, IsSameView, Steps, same_view};
 
 use crate::domain::Domain;
 use crate::seat::Seat;
+use crate::splitting::forget;
 use core_events::{Act, Kind, Outcome, Phase, SlotId};
-use core_parts::{ZERO_FLAG, counter_index, given_up, slot_in_phase};
+use core_parts::{bit_alone, bits_index, counter_index, given_up, slot_in_phase};
 use plain_protocol::{Protocol, Still};
 use std::marker::Brand;
 
@@ -16,10 +18,11 @@ impl<P: Protocol> Domain<P> {
     pub fn wadd(&self, seat: &mut Seat<P>, slot: SlotId) -> Outcome
         requires seat { IsOf self.now seat.old }
         requires may { May self.now.shape (act.Wadd slot) seat.old.view.core }
-        ensures { Steps self.now same_view IsSameView (act.Wadd slot) seat.old seat.new result }
+        ensures { Steps P.Kind.fits self.now same_view IsSameView (act.Wadd slot)
+            seat.old seat.new result }
     {
         let word = counter_index(&self.shape, Kind::Weak, slot);
-        self.fetch_add_as::<Still, Brand>(&mut seat.seat, Act::Wadd(slot), Still, word);
+        self.fetch_add_as::<Still, Brand>(&mut seat.seat, Act::Wadd(slot), Still, word, 1);
         seat.adds += 1;
         Outcome::Plain
     }
@@ -29,7 +32,8 @@ impl<P: Protocol> Domain<P> {
     pub fn wdrop(&self, seat: &mut Seat<P>, slot: SlotId) -> Outcome
         requires seat { IsOf self.now seat.old }
         requires may { May self.now.shape (act.Wdrop slot) seat.old.view.core }
-        ensures { Steps self.now same_view IsSameView (act.Wdrop slot) seat.old seat.new result }
+        ensures { Steps P.Kind.fits self.now same_view IsSameView (act.Wdrop slot)
+            seat.old seat.new result }
     {
         let word = counter_index(&self.shape, Kind::Weak, slot);
         let found = self.fetch_sub_as::<Still, Brand>(
@@ -47,22 +51,49 @@ impl<P: Protocol> Domain<P> {
     pub fn wcount(&self, seat: &mut Seat<P>, slot: SlotId) -> Outcome
         requires seat { IsOf self.now seat.old }
         requires may { May self.now.shape (act.Wcount slot) seat.old.view.core }
-        ensures { Steps self.now same_view IsSameView (act.Wcount slot) seat.old seat.new result }
+        ensures { Steps P.Kind.fits self.now same_view IsSameView (act.Wcount slot)
+            seat.old seat.new result }
     {
         let word = counter_index(&self.shape, Kind::Weak, slot);
         let found = self.load_as::<Still, Brand>(&mut seat.seat, Act::Wcount(slot), Still, word);
         Outcome::Word(found)
     }
 
-    /// Gives back the slot whose weak word the seat took to 0: it is free to be claimed then.
+    /// Gives up the own weak reference of a ripe slot, all of whose fields the seat itself has left null: `Last` where it
+    /// was the last one, and the seat is to give the slot back then.
+    pub fn destroy(&self, seat: &mut Seat<P>, slot: SlotId) -> Outcome
+        requires seat { IsOf self.now seat.old }
+        requires may { May self.now.shape (act.Destroy slot) seat.old.view.core }
+        requires cleared { HasCleared seat.old.view slot }
+        ensures { Steps P.Kind.fits self.now same_view IsSameView (act.Destroy slot)
+            seat.old seat.new result }
+    {
+        let word = counter_index(&self.shape, Kind::Weak, slot);
+        let found = self.fetch_sub_as::<Still, Brand>(
+            &mut seat.seat,
+            Act::Destroy(slot),
+            Still,
+            word,
+        );
+        forget(&mut seat.dying, slot);
+        forget(&mut seat.ripe, slot);
+        let (phase, outcome) = given_up(Kind::Weak, slot, found);
+        seat.phase = phase;
+        outcome
+    }
+
+    /// Gives back the slot whose weak word the seat took to 0: it sets the slot's bit, and the slot is free to be
+    /// claimed then.
     pub fn free(&self, seat: &mut Seat<P>) -> Outcome
         requires seat { IsOf self.now seat.old }
         requires may { May self.now.shape act.Free seat.old.view.core }
-        ensures { Steps self.now same_view IsSameView act.Free seat.old seat.new result }
+        ensures { Steps P.Kind.fits self.now same_view IsSameView act.Free
+            seat.old seat.new result }
     {
         let slot = slot_in_phase(seat.phase);
-        let word = counter_index(&self.shape, Kind::Weak, slot);
-        self.store_as::<Still, Brand>(&mut seat.seat, Act::Free, Still, word, ZERO_FLAG);
+        let word = bits_index(&self.shape, slot);
+        let bit = bit_alone(slot);
+        self.fetch_add_as::<Still, Brand>(&mut seat.seat, Act::Free, Still, word, bit);
         seat.phase = Phase::Idle;
         Outcome::Plain
     }

@@ -1,8 +1,14 @@
+use Rattle.std.proofs.Common.{refl}
 use Rattle.core_events.specs.declared.act.Act.TheVariants as act
-use Rattle.acquire_retire.proofs.Calls.{can_still}
+use Rattle.acquire_retire.proofs.Calls.{call_tells, can_still}
 use Rattle.acquire_retire.proofs.domain.Domain.announce.Goals as goal
 
 pub store_as-requires-clause-can : goal.store_as-requires-clause-can
 store_as-requires-clause-can g c =
     can_still c.args.self.now _ (act.Announce c.args.note c.args.kind c.args.slot) c.seat.inside.seat c.args.seat.now
     c.seat.view_is c.seat.invariant.seated c.requires.seat tt tt c.requires.may
+
+pub returns : goal.returns
+returns g c =
+    call_tells c.args.self.now _ _ (act.Announce c.args.note c.args.kind c.args.slot) c.seat.inside.seat c.store_as.new.seat c.store_as.ensures.0 c.store_as.ensures.1
+    c.args.seat.now c.seat.view_is _ refl

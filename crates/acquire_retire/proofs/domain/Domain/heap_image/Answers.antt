@@ -3,7 +3,7 @@ use Rattle.plain_state.specs.declared.act.EventPlace.TheVariants.{Cell, WeakCell
 use Rattle.plain_state.specs.Images.{image_at}
 use Rattle.plain_state.specs.State.{Plain}
 use Rattle.core_events.specs.declared.shape.Shape.{Shape}
-use Rattle.core_events.specs.Shows.{each_from}
+use Rattle.core_events.specs.Words.{each_from}
 use Rattle.core_events.specs.Words.{place_at}
 use Rattle.acquire_retire.specs.Domains.{DomainState}
 use Rattle.acquire_retire.specs.Wholes.{IsSame, known_core, known_word}

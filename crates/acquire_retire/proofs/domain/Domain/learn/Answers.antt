@@ -11,4 +11,4 @@ pub returns-clause-knows : goal.returns-clause-knows
 returns-clause-knows g c =
     let read = c.read-base.ensures in
     read_knows c.args.self.now g.P.Kind.PayloadKind.fits c.args.seat.now c.read-base.new.seat _ _
-    read.table read.read read.carries c.requires.knows c.requires.table c.requires.here
+    read.table read.read read.carries c.requires.knows c.requires.table c.requires.here c.requires.idle.0

@@ -18,7 +18,7 @@ returns-clause-image g c =
     let weak_field : c.known_word-5.result ≡ known_word seat (at + 4) = cc in
     let same : IsSame seat c.known_word-5.new.seat = (cc, cc) in
     read_image c.args.self.now.shape (known_core seat.me.0) c.requires.knows.sound c.args.slot
-    c.requires.slot at _ _ _ _ _ _
+    c.requires.slot (c.requires.knows.armed c.args.slot) at _ _ _ _ _ _
     (c.slot_index-at.ensures.at ∙ ap (λ (z : Shape). slot_at z c.args.slot.0) kept) strong weak
     first second weak_field (c.known_payload.ensures.words
     ∙ same_words seat c.known_word-5.new.seat same (at + 5) 16)

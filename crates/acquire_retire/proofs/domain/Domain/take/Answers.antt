@@ -3,7 +3,7 @@ use Rattle.core_events.specs.declared.act.Act.TheVariants as act
 use Rattle.core_events.specs.declared.view.Phase.TheVariants as phase
 use Rattle.core_events.specs.Steps.{ended}
 use Rattle.core_events.specs.Views.{slot_of}
-use Rattle.acquire_retire.proofs.Calls.{can_still}
+use Rattle.acquire_retire.proofs.Calls.{call_tells, can_still}
 use Rattle.acquire_retire.proofs.Dying.{room_to_end}
 use Rattle.acquire_retire.proofs.domain.Domain.take.Goals as goal
 
@@ -21,5 +21,15 @@ push_reserved-requires g c =
     (sym c.helps.ensures ∙ c.if-helps.true) in
     let room = room_to_end c.args.self.now _ c.self.view_is _ c.self.invariant _ _ act.Take
     c.seat.inside.seat c.fetch_and_as-found.new.seat _ c.fetch_and_as-found.ensures tt
-    can.shape _ _ _ _ c.seat.invariant (slot_of v.phase) longer in
+    can.shape _ _ _ _ _ c.seat.invariant (slot_of v.phase) longer in
     search rules
+
+pub returns-then-helps : goal.returns-then-helps
+returns-then-helps g c =
+    call_tells c.args.self.now _ _ act.Take c.seat.inside.seat c.fetch_and_as-found.new.seat c.fetch_and_as-found.result c.fetch_and_as-found.ensures
+    c.args.seat.now c.seat.view_is _ (search rules)
+
+pub returns : goal.returns
+returns g c =
+    call_tells c.args.self.now _ _ act.Take c.seat.inside.seat c.fetch_and_as-found.new.seat c.fetch_and_as-found.result c.fetch_and_as-found.ensures
+    c.args.seat.now c.seat.view_is _ (search rules)

@@ -1,0 +1,9 @@
+use Rattle.core_events.specs.declared.act.Act.TheVariants as act
+use Rattle.acquire_retire.proofs.Calls.{can_step}
+use Rattle.acquire_retire.proofs.domain.Domain.ticket.Goals as goal
+
+pub fetch_add_as-found-requires-clause-can : goal.fetch_add_as-found-requires-clause-can
+fetch_add_as-found-requires-clause-can g c =
+    can_step c.args.self.now _ _ act.Ticket c.seat.inside.seat c.args.seat.now
+    c.seat.view_is c.seat.invariant.seated c.requires.seat tt c.requires.may (λ e. absurd (cc (e)))
+    c.requires.deed

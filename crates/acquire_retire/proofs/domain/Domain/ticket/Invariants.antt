@@ -1,0 +1,6 @@
+use Rattle.std.specs.Prelude.{Some}
+use Rattle.acquire_retire.specs.Calls.{aimed}
+use Rattle.acquire_retire.proofs.domain.Domain.ticket.Given as goal
+
+abbrev pub ghosts-fetch_add_as : goal.ghosts-fetch_add_as
+ghosts-fetch_add_as g a = record { aim = Some (aimed a.self.now a.deed a.act) }

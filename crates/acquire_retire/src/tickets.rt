@@ -1,0 +1,29 @@
+//! The call on the word of tickets. It is one atomic step.
+ghost use Rattle.core_events.specs.declared.act.Act.TheVariants as act;
+ghost use Rattle.core_events.specs.Steps.{May};
+ghost use Rattle.acquire_retire.specs.Calls.{IsOf, IsReady, Steps};
+
+use crate::domain::Domain;
+use crate::seat::Seat;
+use core_events::{Act, Outcome};
+use core_parts::ticket_index;
+use plain_protocol::{Deed, Protocol};
+use std::marker::Brand;
+
+impl<P: Protocol> Domain<P> {
+    /// Draws the next ticket, and answers its number. It costs an add, and from then on the seat may make as many more
+    /// objects as the domain grants with that number.
+    pub fn ticket<D: Deed<P>>(&self, seat: &mut Seat<P>, deed: D) -> Outcome
+        requires seat { IsOf self.now seat.old }
+        requires may { May self.now.shape act.Ticket seat.old.view.core }
+        requires deed { IsReady (D.ready deed self.now.protocol) self.now.shape act.Ticket
+            seat.old.view }
+        ensures { Steps P.Kind.fits self.now (D.next deed self.now.protocol)
+            (D.allows deed self.now.protocol) act.Ticket seat.old seat.new result }
+    {
+        let word = ticket_index(&self.shape);
+        let found = self.fetch_add_as::<D, Brand>(&mut seat.seat, Act::Ticket, deed, word, 1);
+        seat.adds += 1;
+        Outcome::Number(found)
+    }
+}
