@@ -116,8 +116,11 @@ exchanged_kept a o Disposal (Some s) w v = refl
 
 module _ (z : Shape) (p : EventPlace) (old new : Option SlotId) (w : ℕ) (v : CoreView) where
   pub cas_done : w ≡ word_of old → kept (moved z (act.Cas p old new) w v)
-      ≡ (record (stored v) { retired = joined (place_kind p) (slot_in w) v.retired }, v.room,
-      v.grants)
+      ≡ (
+        record (stored v) { retired = joined (place_kind p) (slot_in w) v.retired },
+        v.room,
+        v.grants,
+      )
   cas_done is =
       let test : (w == word_of old) ≡ true = grind (arith, nat_tests) in
       rw test (exchanged_kept (act.Cas p old new) outcome.Done (place_kind p) new w v)

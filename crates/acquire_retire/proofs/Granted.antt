@@ -14,7 +14,7 @@ use Rattle.core_events.specs.declared.shape.Shape.{Shape}
 use Rattle.core_events.specs.declared.view.CoreView.{CoreView}
 use Rattle.core_events.specs.Views.{granted}
 use Rattle.core_events.specs.Runs.{Core, view_at}
-use Rattle.core_events.specs.Counts.{number_times, ticket_times, total, tickets_drawn}
+use Rattle.core_events.specs.Counts.{number_times, ticket_times, tickets_drawn}
 use Rattle.core_events.specs.Good.{TicketLaw}
 use Rattle.core_invariant.proofs.Kit.{total_at}
 use Rattle.core_invariant.proofs.Parts.{sound_good}

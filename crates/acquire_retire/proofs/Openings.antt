@@ -19,7 +19,6 @@ use Rattle.domain_rule.specs.declared.view.SeatView.{SeatView}
 use Rattle.domain_rule.specs.declared.view.Whole.{Whole}
 use Rattle.domain_rule.specs.Opening.{first_of, opened_more, opened_view}
 use Rattle.domain_rule.specs.Rule.{Kept}
-use Rattle.domain_rule.specs.Views.{quota_at}
 use Rattle.domain_rule.proofs.Opens.{opens}
 use Rattle.domain_rule.proofs.SeatLaws.{opened_law}
 use Rattle.domain_rule.proofs.Splits.{splits}

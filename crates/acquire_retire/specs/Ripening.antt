@@ -1,5 +1,5 @@
 -- Which dying slots a whole scan finds ripe, by how often each is announced.
-use Rattle.std.specs.Prelude.{ℕ, ◌==◌, ◌&&◌, ◌++◌, not, nat_lt, Bool, List}
+use Rattle.std.specs.Prelude.{◌==◌, ◌&&◌, ◌++◌, not, nat_lt, Bool, List}
 use Rattle.std.specs.List.{filter}
 use Rattle.plain_state.specs.declared.slot.Kind.TheVariants.{Disposal}
 use Rattle.plain_state.specs.declared.slot.SlotId.{SlotId}

@@ -24,7 +24,8 @@ pub(crate) struct Reads<P, D, B> {
 
 impl<P: Protocol, D: Deed<P>, B: Aim<P, D>> Play<(), SeatView<P::View>> for Reads<P, D, B> {
     ghost then = { λ _ old w new. (a : Aimed P D) → B.aim ≡ Some a
-        → Finds P.Kind.fits a.domain (D.next a.deed a.domain.protocol) (D.allows a.deed a.domain.protocol)
+        → Finds P.Kind.fits a.domain (D.next a.deed a.domain.protocol)
+        (D.allows a.deed a.domain.protocol)
         a.act old w new };
 }
 

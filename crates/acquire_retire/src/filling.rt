@@ -29,8 +29,13 @@ impl<P: Protocol> Domain<P> {
     {
         let word = bits_index(&self.shape, slot);
         let mask = !bit_alone(slot);
-        let found =
-            self.fetch_and_as::<Still, Brand>(&mut seat.seat, Act::Claim(slot), Still, word, mask);
+        let found = self.fetch_and_as::<Still, Brand>(
+            &mut seat.seat,
+            Act::Claim(slot),
+            Still,
+            word,
+            mask,
+        );
         if has_bit(found, slot) {
             seat.makes += 1;
             seat.phase = Phase::Bare(slot);

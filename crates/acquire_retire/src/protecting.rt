@@ -10,8 +10,8 @@ use crate::seat::Seat;
 use crate::splitting::{ripen, split};
 use core_events::{Act, EventPlace, Kind, Note, Outcome, Phase, SlotId};
 use core_parts::{
-    announced_as, counted, found_in, held_as, note_index, note_of, place_index, slot_in_note, slot_index,
-    validated,
+    announced_as, counted, found_in, held_as, note_index, note_of, place_index, slot_in_note,
+    slot_index, validated,
 };
 use plain_protocol::{Deed, Protocol, Still};
 use std::marker::Brand;

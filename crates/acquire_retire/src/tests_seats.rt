@@ -61,10 +61,7 @@ fn one_seat_leaves_and_the_other_closes(rt: HostRuntime) -> Result<(), Fail> {
         (2, 1, 3)
     );
     for slot in &heap.slots {
-        assert_eq!(rt;
-            (slot.strong, slot.weak, slot.payload),
-            (ZERO, 0, [0; 16])
-        );
+        assert_eq!(rt; (slot.strong, slot.weak, slot.payload), (ZERO, 0, [0; 16]));
     }
     domain.close(root);
     Ok(())

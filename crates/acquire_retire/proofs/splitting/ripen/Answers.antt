@@ -1,4 +1,4 @@
-use Rattle.std.proofs.Common.{◌≡◌, ◌<◌, length, vec_capacity, vec_len, rules, ap, ◌∙◌, arith}
+use Rattle.std.proofs.Common.{◌≡◌, ◌<◌, length, vec_capacity, vec_len, rules, ◌∙◌, arith}
 use Rattle.eject_scan.specs.Seen.{announced_in}
 use Rattle.acquire_retire.proofs.Ripens.{ripe_more, ripe_room, ripe_whole}
 use Rattle.acquire_retire.proofs.splitting.ripen.Goals as goal

@@ -25,8 +25,14 @@ invariant_of-seat-2 g c =
     let shape = c.self.invariant.same ∙ ap (λ (d : DomainState _). d.shape) c.self.view_is in
     let last = reads_last c.args.self.now.shape _ c.seat.inside.seat.me.0.core _ shape
     c.seat.invariant.stores c.if-seat-self.false in
-    rw (c.split-stay.ensures.batch, c.ripen.ensures.ripened, c.ripen.ensures.capacity,
-    c.deref.ensures.value, c.clear.ensures, c.note.ensures)
+    rw (
+      c.split-stay.ensures.batch,
+      c.ripen.ensures.ripened,
+      c.ripen.ensures.capacity,
+      c.deref.ensures.value,
+      c.clear.ensures,
+      c.note.ensures,
+    )
     (scan_ends c.args.self.now _ _ c.seat.inside.seat c.load_as-found.new.seat c.load_as-found.result
     c.load_as-found.ensures _ _ _ _ _ c.seat.invariant can.shape last)
 
