@@ -3,7 +3,7 @@
 use Rattle.std.proofs.Common.{◌≡◌, ℕ, List, [], ◌∷◌, inl, inr, refl, ap, sym, ◌∙◌, subst, arith}
 use Rattle.std.specs.Prelude.{Some, None}
 use Rattle.plain_state.specs.declared.act.EventPlace.TheVariants.{Cell}
-use Rattle.plain_state.specs.declared.slot.Kind.TheVariants.{Strong}
+use Rattle.plain_state.specs.declared.slot.Kind.TheVariants.{Strong, Disposal}
 use Rattle.plain_state.specs.Lists.{times, entry_times}
 use Rattle.core_events.specs.declared.act.Act.{Act}
 use Rattle.core_events.specs.declared.act.Act.TheVariants as act
@@ -168,10 +168,12 @@ pub may_copy : (z : Shape) → z ≡ one_seat → (old new : CoreView) → HasBe
 may_copy z same old new begun =
     may_begin one_seat two_copies copies_words copies_found z same old new begun
 
--- calls of one seat while its object lives, of which the last but one retires a reference
+-- calls of one seat while its object lives, under a weak snapshot at first, of which the last but one retires a reference
 abbrev live_calls : List (Act × Outcome)
 live_calls =
-    (act.Add slot0, outcome.Up) ∷ (act.Wadd slot0, outcome.Plain)
+    (act.Ticket, outcome.Number 0) ∷ (act.Announce 2 Disposal slot0, outcome.Plain)
+    ∷ (act.Alive 2, outcome.Alive) ∷ (act.Release 2, outcome.Plain)
+    ∷ (act.Add slot0, outcome.Up) ∷ (act.Wadd slot0, outcome.Plain)
     ∷ (act.Wcount slot0, outcome.Word 2) ∷ (act.Wdrop slot0, outcome.Left)
     ∷ (act.Count slot0, outcome.Number 2) ∷ (act.See slot0 0, outcome.Word 6)
     ∷ (act.Cas (Cell 0) None (Some slot0), outcome.Done)
@@ -181,41 +183,41 @@ live_calls =
     ∷ (act.Swap (Cell 0) None, outcome.Found (Some slot0)) ∷ (act.Drop slot0, outcome.Left) ∷ []
 
 abbrev call_words : List ℕ
-call_words = 1 ∷ 1 ∷ 2 ∷ 2 ∷ 2 ∷ 6 ∷ 0 ∷ 1 ∷ 1 ∷ 0 ∷ 4 ∷ 1 ∷ 2 ∷ []
+call_words = 0 ∷ 0 ∷ 1 ∷ 6 ∷ 1 ∷ 1 ∷ 2 ∷ 2 ∷ 2 ∷ 6 ∷ 0 ∷ 1 ∷ 1 ∷ 0 ∷ 4 ∷ 1 ∷ 2 ∷ []
 
 calls_found : (t : List Move) → MayFinding one_seat live_calls call_words (made_view one_seat t)
 unfolding times entry_times seen_times
 calls_found t = (
   tt,
-  ((refl, refl), omega arith, omega arith),
+  ((refl, refl), omega arith),
   refl,
   (
     tt,
-    ((refl, refl), omega arith, omega arith),
+    ((refl, refl), omega arith, refl, omega arith),
     refl,
     (
       tt,
-      ((refl, refl), omega arith),
+      ((refl, refl), omega arith, (slot0, refl, omega arith)),
       refl,
       (
         tt,
-        ((refl, refl), omega arith),
+        ((refl, refl), omega arith, λ e. absurd (cc (e))),
         refl,
         (
           tt,
-          ((refl, refl), omega arith),
+          ((refl, refl), omega arith, omega arith),
           refl,
           (
             tt,
-            ((refl, refl), inl (omega arith), omega arith),
+            ((refl, refl), omega arith, omega arith),
             refl,
             (
               tt,
-              ((refl, refl), omega arith, omega arith, omega arith, tt),
+              ((refl, refl), omega arith),
               refl,
               (
                 tt,
-                ((refl, refl), omega arith, omega arith, tt, tt),
+                ((refl, refl), omega arith),
                 refl,
                 (
                   tt,
@@ -223,21 +225,41 @@ calls_found t = (
                   refl,
                   (
                     tt,
-                    ((refl, refl), omega arith, refl, omega arith),
+                    ((refl, refl), inl (omega arith), omega arith),
                     refl,
                     (
                       tt,
-                      ((refl, refl), omega arith, λ e. absurd (cc (e))),
+                      ((refl, refl), omega arith, omega arith, omega arith, tt),
                       refl,
                       (
                         tt,
-                        ((refl, refl), omega arith, inl (omega arith, tt)),
+                        ((refl, refl), omega arith, omega arith, tt, tt),
                         refl,
                         (
                           tt,
                           ((refl, refl), omega arith),
                           refl,
-                          tt,
+                          (
+                            tt,
+                            ((refl, refl), omega arith, refl, omega arith),
+                            refl,
+                            (
+                              tt,
+                              ((refl, refl), omega arith, λ e. absurd (cc (e))),
+                              refl,
+                              (
+                                tt,
+                                ((refl, refl), omega arith, inl (omega arith, tt)),
+                                refl,
+                                (
+                                  tt,
+                                  ((refl, refl), omega arith),
+                                  refl,
+                                  tt,
+                                ),
+                              ),
+                            ),
+                          ),
                         ),
                       ),
                     ),

@@ -6,9 +6,9 @@
 //! told. So what `core_law` proves of all lists of events holds of every running domain, between any two steps of any
 //! threads, and so does the client's law.
 //!
-//! `open_domain`, or `open_granted` where tickets grant makes, takes the memory once: no step takes any, and none is refused. A seat that is done leaves, and seat 0
-//! takes over what it has; once every other seat has left, seat 0 can take an image of the whole state, and close the
-//! domain. Nothing is promised about which step comes next, nor when.
+//! `open_domain`, or `open_granted` where tickets grant makes, takes the memory once: no step takes any, and none is
+//! refused. A seat that is done leaves, and seat 0 takes over what it has; once every other seat has left, seat 0 can
+//! take an image of the whole state, and close the domain. Nothing is promised about which step comes next, nor when.
 //!
 //! ```text
 //! let (domain, seats) = open_domain(alloc, shape, &quotas, protocol)?;    // a seat for each quota

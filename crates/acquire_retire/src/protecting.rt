@@ -91,8 +91,8 @@ impl<P: Protocol> Domain<P> {
         Outcome::Moved(found_in(found))
     }
 
-    /// Reads the strong word of the slot that was announced for disposal: `Alive` where it counts references, and the seat
-    /// is under a weak snapshot of the slot then, else `Zeroed`.
+    /// Reads the strong word of the slot that was announced for disposal: `Alive` where it counts references, and the
+    /// seat is under a weak snapshot of the slot then, else `Zeroed`.
     pub fn alive<D: Deed<P>>(&self, seat: &mut Seat<P>, note: u32, deed: D) -> Outcome
         requires seat { IsOf self.now seat.old }
         requires may { May self.now.shape (act.Alive note) seat.old.view.core }

@@ -152,7 +152,11 @@ const TWO_COPIES: [(Act, Outcome); 12] = [
 
 /// Calls while an object lives. The reference that is retired is the last one once the others are given up, and a
 /// collect then ends the object.
-const LIVE_CALLS: [(Act, Outcome); 13] = [
+const LIVE_CALLS: [(Act, Outcome); 17] = [
+    (Act::Ticket, Outcome::Number(0)),
+    (Act::Announce(2, Kind::Disposal, SLOT), Outcome::Plain),
+    (Act::Alive(2), Outcome::Alive),
+    (Act::Release(2), Outcome::Plain),
     (Act::Add(SLOT), Outcome::Up),
     (Act::Wadd(SLOT), Outcome::Plain),
     (Act::Wcount(SLOT), Outcome::Word(2)),

@@ -59,8 +59,8 @@ impl<P: Protocol> Domain<P> {
         Outcome::Word(found)
     }
 
-    /// Gives up the own weak reference of a ripe slot, all of whose fields the seat itself has left null: `Last` where it
-    /// was the last one, and the seat is to give the slot back then.
+    /// Gives up the own weak reference of a ripe slot, all of whose fields the seat itself has left null: `Last` where
+    /// it was the last one, and the seat is to give the slot back then.
     pub fn destroy(&self, seat: &mut Seat<P>, slot: SlotId) -> Outcome
         requires seat { IsOf self.now seat.old }
         requires may { May self.now.shape (act.Destroy slot) seat.old.view.core }
