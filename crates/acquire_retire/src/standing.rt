@@ -2,11 +2,22 @@
 ghost use Rattle.std.specs.Prelude.{◌≡◌, ◌↔◌, ◌+◌, [], IfSome, IsNone, IsTrue, length, slice_index_or};
 ghost use Rattle.domain_rule.specs.Views.{IsAlone};
 ghost use Rattle.acquire_retire.specs.Calls.{IsOf};
+ghost use Rattle.acquire_retire.specs.Notes.{is_free, least_free};
 
 use crate::domain::Domain;
 use crate::seat::Seat;
-use core_events::{Shape, SlotId};
+use core_events::{Note, Shape, SlotId};
 use plain_protocol::Protocol;
+
+/// Whether a note stands for nothing.
+fn is_free(note: Note) -> bool
+    ensures { result ≡ is_free note }
+{
+    match note {
+        Note::Idle => true,
+        Note::Announced(_, _) | Note::Valid(_, _) => false,
+    }
+}
 
 impl<P: Protocol> Domain<P> {
     /// Whether the seat is seat 0, and every other one has left.
@@ -80,5 +91,21 @@ impl<P: Protocol> Domain<P> {
         ensures { result ≡ self.now.shape }
     {
         self.shape
+    }
+
+    /// The least of the announcement words 1 to 3 that stands for nothing.
+    pub fn free_note(&self, seat: &Seat<P>) -> Option<u32>
+        requires { IsOf self.now seat.now }
+        ensures { result ≡ least_free seat.now.view.core }
+    {
+        if is_free(seat.notes[1]) {
+            Some(1)
+        } else if is_free(seat.notes[2]) {
+            Some(2)
+        } else if is_free(seat.notes[3]) {
+            Some(3)
+        } else {
+            None
+        }
     }
 }
