@@ -1,11 +1,23 @@
-//! What a seat tells of itself, without a step.
-ghost use Rattle.std.specs.Prelude.{◌≡◌, ◌↔◌, ◌+◌, IsTrue, length};
+//! What a domain and its seats tell of themselves, without a step.
+ghost use Rattle.std.specs.Prelude.{◌≡◌, ◌↔◌, ◌+◌, [], IfSome, IsNone, IsTrue, length, slice_index_or};
 ghost use Rattle.domain_rule.specs.Views.{IsAlone};
 ghost use Rattle.acquire_retire.specs.Calls.{IsOf};
+ghost use Rattle.acquire_retire.specs.Notes.{is_free, least_free};
 
 use crate::domain::Domain;
 use crate::seat::Seat;
+use core_events::{Note, Shape, SlotId};
 use plain_protocol::Protocol;
+
+/// Whether a note stands for nothing.
+fn is_free(note: Note) -> bool
+    ensures { result ≡ is_free note }
+{
+    match note {
+        Note::Idle => true,
+        Note::Announced(_, _) | Note::Valid(_, _) => false,
+    }
+}
 
 impl<P: Protocol> Domain<P> {
     /// Whether the seat is seat 0, and every other one has left.
@@ -30,5 +42,70 @@ impl<P: Protocol> Domain<P> {
         ensures { result ≡ seat.now.view.core.makes }
     {
         seat.makes
+    }
+
+    /// How many adds the seat has left of its quota.
+    pub fn adds_left(&self, seat: &Seat<P>) -> u64
+        requires { IsOf self.now seat.now }
+        ensures { result + seat.now.view.core.adds ≡ seat.now.view.core.quota.adds }
+    {
+        seat.quota.adds - seat.adds
+    }
+
+    /// How many entries the seat has retired and neither paid for nor found to be owed.
+    pub fn deferred(&self, seat: &Seat<P>) -> u32
+        requires { IsOf self.now seat.now }
+        ensures { result ≡ length seat.now.view.core.retired }
+    {
+        seat.batch.len()
+    }
+
+    /// The slot that comes first of those that the seat has ended and not yet destroyed.
+    pub fn next_dying(&self, seat: &Seat<P>) -> Option<SlotId>
+        requires { IsOf self.now seat.now }
+        ensures none { IsNone result ↔ (seat.now.view.core.dying ≡ []) }
+        ensures first { IfSome result (λ s. s ≡ slice_index_or seat.now.view.core.dying 0 s) }
+    {
+        if seat.dying.is_empty() {
+            None
+        } else {
+            Some(seat.dying[0])
+        }
+    }
+
+    /// The slot that comes first of those that the seat may destroy once it has left their fields null.
+    pub fn next_ripe(&self, seat: &Seat<P>) -> Option<SlotId>
+        requires { IsOf self.now seat.now }
+        ensures none { IsNone result ↔ (seat.now.view.core.ripe ≡ []) }
+        ensures first { IfSome result (λ s. s ≡ slice_index_or seat.now.view.core.ripe 0 s) }
+    {
+        if seat.ripe.is_empty() {
+            None
+        } else {
+            Some(seat.ripe[0])
+        }
+    }
+
+    /// The sizes of the domain.
+    pub fn shape(&self) -> Shape
+        ensures { result ≡ self.now.shape }
+    {
+        self.shape
+    }
+
+    /// The least of the announcement words 1 to 3 that stands for nothing.
+    pub fn free_note(&self, seat: &Seat<P>) -> Option<u32>
+        requires { IsOf self.now seat.now }
+        ensures { result ≡ least_free seat.now.view.core }
+    {
+        if is_free(seat.notes[1]) {
+            Some(1)
+        } else if is_free(seat.notes[2]) {
+            Some(2)
+        } else if is_free(seat.notes[3]) {
+            Some(3)
+        } else {
+            None
+        }
     }
 }
