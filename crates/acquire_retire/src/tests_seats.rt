@@ -53,6 +53,18 @@ fn one_seat_leaves_and_the_other_closes(rt: HostRuntime) -> Result<(), Fail> {
     };
     assert!(rt; !domain.alone(&root));
     assert_eq!(rt; (domain.adds(&other), domain.makes(&other)), (0, 0));
+    assert_eq!(rt;
+        (domain.adds_left(&other), domain.deferred(&other)),
+        (1 << 40, 0)
+    );
+    assert_eq!(rt;
+        (domain.next_dying(&other), domain.next_ripe(&other)),
+        (None, None)
+    );
+    assert_eq!(rt;
+        (domain.free_note(&other), domain.shape()),
+        (Some(1), SMALL)
+    );
     domain.leave(&mut root, other);
     assert!(rt; domain.alone(&root));
     let heap = domain.image(rt.alloc(), &mut root)?;
