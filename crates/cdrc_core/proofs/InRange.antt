@@ -14,7 +14,7 @@ use Rattle.core_invariant.specs.Sound.{Sound}
 use Rattle.core_invariant.proofs.InRange.{content_in, open_in_range, place_in, put_in_range, readable_in_range}
 use Rattle.core_invariant.proofs.Steady.{named_in_range}
 use Rattle.cdrc_core.specs.Kept.{Kept}
-use Rattle.cdrc_core.proofs.Granted.{seat_granted}
+use Rattle.core_promises.proofs.Granted.{seat_granted}
 use Rattle.core_seats.specs.Fits.{IsFit, IsWordFor}
 
 module _ (z : Shape) (c : Core) (n : ℕ) (k : Kept z c) (there : n < length c.views) where

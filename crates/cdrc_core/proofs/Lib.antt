@@ -5,5 +5,4 @@ pub mod Replaying
 pub mod Starting
 pub mod Starts
 pub mod Stays
-pub mod Granted
 pub mod Grants

@@ -1,5 +1,5 @@
 //! Promises about histories, and about each event that is enabled where the invariant holds.
-ghost use Rattle.std.specs.Prelude.{ℕ, ◌≡◌, ◌<◌, List};
+ghost use Rattle.std.specs.Prelude.{ℕ, ◌≡◌, ◌<◌, ◌≤◌, List, length, sum};
 ghost use Rattle.plain_state.specs.Lawful.{Lawful};
 ghost use Rattle.plain_state.specs.declared.slot.SlotId.{SlotId};
 ghost use Rattle.core_events.specs.declared.act.Act.{Act};
@@ -8,7 +8,7 @@ ghost use Rattle.core_events.specs.declared.shape.Shape.{Shape};
 ghost use Rattle.core_events.specs.Runs.{AreEnabled, AreTerms, Core, Enabled, History, IsShape, found, moves_of, run, start, view_at};
 ghost use Rattle.core_events.specs.Shows.{shows};
 ghost use Rattle.core_events.specs.Steps.{answer};
-ghost use Rattle.core_events.specs.Views.{Terms};
+ghost use Rattle.core_events.specs.Views.{Terms, granted};
 ghost use Rattle.core_invariant.specs.Sound.{Sound};
 ghost use Rattle.core_shows.specs.Shown.{AllShow};
 ghost use Rattle.core_promises.specs.Finds.{DeferredFit, NeverWraps, TellsTruly};
@@ -57,6 +57,12 @@ pub fn trails_tell()
 /// What is deferred is bounded by the sizes of the domain.
 pub fn deferred_fit()
     ensures { (z : Shape) (c : Core) → Sound z c → DeferredFit z c }
+{}
+
+/// What the tickets of a seat grant together is at most what all grants make: no ticket grants twice.
+pub fn grants_fit()
+    ensures { (z : Shape) (c : Core) (n : ℕ) → Sound z c → n < length c.views
+        → granted (view_at c n).grants (view_at c n).tickets ≤ sum (view_at c n).grants }
 {}
 
 /// Over every history each object is destroyed at most once.

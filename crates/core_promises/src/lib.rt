@@ -12,6 +12,6 @@
 mod laws;
 
 pub use laws::{
-    always_lawful, always_shows, answers_tell_truly, deferred_fit, destroyed_once, history_lawful,
-    never_wraps, trails_tell,
+    always_lawful, always_shows, answers_tell_truly, deferred_fit, destroyed_once, grants_fit,
+    history_lawful, never_wraps, trails_tell,
 };
