@@ -24,7 +24,7 @@ abbrev pub slot0 : SlotId
 slot0 = record { 0 = 0 }
 
 -- the acts may be made in turn where they find these words
-abbrev MayFinding : Shape → List (Act × Outcome) → List ℕ → CoreView → Type 0
+abbrev pub MayFinding : Shape → List (Act × Outcome) → List ℕ → CoreView → Type 0
 MayFinding z [] ws v = Unit {0}
 MayFinding z (m ∷ ms) [] v = ⊥
 MayFinding z (m ∷ ms) (w ∷ ws) v =
@@ -32,7 +32,7 @@ MayFinding z (m ∷ ms) (w ∷ ws) v =
     × MayFinding z ms ws (moved z m.0 w v)
 
 -- the view after them
-abbrev finding : Shape → List (Act × Outcome) → List ℕ → CoreView → CoreView
+abbrev pub finding : Shape → List (Act × Outcome) → List ℕ → CoreView → CoreView
 finding z [] ws v = v
 finding z (m ∷ ms) [] v = v
 finding z (m ∷ ms) (w ∷ ws) v = finding z ms ws (moved z m.0 w v)
@@ -63,7 +63,7 @@ module _ (z : Shape) (old new : CoreView) (t : List Move) where
   abbrev pub HasBegun : Type 0
   HasBegun = (old ≡ first_view z 0 wide []) × (new ≡ record (with_made slot0 old) { trail = t })
 
-abbrev made_view : Shape → List Move → CoreView
+abbrev pub made_view : Shape → List Move → CoreView
 made_view z t = record (with_made slot0 (first_view z 0 wide [])) { trail = t }
 
 begun_view : (z y : Shape) → z ≡ y → (old new : CoreView) (t : List Move)
@@ -75,12 +75,12 @@ begun_view z y same old new t begun =
 module _ (y : Shape) (ms : List (Act × Outcome)) (ws : List ℕ)
     (may : (t : List Move) → MayFinding y ms ws (made_view y t)) (z : Shape) (same : z ≡ y)
     (old new : CoreView) (begun : HasBegun z old new new.trail) where
-  may_begin : MayPlay z ms new
+  pub may_begin : MayPlay z ms new
   may_begin = subst (λ (x : Shape × CoreView). MayPlay x.0 ms x.1)
       (λ i. (sym same i, sym (begun_view z y same old new new.trail begun) i))
       (may_play y ms ws (made_view y new.trail) (may new.trail))
 
-  ends_with : (u : CoreView) → Plays z ms new u → u ≡ finding y ms ws (made_view y new.trail)
+  pub ends_with : (u : CoreView) → Plays z ms new u → u ≡ finding y ms ws (made_view y new.trail)
   ends_with u plays = plays_to y ms ws (made_view y new.trail) u (may new.trail)
       (subst (λ (x : Shape × CoreView). Plays x.0 ms x.1 u)
       (λ i. (same i, begun_view z y same old new new.trail begun i)) plays)

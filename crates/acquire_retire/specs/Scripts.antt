@@ -1,5 +1,7 @@
 -- Acts that a seat makes in turn, each with the answer that is expected, for tests.
-use Rattle.std.specs.Prelude.{ℕ, ◌≡◌, ◌+◌, ◌^◌, ◌<◌, List, [], ◌∷◌, ◌++◌, length, slice_index}
+use Rattle.std.specs.Prelude.{ℕ, ◌≡◌, ◌+◌, ◌^◌, ◌<◌, ◌≤◌, List, [], ◌∷◌, ◌++◌, length, slice_index, None}
+use Rattle.plain_state.specs.declared.act.EventPlace.TheVariants.{Field, WeakField}
+use Rattle.plain_state.specs.declared.slot.Kind.TheVariants.{Weak}
 use Rattle.plain_state.specs.declared.slot.SlotId.{SlotId}
 use Rattle.core_events.specs.declared.act.Act.{Act}
 use Rattle.core_events.specs.declared.act.Act.TheVariants as act
@@ -7,7 +9,7 @@ use Rattle.core_events.specs.declared.outcome.Outcome.{Outcome}
 use Rattle.core_events.specs.declared.shape.Shape.{Shape}
 use Rattle.core_events.specs.declared.view.CoreView.{CoreView}
 use Rattle.core_events.specs.declared.view.Phase.TheVariants as phase
-use Rattle.core_events.specs.Steps.{May, answer, moved}
+use Rattle.core_events.specs.Steps.{May, answer, decremented, moved}
 use Rattle.core_events.specs.Views.{first_view}
 use Rattle.core_events.specs.declared.shape.Quota.{Quota}
 use Rattle.domain_rule.specs.Views.{object_in}
@@ -33,6 +35,22 @@ abbrev pub Plays : Shape → List (Act × Outcome) → CoreView → CoreView →
 Plays z [] v u = u ≡ v
 Plays z (m ∷ ms) v u =
     (w : ℕ) × (answer z m.0 w v ≡ m.1) × Plays z ms (moved z m.0 w v) u
+
+-- the view of a seat that has left the three fields of a slot null, in which it found these words
+abbrev pub cleared_view : Shape → SlotId → ℕ → ℕ → ℕ → CoreView → CoreView
+cleared_view z s a b c v =
+    moved z (act.Swap (WeakField s) None) c
+    (moved z (act.Swap (Field s 1) None) b (moved z (act.Swap (Field s 0) None) a v))
+
+-- the seat has left the fields of the slot null, and destroyed it, with this answer
+abbrev pub Destroys : Shape → SlotId → CoreView → CoreView → Outcome → Type 0
+Destroys z s v u o =
+    (a b c w : ℕ)
+    × (u ≡ moved z (act.Destroy s) w (cleared_view z s a b c v)) × (o ≡ decremented Weak w)
+
+-- there is room for three entries more
+abbrev pub HasRoomForFields : CoreView → Type 0
+HasRoomForFields v = length v.retired + length v.owed + 3 ≤ v.room
 
 -- what a seat has once it has made the slot live, but for its trail
 abbrev pub with_made : SlotId → CoreView → CoreView

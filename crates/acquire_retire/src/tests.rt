@@ -1,12 +1,13 @@
 //! The calls of one seat by a list of acts, each with the answer that is expected, and shapes that are refused.
-ghost use Rattle.std.specs.Prelude.{◌≡◌, IfOk, IsTrue, length};
+ghost use Rattle.std.specs.Prelude.{◌≡◌, ◌<◌, IfOk, IsTrue, length};
 ghost use Rattle.core_events.specs.declared.act.Act.TheVariants as act;
 ghost use Rattle.core_events.specs.declared.view.Phase.TheVariants as phase;
-ghost use Rattle.core_events.specs.Steps.{May};
+ghost use Rattle.core_events.specs.Steps.{IsIdle, May};
+ghost use Rattle.plain_state.specs.Lists.{times};
 ghost use Rattle.plain_state.specs.Records.{IsRecord};
 ghost use Rattle.domain_rule.specs.Views.{object_in};
 ghost use Rattle.acquire_retire.specs.Calls.{IsOf, IsSameView, Steps, same_view};
-ghost use Rattle.acquire_retire.specs.Scripts.{Fills, HasMade, IsFresh, IsPlayed, MayPlay, Plays, one_seat};
+ghost use Rattle.acquire_retire.specs.Scripts.{Destroys, Fills, HasMade, HasRoomForFields, IsFresh, IsPlayed, MayPlay, Plays, one_seat};
 
 use crate::{Domain, OpenError, Seat, Work, open_domain};
 use core_events::{Act, EventPlace, Kind, Outcome, Quota, Shape, ShapeField, SlotId};
@@ -172,6 +173,38 @@ const LIVE_CALLS: [(Act, Outcome); 17] = [
     (Act::Drop(SLOT), Outcome::Left),
 ];
 
+/// The object is given up and ended, and a scan finds no announcement of it.
+const ENDED: [(Act, Outcome); 6] = [
+    (Act::Drop(SLOT), Outcome::Zeroed),
+    (Act::Finish, Outcome::Ended),
+    (Act::Scan, Outcome::Word(0)),
+    (Act::Scan, Outcome::Word(0)),
+    (Act::Scan, Outcome::Word(0)),
+    (Act::Scan, Outcome::Split(0, 0, 0)),
+];
+
+/// Its slot is given back, and claimed again.
+const GIVEN_AGAIN: [(Act, Outcome); 2] = [
+    (Act::Free, Outcome::Plain),
+    (Act::Claim(SLOT), Outcome::Claimed),
+];
+
+/// Leaves the fields of a ripe slot null, and destroys it.
+fn destroy(domain: &Domain<Records>, seat: &mut Seat<Records>, slot: SlotId) -> Outcome
+    requires seat { IsOf domain.now seat.old }
+    requires idle { IsIdle seat.old.view.core }
+    requires ripe { 0 < times slot seat.old.view.core.ripe }
+    requires room { HasRoomForFields seat.old.view.core }
+    ensures seat { IsOf domain.now seat.new }
+    ensures destroys { Destroys domain.now.shape slot seat.old.view.core
+        seat.new.view.core result }
+{
+    domain.swap(seat, EventPlace::Field(slot, 0), None, AnyStep);
+    domain.swap(seat, EventPlace::Field(slot, 1), None, AnyStep);
+    domain.swap(seat, EventPlace::WeakField(slot), None, AnyStep);
+    domain.destroy(seat, slot)
+}
+
 /// A domain of one seat, and that seat.
 fn open_alone(rt: &HostRuntime) -> Result<(Domain<Records>, Seat<Records>), OpenError>
     ensures { IfOk result (λ r. IsFresh r.0 0 r.1 × (r.0.shape ≡ one_seat)) }
@@ -201,6 +234,17 @@ fn calls_while_an_object_lives(rt: HostRuntime) -> Result<(), Fail> {
         ended: 1,
     };
     assert_eq!(rt; domain.collect(&mut seat), work);
+    Ok(())
+}
+
+#[test]
+fn a_slot_is_destroyed_and_claimed_again(rt: HostRuntime) -> Result<(), Fail> {
+    let (domain, mut seat) = open_alone(&rt)?;
+    let payload = record_of(b"a text");
+    assert!(rt; make(&domain, &mut seat, SLOT, &payload));
+    assert!(rt; plays(&domain, &mut seat, &ENDED));
+    assert!(rt; agrees(destroy(&domain, &mut seat, SLOT), Outcome::Last));
+    assert!(rt; plays(&domain, &mut seat, &GIVEN_AGAIN));
     Ok(())
 }
 
