@@ -1,30 +1,40 @@
-# `make run` builds the program and prints the report of the sample file, `make script` and `make steps` what the sample
-# script and the sample steps write; `make test` is the merge gate.
+# `make help` says what each target does.
 PREFIX ?= /usr/local
 PROGRAM := crates/cdrc_words/out/cdrc_words
 SOURCES := crates.txt $(shell find crates -name out -prune -o \( -name '*.rt' -o -name '*.antt' \) -print)
+TRY := cd crates/cdrc_words && echo 'nothing is proved here: make test proves everything' >&2 && rt try --
 
-.PHONY: run script steps test install clean
+.PHONY: help run script steps picture docs test install clean
 
-run:
-	@cd crates/cdrc_words && rt run -- words data/sample.txt
+help: ## says what each target does
+	@sed -n 's/^\([a-z]*\):.*## /make \1\t/p' Makefile | expand -t 16
 
-script:
-	@cd crates/cdrc_words && rt run -- script data/sample.script
+run: ## compiles the program, and prints the report of the sample file: half a minute, no proof
+	@$(TRY) words data/sample.txt
 
-steps:
-	@cd crates/cdrc_words && rt run -- steps data/sample.steps
+script: ## the same with the sample script
+	@$(TRY) script data/sample.script
 
-test:
+steps: ## the same with the sample list of steps
+	@$(TRY) steps data/sample.steps
+
+picture: ## draws docs/late_finish.svg anew out of docs/late_finish.steps
+	python3 tools/picture.py docs/late_finish.steps docs/late_finish.svg
+
+docs: ## checks the documents' links, names of proved functions, and printed outputs: a minute, no proof
+	python3 tools/check_docs.py
+
+test: ## make docs, and then the merge gate, rt ci: every proof, must-fail edit, program and test
+	python3 tools/check_docs.py
 	rt ci
+
+install: $(PROGRAM) ## proves and builds the program, and copies it to PREFIX/bin, /usr/local/bin where PREFIX isn't given
+	install -d $(DESTDIR)$(PREFIX)/bin
+	install -m 755 $(PROGRAM) $(DESTDIR)$(PREFIX)/bin/cdrc_words
 
 # a program that is older than a source is built again
 $(PROGRAM): $(SOURCES)
 	cd crates/cdrc_words && rt run -- words data/sample.txt > /dev/null
 
-install: $(PROGRAM)
-	install -d $(DESTDIR)$(PREFIX)/bin
-	install -m 755 $(PROGRAM) $(DESTDIR)$(PREFIX)/bin/cdrc_words
-
-clean:
+clean: ## removes what was built and kept
 	rm -rf crates/*/out

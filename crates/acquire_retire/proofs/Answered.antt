@@ -17,8 +17,9 @@ use Rattle.core_events.specs.declared.shape.Shape.{Shape}
 use Rattle.core_events.specs.declared.view.CoreView.{CoreView}
 use Rattle.core_events.specs.declared.view.Phase.TheVariants as phase
 use Rattle.core_events.specs.Steps.{answer, changed, decremented, ended, exchanged, given_up, is_last, is_valid, moved, noted, paid, paid_outcome, scanned, validated, with_note, without_given}
-use Rattle.core_events.specs.Views.{note_of, slot_of, without}
-use Rattle.core_events.specs.Words.{ZERO, bit_in, has_help, slot_in, value}
+use Rattle.core_events.specs.Views.{about, note_of, slot_of, without}
+use Rattle.core_events.specs.Words.{bit_in, slot_in}
+use Rattle.counter_word.specs.Words.{ZERO, has_help, value}
 
 -- two tests with one answer, where the answers of a test differ
 one_test : (b c : Bool) (x x' y y' : Outcome) → x ≢ y' → x' ≢ y
@@ -46,11 +47,11 @@ paid_same [] w x v same = refl
 paid_same (e ∷ es) w x v same = given_same e.0 e.1 w x (record v { owed = es }) same
 
 -- a finish: whether it ended the object, and else whether the help flag stood
-finish_same : (b c h g : Bool) (s : SlotId) (v : CoreView)
+finish_same : (b c h g : Bool) (s : Option SlotId) (v : CoreView)
     → (if b then outcome.Ended else if h then outcome.Help else outcome.Lost)
     ≡ (if c then outcome.Ended else if g then outcome.Help else outcome.Lost)
-    → ended b s (if h then phase.Help s else phase.Idle) v
-    ≡ ended c s (if g then phase.Help s else phase.Idle) v
+    → ended b s (if h then about phase.Help s else phase.Idle) v
+    ≡ ended c s (if g then about phase.Help s else phase.Idle) v
 finish_same true true h g s v same = refl
 finish_same true false h true s v same = absurd (cc (same))
 finish_same true false h false s v same = absurd (cc (same))

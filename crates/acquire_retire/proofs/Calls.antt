@@ -1,5 +1,5 @@
 -- What a call of a seat makes of the seat, from the atomic step that it makes.
-use Rattle.std.proofs.Common.{◌≡◌, ℕ, ◌*◌, ◌^◌, ◌≤◌, Bool, true, false, List, [], ◌∷◌, sum, refl, ap, sym, ◌∙◌, subst, arith}
+use Rattle.std.proofs.Common.{◌≡◌, ℕ, ◌*◌, ◌≤◌, Bool, true, false, List, [], ◌∷◌, refl, ap, sym, ◌∙◌, subst, arith}
 use Rattle.std.specs.Prelude.{◌==◌, if◌then◌else◌, Option, Some, None}
 use Rattle.std.proofs.lemmas.Bool.Decides.{nat_tests}
 use Rattle.atomic_table.specs.declared.shared.Seat.{Seat as TableSeat}
@@ -23,10 +23,11 @@ use Rattle.core_events.specs.declared.shape.Shape.{Shape}
 use Rattle.core_events.specs.declared.view.CoreView.{CoreView}
 use Rattle.core_events.specs.declared.view.Note.{Note}
 use Rattle.core_events.specs.declared.view.Note.TheVariants as note
-use Rattle.core_events.specs.ShownSteps.{ejects, releases, shown_act}
+use Rattle.core_events.specs.ShownSteps.{ejects, on_slot, releases, shown_act}
 use Rattle.core_events.specs.Steps.{May, answer, exchanged, is_last, moved, noted}
 use Rattle.core_events.specs.Views.{note_of, room_of, slot_of}
-use Rattle.core_events.specs.Words.{bit_in, has_help, slot_in}
+use Rattle.core_events.specs.Words.{bit_in, slot_in}
+use Rattle.counter_word.specs.Words.{has_help}
 use Rattle.domain_rule.specs.declared.view.SeatView.{SeatView}
 use Rattle.domain_rule.specs.Told.{FitsStart, IsOwn}
 use Rattle.acquire_retire.specs.Calls.{CanStep, IsOf, IsReady, Stepped, Steps}
@@ -34,8 +35,8 @@ use Rattle.acquire_retire.specs.Domains.{DomainState}
 use Rattle.acquire_retire.specs.Seats.{HasRooms, IsSeat, IsSeated, SeatState, Stored, stored}
 
 -- what a seat stores of a view, and the room that the view asks for
-abbrev pub kept : CoreView → Stored × ℕ × List ℕ
-kept v = (stored v, v.room, v.grants)
+abbrev pub kept : CoreView → Stored × ℕ
+kept v = (stored v, v.room)
 
 -- what clauses see of the seat of a table
 abbrev pub value_of : {V : Type 0} → TableSeat (Unit {0}) (SeatView V) → SeatState V
@@ -82,18 +83,17 @@ module _ {P V : Type 0} (d : DomainState P) where
     pub seat_after : (f : Stored → Stored) (s : Stored) (batch_room seen_room dying_room ripe_room : ℕ)
         → old.me.0.core.shape ≡ d.shape → s ≡ stored old.me.0.core
         → HasRooms old.me.0.core batch_room seen_room dying_room ripe_room
-        → kept (moved d.shape a w old.me.0.core) ≡ (f (stored old.me.0.core), old.me.0.core.room, old.me.0.core.grants)
+        → kept (moved d.shape a w old.me.0.core) ≡ (f (stored old.me.0.core), old.me.0.core.room)
         → IsSeat new.me (f s) batch_room seen_room dying_room ripe_room
     seat_after f s batch_room seen_room dying_room ripe_room same stores rooms goes =
         let after = ap kept step.told.core ∙ goes in
         let shape = step.told.law.same_shape ∙ sym same in
         let seats = ap (λ (z : Shape). z.seats) shape in
         let slots = ap (λ (z : Shape). z.slots) shape in
-        let grants = ap (λ (k : Stored × ℕ × List ℕ). k.2) after in
-        let room = ap (λ (k : Stored × ℕ × List ℕ). k.1) after in
+        let room = ap (λ (k : Stored × ℕ). k.1) after in
         record {
           seated = step.seated;
-          stores = ap f stores ∙ sym (ap (λ (k : Stored × ℕ × List ℕ). k.0) after);
+          stores = ap f stores ∙ sym (ap (λ (k : Stored × ℕ). k.0) after);
           rooms = record {
             batch = omega (arith, rooms.batch);
             root = λ first. subst (λ (z : Shape). z.seats * room_of z ≤ batch_room) (sym shape)
@@ -101,14 +101,13 @@ module _ {P V : Type 0} (d : DomainState P) where
             seen = omega (arith, rooms.seen);
             dying = omega (arith, rooms.dying);
             ripe = omega (arith, rooms.ripe);
-            grants = subst (λ (gs : List ℕ). sum gs ≤ 2 ^ 40) (sym grants) rooms.grants;
           };
         }
 
 -- what a seat stores where a place of kind k gave it up what it held
 exchanged_kept : (a : Act) (o : Outcome) (k : Kind) (new : Option SlotId) (w : ℕ) (v : CoreView)
     → kept (noted a o (exchanged k new w v))
-    ≡ (record (stored v) { retired = joined k (slot_in w) v.retired }, v.room, v.grants)
+    ≡ (record (stored v) { retired = joined k (slot_in w) v.retired }, v.room)
 exchanged_kept a o k None w v = refl
 exchanged_kept a o Strong (Some s) w v = refl
 exchanged_kept a o Weak (Some s) w v = refl
@@ -119,14 +118,13 @@ module _ (z : Shape) (p : EventPlace) (old new : Option SlotId) (w : ℕ) (v : C
       ≡ (
         record (stored v) { retired = joined (place_kind p) (slot_in w) v.retired },
         v.room,
-        v.grants,
       )
   cas_done is =
       let test : (w == word_of old) ≡ true = grind (arith, nat_tests) in
       rw test (exchanged_kept (act.Cas p old new) outcome.Done (place_kind p) new w v)
 
   pub cas_lost : (w ≡ word_of old → ⊥)
-      → kept (moved z (act.Cas p old new) w v) ≡ (stored v, v.room, v.grants)
+      → kept (moved z (act.Cas p old new) w v) ≡ (stored v, v.room)
   cas_lost lost =
       let test : (w == word_of old) ≡ false = grind (arith, nat_tests) in rw test refl
 
@@ -139,6 +137,16 @@ IsQuiet act.Ticket = ⊥
 IsQuiet (act.Leave j) = ⊥
 IsQuiet a = Unit {0}
 
+on_slot_calm : (f : SlotId → PlainAct) (o : Option SlotId) → ((s : SlotId) → IsCalm (f s))
+    → IsCalm (on_slot f o)
+on_slot_calm f None calm = tt
+on_slot_calm f (Some s) calm = calm s
+
+ends_calm : (b : Bool) (o : Option SlotId)
+    → IsCalm (if b then on_slot plain.End o else plain.Still)
+ends_calm true o = on_slot_calm plain.End o (λ s. tt)
+ends_calm false o = tt
+
 -- they need no deed
 quiet_calm : (z : Shape) (a : Act) (w : ℕ) (v : CoreView) → IsQuiet a → IsCalm (shown_act z a w v)
 quiet_calm z (act.Add s) w v quiet = tt
@@ -148,18 +156,10 @@ quiet_calm z act.Pay w v quiet = paying v.owed
     paying : (es : List Entry) → IsCalm (ejects es)
     paying [] = tt
     paying (e ∷ es) = tt
-quiet_calm z act.Finish w v quiet = ends (w == 0)
-  where
-    ends : (b : Bool) → IsCalm (if b then plain.End (slot_of v.phase) else plain.Still)
-    ends true = tt
-    ends false = tt
-quiet_calm z act.Take w v quiet = ends (has_help w)
-  where
-    ends : (b : Bool) → IsCalm (if b then plain.End (slot_of v.phase) else plain.Still)
-    ends true = tt
-    ends false = tt
+quiet_calm z act.Finish w v quiet = ends_calm (w == 0) (slot_of v.phase)
+quiet_calm z act.Take w v quiet = ends_calm (has_help w) (slot_of v.phase)
 quiet_calm z (act.Count s) w v quiet = tt
-quiet_calm z act.Mark w v quiet = tt
+quiet_calm z act.Mark w v quiet = on_slot_calm plain.Mark (slot_of v.phase) (λ s. tt)
 quiet_calm z (act.Announce j k s) w v quiet = tt
 quiet_calm z (act.Release j) w v quiet = ended (note_of v j)
   where
@@ -183,10 +183,11 @@ quiet_calm z (act.Claim s) w v quiet = claims (bit_in s w == 1)
     claims true = tt
     claims false = tt
 quiet_calm z act.Arm w v quiet = tt
-quiet_calm z (act.Fill i x) w v quiet = tt
+quiet_calm z (act.Fill i x) w v quiet =
+    on_slot_calm (λ (s : SlotId). plain.Fill s i x) (slot_of v.phase) (λ s. tt)
 quiet_calm z act.Start w v quiet = absurd quiet
 quiet_calm z (act.See s i) w v quiet = tt
-quiet_calm z act.Free w v quiet = tt
+quiet_calm z act.Free w v quiet = on_slot_calm plain.Give (slot_of v.phase) (λ s. tt)
 quiet_calm z act.Ticket w v quiet = absurd quiet
 quiet_calm z (act.Wadd s) w v quiet = tt
 quiet_calm z (act.Wdrop s) w v quiet = tt

@@ -1,6 +1,6 @@
 -- The steps of a collect: what each leaves, and how moves follow one another.
 use Rattle.std.proofs.Common.{◌≡◌, ℕ, Bool, true, false, List, [], ◌∷◌, ◌++◌, refl, ap, ◌∙◌, subst}
-use Rattle.std.specs.Prelude.{◌==◌, if◌then◌else◌}
+use Rattle.std.specs.Prelude.{Option, ◌==◌, if◌then◌else◌}
 use Rattle.plain_state.specs.declared.slot.Kind.TheVariants.{Strong, Weak, Disposal}
 use Rattle.plain_state.specs.declared.slot.SlotId.{SlotId}
 use Rattle.plain_state.specs.Lists.{Entry}
@@ -14,7 +14,7 @@ use Rattle.core_events.specs.declared.view.Phase.{Phase}
 use Rattle.core_events.specs.declared.view.Phase.TheVariants as phase
 use Rattle.core_events.specs.Steps.{IsIdle, changed, ended, is_last, paid}
 use Rattle.core_events.specs.Views.{slot_of}
-use Rattle.core_events.specs.Words.{has_help}
+use Rattle.counter_word.specs.Words.{has_help}
 use Rattle.acquire_retire.specs.Calls.{IsOf, IsSameView, Steps, same_view}
 use Rattle.acquire_retire.specs.Collecting.{Goes, Walks, move, rest_of}
 use Rattle.acquire_retire.specs.Domains.{DomainState}
@@ -40,7 +40,7 @@ paid_rest w ((Strong, s) ∷ es) v = refl
 paid_rest w ((Weak, s) ∷ es) v = refl
 paid_rest w ((Disposal, s) ∷ es) v = refl
 
-ended_rest : (b : Bool) (s : SlotId) (p : Phase) (v : CoreView)
+ended_rest : (b : Bool) (s : Option SlotId) (p : Phase) (v : CoreView)
     → rest_of (ended b s p v) ≡ rest_of v
 ended_rest true s p v = refl
 ended_rest false s p v = refl

@@ -20,14 +20,14 @@ use Rattle.core_invariant.proofs.InRange.{content_in, open_in_range, put_in_rang
 use Rattle.core_invariant.proofs.Writes.{IsPlace}
 use Rattle.domain_rule.specs.declared.view.SeatView.{SeatView}
 use Rattle.acquire_retire.specs.Calls.{Stepped}
-use Rattle.acquire_retire.specs.Domains.{DomainState, IsDomain}
+use Rattle.acquire_retire.specs.Domains.{DomainState, IsDomain, StoredDomain}
 
 -- the act is on the word of this place, which is there where a seat may make the act
 pub record IsOn (z : Shape) (a : Act) (q : EventPlace) : Type 0 where
   pub word : (v : CoreView) → place z a v ≡ place_at z q
   pub there : (n : ℕ) (v : CoreView) → SeatLaw z n v → May z a v → IsPlace z q
 
-pub found_small : {P V : Type 0} {fits : List ℕ → Type 0} (d e : DomainState P) → e ≡ d → (kept : Shape)
+pub found_small : {P V : Type 0} {fits : List ℕ → Type 0} (d e : DomainState P) → e ≡ d → (kept : StoredDomain)
     → IsDomain e.table e.shape e.terms kept
     → (next_view : OwnPart → OwnPart → V → PlainAct → ℕ → V) (allows : Plain → Plain → ℕ → V → V → Type 0)
     (a : Act) (old new : TableSeat (Unit {0}) (SeatView V)) (w : ℕ)

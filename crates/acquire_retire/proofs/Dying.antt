@@ -24,7 +24,7 @@ use Rattle.domain_rule.specs.declared.view.SeatView.{SeatView}
 use Rattle.domain_rule.specs.Told.{IsOwn, Told}
 use Rattle.domain_rule.proofs.Step.{view_after, views_stay}
 use Rattle.acquire_retire.specs.Calls.{Stepped}
-use Rattle.acquire_retire.specs.Domains.{DomainState, IsDomain}
+use Rattle.acquire_retire.specs.Domains.{DomainState, IsDomain, StoredDomain}
 use Rattle.acquire_retire.specs.Seats.{IsSeat, Stored}
 
 -- the slot of a number
@@ -132,7 +132,7 @@ few_dying z ts next_view allows a v w v' shape quotas own told =
     let same_ripe = ap (λ (u : CoreView). length u.ripe) moved_is in (omega arith, omega arith)
 
 -- before a step that made it longer there was room for one more
-pub room_to_end : {P V : Type 0} {fits : List ℕ → Type 0} (d e : DomainState P) → e ≡ d → (kept : Shape)
+pub room_to_end : {P V : Type 0} {fits : List ℕ → Type 0} (d e : DomainState P) → e ≡ d → (kept : StoredDomain)
     → IsDomain e.table e.shape e.terms kept
     → (next_view : OwnPart → OwnPart → V → PlainAct → ℕ → V) (allows : Plain → Plain → ℕ → V → V → Type 0)
     (a : Act) (old new : TableSeat (Unit {0}) (SeatView V)) (w : ℕ)
@@ -155,7 +155,7 @@ room_to_end d e same kept in_domain next_view allows a old new w step own shape 
 
 -- and there is room for the slots that are ripe after a step
 pub room_for_ripe : {P V : Type 0} {fits : List ℕ → Type 0} (d e : DomainState P) → e ≡ d
-    → (kept : Shape) → IsDomain e.table e.shape e.terms kept
+    → (kept : StoredDomain) → IsDomain e.table e.shape e.terms kept
     → (next_view : OwnPart → OwnPart → V → PlainAct → ℕ → V)
     (allows : Plain → Plain → ℕ → V → V → Type 0) (a : Act)
     (old new : TableSeat (Unit {0}) (SeatView V)) (w : ℕ)

@@ -13,7 +13,7 @@ use Rattle.core_events.specs.declared.shape.Quota.{Quota}
 use Rattle.core_events.specs.declared.view.CoreView.{CoreView}
 use Rattle.core_events.specs.declared.view.Move.{Move}
 use Rattle.core_events.specs.declared.view.Phase.TheVariants as phase
-use Rattle.core_events.specs.Ejection.{seen_times}
+use Rattle.announce_slots.specs.Seen.{seen_times}
 use Rattle.core_events.specs.Steps.{IsIdle, decremented}
 use Rattle.acquire_retire.specs.Scripts.{Destroys, HasRoomForFields, MayPlay, Plays, one_seat, wide}
 use Rattle.acquire_retire.proofs.Rows.{HasBegun, MayFinding, ends_with, made_view, may_begin, slot0}

@@ -1,21 +1,41 @@
 -- The makes of a seat can be counted.
-use Rattle.std.proofs.Common.{ℕ, ◌+◌, ◌^◌, ◌<◌, List, sum, ap, arith}
+use Rattle.std.proofs.Common.{◌≡◌, ℕ, ◌+◌, ◌^◌, ◌<◌, ◌≤◌, List, [], ◌∷◌, ◌++◌, sum, ap, sym, subst, arith}
+use Rattle.std.specs.Prelude.{slice_index_or}
+use Rattle.std.proofs.lemmas.List.Sums.{sum_by_push}
 use Rattle.atomic_table.specs.declared.shared.Seat.{Seat as TableSeat}
 use Rattle.plain_state.specs.declared.act.PlainAct.{PlainAct}
 use Rattle.plain_state.specs.declared.slot.SlotId.{SlotId}
 use Rattle.plain_state.specs.State.{Plain}
 use Rattle.plain_protocol.specs.Owns.{OwnPart}
 use Rattle.core_events.specs.declared.act.Act.TheVariants as act
+use Rattle.core_events.specs.declared.act.Event.{Event}
+use Rattle.core_events.specs.declared.shape.Shape.{Shape}
 use Rattle.core_events.specs.declared.view.CoreView.{CoreView}
+use Rattle.core_events.specs.Runs.{AreTerms, Core, History, IsShape, view_at}
+use Rattle.core_events.specs.Views.{Terms, allowed_makes, granted}
 use Rattle.core_invariant.proofs.Parts.{sound_good}
 use Rattle.core_law.proofs.Always.{history_sound}
+use Rattle.core_law.proofs.Grants.{history_grants}
 use Rattle.core_promises.proofs.Granted.{seat_granted}
 use Rattle.domain_rule.specs.declared.view.SeatView.{SeatView}
 use Rattle.acquire_retire.specs.Calls.{Stepped}
 use Rattle.acquire_retire.specs.Domains.{DomainState}
 use Rattle.acquire_retire.specs.Seats.{IsSeat, Stored}
 
--- what a seat's tickets grant is bounded, so a seat that may claim has used few makes
+-- what a seat's tickets grant is bounded by what all grants make
+pub grants_few : (z : Shape) (ts : Terms) (es : List Event) (c : Core) → IsShape z → AreTerms z ts
+    → History z ts es c → (n : ℕ) → n < z.seats → (v : CoreView) → v ≡ view_at c n
+    → granted v.grants v.tickets ≤ 2 ^ 40
+grants_few z ts es c shape terms history n there v is =
+    let so = history_sound z ts es c shape terms history in
+    let views = so.views in
+    let most = seat_granted z c n (sound_good z c so).tickets (omega arith) in
+    let quotas = terms.0 in
+    let grants = ap sum (history_grants z ts es c history n (omega arith)) in
+    let few = terms.2 in
+    let same = ap (λ (u : CoreView). granted u.grants u.tickets) is in omega arith
+
+-- so a seat that may claim has used few makes
 pub claims_few : {P V : Type 0} {fits : List ℕ → Type 0} (d : DomainState P)
     (next_view : OwnPart → OwnPart → V → PlainAct → ℕ → V)
     (allows : Plain → Plain → ℕ → V → V → Type 0) (s : SlotId)
@@ -25,14 +45,14 @@ pub claims_few : {P V : Type 0} {fits : List ℕ → Type 0} (d : DomainState P)
     → IsSeat old.me t batch_room seen_room dying_room ripe_room → t.makes + 1 < 2 ^ 64
 claims_few d next_view allows s old new w step t batch_room seen_room dying_room ripe_room seat =
     let h = step.told.happened in
-    let n = old.me.0.core.seat in
-    let so = history_sound d.shape d.terms h.events h.before h.shape h.terms h.history in
-    let there = h.enabled.0 in
-    let few = seat_granted d.shape h.before n (sound_good d.shape h.before so).tickets there in
-    let makes = h.enabled.1.2 in
-    let views = so.views in
-    let quota = (so.seats n (omega arith)).quota.0 in
-    let same = ap (λ (v : CoreView). v.makes) h.view in
-    let grants = ap (λ (v : CoreView). sum v.grants) h.view in
-    let had = ap (λ (x : Stored). x.makes) seat.stores in
-    let most = seat.rooms.grants in omega arith
+    let makes = subst (λ (v : CoreView). v.makes < allowed_makes v) (sym h.view) h.enabled.1.2 in
+    let quota = seat.seated.law.quota.0 in
+    let few = seat.seated.granted in
+    let had = ap (λ (x : Stored). x.makes) seat.stores in omega arith
+
+-- what the tickets grant once a number is drawn
+pub granted_more : (grants own ts : List ℕ) (w : ℕ) → own ≡ grants
+    → granted grants ts + slice_index_or own w 0 ≡ granted grants (ts ++ w ∷ [])
+granted_more grants own ts w same =
+    let a = sum_by_push (λ (t : ℕ). slice_index_or grants t 0) ts w in
+    let e = ap (λ (gs : List ℕ). slice_index_or gs w 0) same in omega arith

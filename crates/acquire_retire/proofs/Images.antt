@@ -21,7 +21,8 @@ use Rattle.core_events.specs.Counts.{barers, baring, strong, weak}
 use Rattle.core_events.specs.Good.{CountLaw}
 use Rattle.core_events.specs.Runs.{Core, view_at}
 use Rattle.core_events.specs.Shows.{show_slot, shows}
-use Rattle.core_events.specs.Words.{ZERO, cell_at, each_from, field_at, has_zero, payload_at, slot_at, slot_in, weak_cell_at, weak_field_at}
+use Rattle.core_events.specs.Words.{cell_at, each_from, field_at, payload_at, slot_at, slot_in, weak_cell_at, weak_field_at}
+use Rattle.counter_word.specs.Words.{ZERO, has_zero}
 use Rattle.core_invariant.specs.Sound.{Sound}
 use Rattle.core_law.proofs.Always.{history_sound}
 use Rattle.core_invariant.proofs.Parts.{sound_good}

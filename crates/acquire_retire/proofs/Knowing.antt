@@ -21,7 +21,7 @@ use Rattle.domain_rule.specs.Reading.{FoundIn, HasRead}
 use Rattle.domain_rule.specs.Rule.{Kept}
 use Rattle.domain_rule.proofs.Counting.{gone, history_counted}
 use Rattle.domain_rule.proofs.Reading.{reads}
-use Rattle.acquire_retire.specs.Domains.{DomainState, IsDomain}
+use Rattle.acquire_retire.specs.Domains.{DomainState, IsDomain, StoredDomain}
 use Rattle.acquire_retire.proofs.Dying.{few_dying_in, few_ripe_in}
 
 -- no more seats have left than there are
@@ -103,7 +103,7 @@ module _ {P V : Type 0} (law : P → Plain → List V → Type 0) (first : P →
 
   -- what the table requires of the load
   pub read_requires : seat.table_id ≡ d.table → seat.me.0.gone ≡ false → word < word_count d.shape
-      → (e : DomainState P) → e ≡ d → (kept : Shape) → IsDomain e.table e.shape e.terms kept
+      → (e : DomainState P) → e ≡ d → (kept : StoredDomain) → IsDomain e.table e.shape e.terms kept
       → (seat.table_id ≡ e.table) × (word < e.table.words)
       × Allows (Kept (law e.protocol) (first e.protocol) fits e.shape e.terms) e.table.slots
       seat.id seat.me word (λ w. w) Tells

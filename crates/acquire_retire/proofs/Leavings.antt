@@ -1,5 +1,5 @@
 -- Seat 0 takes over what a seat had that leaves.
-use Rattle.std.proofs.Common.{◌≡◌, ℕ, ◌+◌, ◌*◌, ◌^◌, ◌<◌, ◌≤◌, List, [], ◌∷◌, ◌++◌, length, sum, ap, sym, ◌∙◌, subst, arith, length-append}
+use Rattle.std.proofs.Common.{◌≡◌, ℕ, ◌+◌, ◌*◌, ◌^◌, ◌<◌, ◌≤◌, List, [], ◌∷◌, ◌++◌, length, ap, sym, ◌∙◌, subst, arith, length-append}
 use Rattle.std.specs.Prelude.{Option, Some}
 use Rattle.atomic_table.specs.Table.{Joins}
 use Rattle.atomic_table.specs.declared.shared.Seat.{Seat as TableSeat}
@@ -19,8 +19,10 @@ use Rattle.domain_rule.specs.declared.view.SeatView.{SeatView}
 use Rattle.domain_rule.specs.Opening.{gone_view}
 use Rattle.domain_rule.specs.Rule.{Kept}
 use Rattle.domain_rule.proofs.Leaves.{leaves}
+use Rattle.acquire_retire.proofs.Granted.{grants_few}
+use Rattle.acquire_retire.proofs.Rooms.{rooms_least}
 use Rattle.acquire_retire.specs.Calls.{IsOf}
-use Rattle.acquire_retire.specs.Domains.{DomainState, IsDomain}
+use Rattle.acquire_retire.specs.Domains.{DomainState, IsDomain, StoredDomain}
 use Rattle.acquire_retire.specs.Leavings.{HasJoined, MayJoin, joined_in}
 use Rattle.acquire_retire.specs.Seats.{HasRooms, IsSeat, IsSeated, SeatState, Stored, stored}
 use Rattle.acquire_retire.proofs.Calls.{value_of}
@@ -32,7 +34,7 @@ module _ {P V : Type 0} (law : P → Plain → List V → Type 0) (first : P →
     (site : Option (DomainState P)) (is : site ≡ Some d)
     (root v : TableSeat (Unit {0}) (SeatView V)) (may : MayJoin d root v) where
   -- what the table requires where seat 0 takes over what another has
-  pub join_requires : (e : DomainState P) → e ≡ d → (kept : Shape)
+  pub join_requires : (e : DomainState P) → e ≡ d → (kept : StoredDomain)
       → IsDomain e.table e.shape e.terms kept
       → (root.table_id ≡ e.table) × (v.table_id ≡ e.table) × (v.me.1 ≡ []) × (0 < e.table.words)
       × Joins (Kept (law e.protocol) (first e.protocol) fits e.shape e.terms) root.id root.me.0
@@ -187,6 +189,12 @@ module _ {P V : Type 0} (d : DomainState P) (fits : List ℕ → Type 0) (joined
         there = subst (λ (z : Shape). new.me.0.core.seat < z.seats) (sym shape_after) inside;
         law = subst (λ (z : Shape). SeatLaw z new.me.0.core.seat new.me.0.core) (sym shape_after)
             (found_law fits d.shape d.terms new.me.0 0 join.word join.found inside);
+        room = let f = join.found in
+            rooms_least d.shape d.terms f.events f.core f.shape f.terms f.history
+            new.me.0.core.seat inside new.me.0.core f.says.core shape_after;
+        granted = let f = join.found in
+            grants_few d.shape d.terms f.events f.core f.shape f.terms f.history
+            new.me.0.core.seat inside new.me.0.core f.says.core;
         knows = join.knows.1;
       };
       stores = (λ i. record (taken s t) {
@@ -207,8 +215,6 @@ module _ {P V : Type 0} (d : DomainState P) (fits : List ℕ → Type 0) (joined
         dying = let room = rooms.dying in
             let now = ap (λ (z : Shape). z.slots) shape_after in
             let was = ap (λ (z : Shape). z.slots) may.shape in omega arith;
-        grants = let few = rooms.grants in
-            let same = ap (λ (u : CoreView). sum u.grants) core_is in omega arith;
         ripe = let room = rooms.ripe in
             let now = ap (λ (z : Shape). z.slots) shape_after in
             let was = ap (λ (z : Shape). z.slots) may.shape in omega arith;

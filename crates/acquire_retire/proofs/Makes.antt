@@ -1,6 +1,6 @@
 -- A seat claims a slot, fills it and makes it live, for the proofs of tests.
 use Rattle.std.proofs.Common.{◌≡◌, ◌≢◌, ⊎_elim, ℕ, ◌+◌, ◌<◌, Bool, true, false, List, length, get_or, set, refl, ap, sym, ◌∙◌, subst, arith}
-use Rattle.std.specs.Prelude.{◌==◌, if◌then◌else◌, slice_index}
+use Rattle.std.specs.Prelude.{Option, ◌==◌, if◌then◌else◌, slice_index}
 use Rattle.std.proofs.lemmas.List.{get_or-set_other, get_or-set_same}
 use Rattle.std.proofs.lemmas.Bool.{cases_eq}
 use Rattle.std.proofs.lemmas.Bool.Decides.{nat_tests}
@@ -16,6 +16,7 @@ use Rattle.core_events.specs.declared.view.CoreView.{CoreView}
 use Rattle.core_events.specs.declared.view.Move.{Move}
 use Rattle.core_events.specs.declared.view.Phase.{Phase}
 use Rattle.core_events.specs.declared.view.Phase.TheVariants as phase
+use Rattle.core_events.specs.ShownSteps.{on_slot}
 use Rattle.core_events.specs.Steps.{moved}
 use Rattle.core_events.specs.Views.{slot_of}
 use Rattle.core_events.specs.Words.{bit_in}
@@ -58,11 +59,10 @@ module _ {P V : Type 0} (d : DomainState P) (s : SlotId) (payload : List ℕ) wh
   filled_fits a b fills is = (
     is.0,
     is.1,
-    is.2,
     record {
       words = fills.size;
-      size = fills.words 0 (omega arith) ∙ is.3.size;
-      bytes = λ k lt. fills.words (k + 1) (omega arith) ∙ is.3.bytes k lt;
+      size = fills.words 0 (omega arith) ∙ is.2.size;
+      bytes = λ k lt. fills.words (k + 1) (omega arith) ∙ is.2.bytes k lt;
     },
   )
 
@@ -88,8 +88,8 @@ module _ {P V : Type 0} {fits : List ℕ → Type 0} (d : DomainState P) (s : Sl
       let object : object_in c.view s
       ≡ record (object_in b.view s) { payload = set (object_in b.view s).payload n x } =
       step.told.objects s (fills_has s b.view.core still)
-      ∙ ap (λ (y : SlotId). changed_object (plain.Fill y n x) s (object_in b.view s))
-      (ap slot_of still)
+      ∙ ap (λ (y : Option SlotId). changed_object (on_slot (λ (r : SlotId). plain.Fill r n x) y) s
+      (object_in b.view s)) (ap slot_of still)
       ∙ filled_object s n x (object_in b.view s) in
       let is = ap (λ (o : Object). o.payload) object in
       let size = had.size in

@@ -1,5 +1,5 @@
 -- A domain as it is opened, and its seats.
-use Rattle.std.proofs.Common.{◌≡◌, ℕ, suc, ◌+◌, ◌^◌, ◌<◌, ◌≤◌, false, List, [], ◌∷◌, ◌++◌, length, sum, refl, ap, sym, ◌∙◌, subst, arith}
+use Rattle.std.proofs.Common.{◌≡◌, ℕ, suc, ◌+◌, ◌<◌, false, List, [], ◌∷◌, ◌++◌, length, refl, ap, sym, ◌∙◌, subst, arith}
 use Rattle.std.specs.Prelude.{◌==◌, Option, Some, None, IsSome, if◌then◌else◌}
 use Rattle.std.proofs.lemmas.Bool.Decides.{nat_tests}
 use Rattle.atomic_table.specs.Seated.{TableId}
@@ -22,7 +22,7 @@ use Rattle.domain_rule.specs.Rule.{Kept}
 use Rattle.domain_rule.proofs.Opens.{opens}
 use Rattle.domain_rule.proofs.SeatLaws.{opened_law}
 use Rattle.domain_rule.proofs.Splits.{splits}
-use Rattle.acquire_retire.specs.Domains.{DomainState, IsDomain}
+use Rattle.acquire_retire.specs.Domains.{DomainState, IsDomain, StoredDomain}
 use Rattle.acquire_retire.specs.Openings.{IsFirst, IsNew, begun_seat, newcomer}
 use Rattle.acquire_retire.specs.Seats.{IsSeated, SeatState}
 
@@ -32,13 +32,15 @@ same_terms a b g h quotas grants = λ i. record { quotas = quotas i; grants = gr
 
 -- a table with the first words is one of a domain
 pub begun_domain : (z : Shape) (ts kept : Terms) (table : TableId) (key : Shape)
-    (words : List ℕ) → IsShape z → AreTerms z ts → key ≡ z → kept ≡ ts → words ≡ first_words z
-    → table.words ≡ length words → table.slots ≡ 0 → IsDomain table key kept z
-begun_domain z ts kept table key words shape terms same same_terms are count none = record {
+    (words grants : List ℕ) → IsShape z → AreTerms z ts → key ≡ z → kept ≡ ts
+    → grants ≡ ts.grants → words ≡ first_words z → table.words ≡ length words → table.slots ≡ 0
+    → IsDomain table key kept (record { shape = z; grants = grants })
+begun_domain z ts kept table key words grants shape terms same same_terms own are count none = record {
   shape = subst IsShape (sym same) shape;
   terms = subst (λ (t : Shape × Terms). AreTerms t.0 t.1)
       (λ i. (sym same i, sym same_terms i)) terms;
   same = sym same;
+  grants = own ∙ sym (ap (λ (t : Terms). t.grants) same_terms);
   words = subst (λ (y : Shape). table.words ≡ word_count y) (sym same)
       (count ∙ (ap length are ∙ (start_sound z ts shape terms).words));
   slots = none;
@@ -68,11 +70,13 @@ opened_seated first z ts n opened shape terms there = record {
   shape = shape;
   there = there;
   law = opened_law z ts n shape terms there;
+  room = λ here. omega arith;
+  granted = omega arith;
   knows = λ alone. knows_one z.seats _ (let a = alone.1 in omega arith);
 }
 
 -- the sizes of a domain are in their ranges
-pub in_ranges : {P : Type 0} (d e : DomainState P) (kept : Shape) → e ≡ d
+pub in_ranges : {P : Type 0} (d e : DomainState P) (kept : StoredDomain) → e ≡ d
     → IsDomain e.table e.shape e.terms kept → IsShape d.shape × AreTerms d.shape d.terms
 in_ranges {P = P} d e kept same in_domain =
     subst (λ (x : DomainState P). IsShape x.shape × AreTerms x.shape x.terms) same
@@ -89,17 +93,6 @@ module _ {P V : Type 0} where
     pub new_seated : n < d.shape.seats → IsNew first d n s → IsSeated s.me
     new_seated there is = subst IsSeated (sym is.1)
         (opened_seated first d.shape d.terms n 1 ranges.0 ranges.1 there)
-
-    -- and the grants that it sees are few
-    pub first_grants : IsFirst first d n s → sum s.me.0.core.grants ≤ 2 ^ 40
-    first_grants is =
-        let same = ap (λ (m : Me (Unit {0}) (SeatView V)). sum m.0.core.grants) is.1 in
-        let few = ranges.1.2 in omega arith
-
-    pub new_grants : IsNew first d n s → sum s.me.0.core.grants ≤ 2 ^ 40
-    new_grants is =
-        let same = ap (λ (m : Me (Unit {0}) (SeatView V)). sum m.0.core.grants) is.1 in
-        let few = ranges.1.2 in omega arith
 
   -- a seat other than seat 0 has counted none
   begun_later : (first : ℕ → V) (d : DomainState P) (n : ℕ) → 0 < n
@@ -129,7 +122,7 @@ module _ {P V : Type 0} (law : P → Plain → List V → Type 0) (first : P →
     (begun : IsFirst (first d.protocol) d root.me.0.opened root) where
   -- what the table requires where seat 0 opens one more seat
   pub another_requires : root.me.0.opened < d.shape.seats → (e : DomainState P) → e ≡ d
-      → (kept : Shape) → IsDomain e.table e.shape e.terms kept
+      → (kept : StoredDomain) → IsDomain e.table e.shape e.terms kept
       → (root.table_id ≡ e.table) × (0 < e.table.words)
       × Splits (Kept (law e.protocol) (first e.protocol) fits e.shape e.terms) root.id root.me.0
       (opened_more root.me.0) (newcomer first site root.me.0)

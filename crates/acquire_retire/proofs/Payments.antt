@@ -1,6 +1,6 @@
 -- The steps of a payment, and payments one after another.
 use Rattle.std.proofs.Common.{◌≡◌, ◌≢◌, ℕ, ◌+◌, Bool, true, false, List, [], ◌∷◌, ◌++◌, length, length-append, append-nil, refl, ap, sym, ◌∙◌, subst, arith}
-use Rattle.std.specs.Prelude.{◌==◌, cond, if◌then◌else◌, count_by, flat_map}
+use Rattle.std.specs.Prelude.{Option, ◌==◌, cond, if◌then◌else◌, count_by, flat_map}
 use Rattle.std.proofs.lemmas.List.Sums.{sum_by-append, sum_by-cons}
 use Rattle.std.proofs.lemmas.Grind.{flat_map-append}
 use Rattle.plain_state.specs.declared.slot.Kind.TheVariants.{Strong, Weak, Disposal}
@@ -13,8 +13,8 @@ use Rattle.core_events.specs.declared.view.CoreView.{CoreView}
 use Rattle.core_events.specs.declared.view.Move.{Move}
 use Rattle.core_events.specs.declared.view.Phase.TheVariants as phase
 use Rattle.core_events.specs.Steps.{IsIdle, ended, paid, paid_outcome}
-use Rattle.core_events.specs.Views.{slot_of}
-use Rattle.core_events.specs.Words.{has_help}
+use Rattle.core_events.specs.Views.{about, slot_of}
+use Rattle.counter_word.specs.Words.{has_help}
 use Rattle.acquire_retire.specs.declared.payment.Payment.{Payment}
 use Rattle.acquire_retire.specs.Calls.{IsSameView, Steps, same_view}
 use Rattle.acquire_retire.specs.Collecting.{Goes, Pays, PaysFor, ends, move, paid_by}
@@ -51,14 +51,14 @@ paid_idle w ((Weak, s) ∷ es) v some idle zeroed last = by_word (w == 1) last
     by_word false not = (refl, refl)
 
 -- what an ending leaves as it is
-ended_lists : (b : Bool) (s : SlotId) (v : CoreView) → (p : _)
+ended_lists : (b : Bool) (s : Option SlotId) (v : CoreView) → (p : _)
     → ((ended b s p v).owed ≡ v.owed) × ((ended b s p v).retired ≡ v.retired)
 ended_lists true s v p = (refl, refl)
 ended_lists false s v p = (refl, refl)
 
-finished_idle : (b h : Bool) (s : SlotId) (v : CoreView)
+finished_idle : (b h : Bool) (s : Option SlotId) (v : CoreView)
     → (if b then outcome.Ended else if h then outcome.Help else outcome.Lost) ≢ outcome.Help
-    → (ended b s (if h then phase.Help s else phase.Idle) v).phase ≡ phase.Idle
+    → (ended b s (if h then about phase.Help s else phase.Idle) v).phase ≡ phase.Idle
 finished_idle true h s v not = refl
 finished_idle false true s v not = absurd (not refl)
 finished_idle false false s v not = refl
@@ -71,7 +71,7 @@ has_lost true h ended help = absurd (ended refl)
 has_lost false true ended help = absurd (help refl)
 has_lost false false ended help = refl
 
-taken_idle : (b : Bool) (s : SlotId) (v : CoreView)
+taken_idle : (b : Bool) (s : Option SlotId) (v : CoreView)
     → (ended b s phase.Idle v).phase ≡ phase.Idle
 taken_idle true s v = refl
 taken_idle false s v = refl

@@ -1,10 +1,8 @@
 -- The steps of a scan, one after another, up to the last.
-use Rattle.std.proofs.Common.{◌≡◌, ℕ, ◌+◌, ◌<◌, ◌≤◌, Bool, true, false, List, [], ◌∷◌, ◌++◌, inr, length, length-append, refl, ap, sym, ◌∙◌, subst, arith}
-use Rattle.std.specs.Prelude.{cond, ◌==◌, if◌then◌else◌}
+use Rattle.std.proofs.Common.{◌≡◌, ℕ, ◌+◌, ◌<◌, ◌≤◌, Bool, true, false, List, [], ◌∷◌, ◌++◌, inr, length, length-append, ap, sym, ◌∙◌, subst, arith}
+use Rattle.std.specs.Prelude.{if◌then◌else◌}
 use Rattle.std.proofs.lemmas.List.{map-append}
-use Rattle.std.proofs.lemmas.List.Sums.{sum_by-cons}
 use Rattle.std.proofs.lemmas.Bool.Decides.{nat_tests}
-use Rattle.plain_state.specs.Lists.{Entry}
 use Rattle.core_events.specs.declared.act.Act.TheVariants as act
 use Rattle.core_events.specs.declared.outcome.Outcome.{Outcome}
 use Rattle.core_events.specs.declared.outcome.Outcome.TheVariants as outcome
@@ -12,10 +10,11 @@ use Rattle.core_events.specs.declared.shape.Shape.{Shape}
 use Rattle.core_events.specs.declared.view.CoreView.{CoreView}
 use Rattle.core_events.specs.declared.view.Move.{Move}
 use Rattle.core_events.specs.declared.view.Phase.TheVariants as phase
-use Rattle.core_events.specs.Ejection.{code_of, ejected, is_seen, kept, seen_times, without_word}
-use Rattle.core_events.specs.Steps.{IsIdle, all_seen, answer, is_last, moved, ripened}
+use Rattle.plain_state.specs.Ejection.{ejected, kept, ripened}
+use Rattle.core_events.specs.Steps.{IsIdle, all_seen, answer, is_last, moved}
 use Rattle.core_events.specs.Words.{announcements}
-use Rattle.core_invariant.proofs.Splits.{split_length}
+use Rattle.plain_state.proofs.Ejections.{split_length}
+use Rattle.announce_slots.proofs.Staying.{few_kept}
 use Rattle.acquire_retire.specs.Calls.{IsSameView, Steps, same_view}
 use Rattle.acquire_retire.specs.Collecting.{Goes, Reads, Splits, move, read_by, scanned_by}
 use Rattle.acquire_retire.specs.Domains.{DomainState}
@@ -33,7 +32,7 @@ abbrev read_one : ℕ → CoreView → CoreView × Outcome
 read_one w v = (
   record v {
     phase = phase.Scan;
-    seen = all_seen w v;
+    seen = v.seen ++ w ∷ [];
     trail = v.trail ++ move act.Scan (outcome.Word w) ∷ [];
   },
   outcome.Word w,
@@ -59,34 +58,6 @@ scan_is : (z : Shape) (w : ℕ) (v : CoreView) (b : Bool) → is_last z v ≡ b
     → (moved z act.Scan w v, answer z act.Scan w v) ≡ (if b then read_last w v else read_one w v)
 scan_is z w v true is = rw is
 scan_is z w v false is = rw is
-
-length_without : (w : ℕ) (xs : List ℕ) → 0 < seen_times w xs
-    → length (without_word w xs) + 1 ≡ length xs
-unfolding seen_times
-length_without w [] h = absurd (omega arith)
-length_without w (x ∷ xs) h = go (x == w) (sum_by-cons (λ y. cond (y == w) 1 0) x xs)
-    (length_without w xs)
-  where
-    go : (b : Bool) → seen_times w (x ∷ xs) ≡ cond b 1 0 + seen_times w xs
-        → (0 < seen_times w xs → length (without_word w xs) + 1 ≡ length xs)
-        → length (if b then xs else x ∷ without_word w xs) + 1 ≡ length (x ∷ xs)
-    go true is more = omega arith
-    go false is more = let rest = more (omega arith) in omega arith
-
--- a split keeps no more entries than there are words
-few_kept : (es : List Entry) (seen : List ℕ) → length (kept es seen) ≤ length seen
-few_kept [] seen = omega arith
-few_kept (e ∷ es) seen = go (is_seen (code_of e) seen) refl (few_kept es)
-  where
-    go : (b : Bool) → is_seen (code_of e) seen ≡ b
-        → ((xs : List ℕ) → length (kept es xs) ≤ length xs)
-        → length (if b then e ∷ kept es (without_word (code_of e) seen) else kept es seen)
-        ≤ length seen
-    go true is rest =
-        let some : 0 < seen_times (code_of e) seen = grind (arith, nat_tests) in
-        let less = length_without (code_of e) seen some in
-        let i = rest (without_word (code_of e) seen) in omega arith
-    go false is rest = rest seen
 
 -- the outcome of the last word, and how many entries that leaves
 record LastRead {V : Type 0} (b c : SeatState V) (o : Outcome) : Type 0 where
@@ -135,7 +106,7 @@ module _ {P V : Type 0} {fits : List ℕ → Type 0} (d : DomainState P) where
       let owed = ap (λ (v : CoreView). length v.owed) core in
       let go = length (ejected v.retired (all_seen w v)) in
       let split = split_length v.retired (all_seen w v) in
-      let few = few_kept v.retired (all_seen w v) in
+      let few = few_kept v.retired (v.seen ++ w ∷ []) in
       let more = length-append v.seen (w ∷ []) in
       record {
         word = w;

@@ -12,7 +12,7 @@ use Rattle.core_events.specs.declared.outcome.Outcome.TheVariants as outcome
 use Rattle.core_events.specs.declared.shape.Shape.{Shape}
 use Rattle.core_events.specs.declared.view.CoreView.{CoreView}
 use Rattle.core_events.specs.declared.view.Move.{Move}
-use Rattle.core_events.specs.Ejection.{seen_times}
+use Rattle.announce_slots.specs.Seen.{seen_times}
 use Rattle.core_events.specs.Steps.{IsIdle, May, answer, moved}
 use Rattle.core_events.specs.Views.{first_view}
 use Rattle.plain_state.specs.declared.slot.SlotId.{SlotId}

@@ -1,6 +1,6 @@
 -- A step with an aim keeps the rule of the table, at the word and by the function that its caller
 -- names, and the seat that made it is one afterwards.
-use Rattle.std.proofs.Common.{◌≡◌, ℕ, ◌<◌, List, length, refl, ap, sym, ◌∙◌, subst, arith}
+use Rattle.std.proofs.Common.{◌∷◌, ◌≡◌, ℕ, ◌<◌, List, length, refl, ap, sym, ◌∙◌, subst, arith}
 use Rattle.std.specs.Prelude.{Option, Some, None, IsSome}
 use Rattle.std.specs.Option.{option_map}
 use Rattle.atomic_table.specs.Table.{Allows, Me}
@@ -10,11 +10,12 @@ use Rattle.plain_state.specs.State.{Plain}
 use Rattle.plain_protocol.specs.Laws.{Keeps}
 use Rattle.plain_protocol.specs.Owns.{OwnPart}
 use Rattle.core_events.specs.declared.act.Act.{Act}
+use Rattle.core_events.specs.declared.act.Event.{Event}
 use Rattle.core_events.specs.declared.shape.Shape.{Shape}
 use Rattle.core_events.specs.Views.{Terms}
 use Rattle.core_events.specs.declared.view.CoreView.{CoreView}
 use Rattle.core_events.specs.Good.{SeatLaw}
-use Rattle.core_events.specs.Runs.{IsShape, after}
+use Rattle.core_events.specs.Runs.{Core, History, IsShape, after}
 use Rattle.core_events.specs.Steps.{May, next, place}
 use Rattle.core_events.specs.Words.{word_count}
 use Rattle.core_invariant.proofs.InRange.{place_in}
@@ -25,8 +26,10 @@ use Rattle.domain_rule.specs.Rule.{Kept}
 use Rattle.domain_rule.specs.Told.{Told}
 use Rattle.domain_rule.specs.Views.{IsAlone, core_in, whole_of}
 use Rattle.domain_rule.proofs.StepKeeps.{step_allowed}
+use Rattle.acquire_retire.proofs.Granted.{grants_few}
+use Rattle.acquire_retire.proofs.Rooms.{rooms_least}
 use Rattle.acquire_retire.specs.Calls.{Aimed, CanStep, Finds, Stepped, aimed}
-use Rattle.acquire_retire.specs.Domains.{DomainState, IsDomain}
+use Rattle.acquire_retire.specs.Domains.{DomainState, IsDomain, StoredDomain}
 use Rattle.acquire_retire.specs.Seats.{IsSeated}
 
 -- two names of one aim
@@ -60,11 +63,25 @@ seated_after z ts next_view allows a w me new same seated told carried = record 
       (λ i. (sym seat_is i, (same ∙ sym shape_is) i)) seated.there;
   law = subst (λ (x : Shape × ℕ). SeatLaw x.0 x.1 new.0.core)
       (λ i. (sym shape_is i, sym seat_is i)) told.law;
+  room = rooms_least z ts later.0 later.1 told.happened.shape told.happened.terms later.2
+      me.0.core.seat there new.0.core told.says.core shape_is;
+  granted = grants_few z ts later.0 later.1 told.happened.shape told.happened.terms later.2
+      me.0.core.seat there new.0.core told.says.core;
   knows = λ alone. subst IsSome (sym told.whole)
       (still_known (λ all. whole_of (after z (core_in all) me.0.core.seat a)) me.0.whole
       (seated.knows (alone_before alone)));
 }
   where
+    later : (es : List Event) × (c : Core) × History z ts es c
+    later =
+        let h = told.happened in
+        let e : Event = record { seat = me.0.core.seat; act = a } in
+        (e ∷ h.events, after z h.before me.0.core.seat a, (h.before, h.history, (h.enabled, refl)))
+
+    there : me.0.core.seat < z.seats
+    there =
+        let seats = ap (λ (y : Shape). y.seats) same in let inside = seated.there in omega arith
+
     shape_is : new.0.core.shape ≡ z
     shape_is = told.law.same_shape
 
@@ -105,7 +122,7 @@ module _ {P D V : Type 0} (law : P → Plain → List V → Type 0) (first : P �
       (allows x.deed x.domain.protocol) x.act seat.me w new in
       subst T (same_aim (aimed d deed a) x aim is aims) found
 
-  module _ (e : DomainState P) (same : e ≡ d) (kept : Shape)
+  module _ (e : DomainState P) (same : e ≡ d) (kept : StoredDomain)
       (in_domain : IsDomain e.table e.shape e.terms kept)
       (word : ℕ) (at : word ≡ place d.shape a seat.me.0.core) (f : ℕ → ℕ)
       (kind : (w : ℕ) → next a seat.me.0.core w ≡ f w) where

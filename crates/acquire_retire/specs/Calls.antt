@@ -1,5 +1,5 @@
 -- What a call of a seat asks, and what it tells: each call is one event.
-use Rattle.std.specs.Prelude.{ℕ, ◌≡◌, List}
+use Rattle.std.specs.Prelude.{ℕ, ◌≡◌, List, Option, Some}
 use Rattle.atomic_table.specs.Table.{Me}
 use Rattle.atomic_table.specs.declared.shared.Seat.{Seat as TableSeat}
 use Rattle.plain_state.specs.declared.act.PlainAct.{PlainAct}
@@ -9,7 +9,8 @@ use Rattle.core_events.specs.declared.act.Act.{Act}
 use Rattle.core_events.specs.declared.outcome.Outcome.{Outcome}
 use Rattle.core_events.specs.declared.shape.Shape.{Shape}
 use Rattle.core_events.specs.ShownSteps.{shown_act}
-use Rattle.core_events.specs.Steps.{May, answer}
+use Rattle.core_events.specs.declared.view.CoreView.{CoreView}
+use Rattle.core_events.specs.Steps.{May, answer, next, place}
 use Rattle.domain_rule.specs.declared.view.SeatView.{SeatView}
 use Rattle.domain_rule.specs.Told.{FitsStart, IsOwn, Told}
 use Rattle.domain_rule.specs.Views.{own_of}
@@ -24,6 +25,14 @@ pub record Aimed (P D : Type 0) : Type 0 where
 
 abbrev pub aimed : {P D : Type 0} → DomainState P → D → Act → Aimed P D
 aimed d deed a = record { domain = d; deed = deed; act = a }
+
+-- The step is aimed at the act, with the deed and in the domain. It is on the word that the act is on,
+-- and makes of it what the act does.
+pub record IsAimed {P D : Type 0} (aim : Option (Aimed P D)) (d : DomainState P) (deed : D) (a : Act)
+    (v : CoreView) (word : ℕ) (change : ℕ → ℕ) : Type 0 where
+  pub aims : aim ≡ Some (aimed d deed a)
+  pub at : word ≡ place d.shape a v
+  pub changes : (w : ℕ) → next a v w ≡ change w
 
 module _ {V : Type 0} where
   -- the deed is ready for whichever plain step the act shows

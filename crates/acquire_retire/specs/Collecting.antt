@@ -1,5 +1,8 @@
 -- What a collect does, move by move, and what it leaves.
 use Rattle.std.specs.Prelude.{ℕ, ◌≡◌, ◌+◌, ◌≤◌, Bool, true, false, List, [], ◌∷◌, ◌++◌, length, map, flat_map, count_by}
+use Rattle.plain_state.specs.declared.act.PlainAct.{PlainAct}
+use Rattle.plain_state.specs.State.{Plain}
+use Rattle.plain_protocol.specs.Owns.{OwnPart}
 use Rattle.core_events.specs.declared.act.Act.{Act}
 use Rattle.core_events.specs.declared.act.Act.TheVariants as act
 use Rattle.core_events.specs.declared.outcome.Outcome.{Outcome}
@@ -61,13 +64,19 @@ rest_of v =
       trail = [];
     }
 
+-- these moves, in turn and each with this deed, lead from one state of a seat to another
+abbrev pub WalksBy : {P V : Type 0} → (List ℕ → Type 0) → DomainState P
+    → (OwnPart → OwnPart → V → PlainAct → ℕ → V) → (Plain → Plain → ℕ → V → V → Type 0)
+    → List Move → SeatState V → SeatState V → Type 0
+WalksBy fits d next allows [] old new = new ≡ old
+WalksBy {V = V} fits d next allows (m ∷ ms) old new =
+    (mid : SeatState V) × Steps fits d next allows m.act old mid m.outcome
+    × WalksBy fits d next allows ms mid new
+
 module _ {P V : Type 0} (fits : List ℕ → Type 0) where
-  -- these moves, in turn and without a deed, lead from one state of a seat to another
+  -- the same without a deed
   abbrev pub Walks : DomainState P → List Move → SeatState V → SeatState V → Type 0
-  Walks d [] old new = new ≡ old
-  Walks d (m ∷ ms) old new =
-      (mid : SeatState V) × Steps fits d same_view IsSameView m.act old mid m.outcome
-      × Walks d ms mid new
+  Walks d = WalksBy fits d same_view IsSameView
 
   -- and the rest of what the seat has, and the client's view, stay as they are
   pub record Goes (d : DomainState P) (ms : List Move) (old new : SeatState V) : Type 0 where

@@ -1,5 +1,5 @@
 -- What callers see of a domain.
-use Rattle.std.specs.Prelude.{◌≡◌}
+use Rattle.std.specs.Prelude.{ℕ, ◌≡◌, List}
 use Rattle.atomic_table.specs.Seated.{TableId}
 use Rattle.core_events.specs.declared.shape.Shape.{Shape}
 use Rattle.core_events.specs.Runs.{AreTerms, IsShape}
@@ -13,11 +13,18 @@ pub record DomainState (P : Type 0) : Type 0 where
   pub shape : Shape
   pub terms : Terms
 
--- shape and terms are in their ranges, the domain keeps the shape, and the table has its words and
--- nothing else
-pub record IsDomain (table : TableId) (z : Shape) (ts : Terms) (kept : Shape) : Type 0 where
+-- what a domain stores beside its table
+pub record StoredDomain : Type 0 where
+  pub shape : Shape
+  pub grants : List ℕ
+
+-- shape and terms are in their ranges, the domain stores the shape and the grants, and the table has
+-- its words and nothing else
+pub record IsDomain (table : TableId) (z : Shape) (ts : Terms) (kept : StoredDomain)
+    : Type 0 where
   pub shape : IsShape z
   pub terms : AreTerms z ts
-  pub same : kept ≡ z
+  pub same : kept.shape ≡ z
+  pub grants : kept.grants ≡ ts.grants
   pub words : table.words ≡ word_count z
   pub slots : table.slots ≡ 0

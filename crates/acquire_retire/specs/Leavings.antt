@@ -34,10 +34,13 @@ module _ {P V : Type 0} where
     pub word : ℕ
     pub found : FoundIn fits d.shape d.terms new.me.0 0 word
 
-module _ {V : Type 0} where
-  -- seat 0 has taken over what a seat had that left, and knows the whole core exactly where it is
-  -- alone now
-  pub record TookOver (joined : V → V → V) (root v new : SeatState V) : Type 0 where
+  -- Seat 0 has taken over what a seat had that left. What its view tells is so in a state that events
+  -- lead to, the leave the last of its own, and so all payloads fit there. It knows the whole core
+  -- exactly where it is alone now.
+  pub record TookOver (d : DomainState P) (fits : List ℕ → Type 0) (joined : V → V → V)
+      (root v new : SeatState V) : Type 0 where
     pub table : new.table ≡ root.table
     pub view : new.view ≡ record (joined_view joined root.view v.view) { whole = new.view.whole }
     pub knows : IsSome new.view.whole ↔ IsAlone new.view
+    pub word : ℕ
+    pub found : FoundIn fits d.shape d.terms new.view 0 word

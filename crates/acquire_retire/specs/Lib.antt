@@ -1,7 +1,6 @@
 pub mod Domains
 pub mod Seats
 pub mod Calls
-pub mod Ripening
 pub mod Notes
 pub mod Openings
 pub mod Leavings

@@ -1,5 +1,5 @@
 -- What callers see of a seat, and what the seat stores of its view.
-use Rattle.std.specs.Prelude.{ℕ, ◌≡◌, ◌<◌, ◌≤◌, ◌*◌, ◌^◌, false, List, [], length, sum}
+use Rattle.std.specs.Prelude.{ℕ, ◌≡◌, ◌<◌, ◌≤◌, ◌*◌, ◌^◌, false, List, [], length}
 use Rattle.atomic_table.specs.Seated.{TableId}
 use Rattle.atomic_table.specs.Table.{Me}
 use Rattle.plain_state.specs.declared.slot.SlotId.{SlotId}
@@ -10,7 +10,7 @@ use Rattle.core_events.specs.declared.view.Note.{Note}
 use Rattle.core_events.specs.declared.view.Phase.{Phase}
 use Rattle.core_events.specs.Good.{SeatLaw}
 use Rattle.core_events.specs.Runs.{IsShape}
-use Rattle.core_events.specs.Views.{room_of}
+use Rattle.core_events.specs.Views.{granted, room_of}
 use Rattle.eject_scan.specs.Seen.{announcements}
 use Rattle.domain_rule.specs.declared.view.SeatView.{SeatView}
 use Rattle.domain_rule.specs.Views.{KnowsAll}
@@ -26,6 +26,7 @@ pub record Stored : Type 0 where
   pub quota : Quota
   pub adds : ℕ
   pub makes : ℕ
+  pub granted : ℕ
   pub phase : Phase
   pub notes : List Note
   pub retired : List Entry
@@ -36,14 +37,15 @@ pub record Stored : Type 0 where
   pub ripe : List SlotId
   pub left : ℕ
 
--- of the words that its scan has read it stores those that announce something, and of the seats
--- that have left their number
+-- of the words that its scan has read it stores those that announce something, of its tickets how
+-- many makes they grant, and of the seats that have left their number
 abbrev pub stored : CoreView → Stored
 stored v = record {
   number = v.seat;
   quota = v.quota;
   adds = v.adds;
   makes = v.makes;
+  granted = granted v.grants v.tickets;
   phase = v.phase;
   notes = v.notes;
   retired = v.retired;
@@ -56,14 +58,17 @@ stored v = record {
 }
 
 -- there is room for all that it may have to store: at seat 0 for what all seats may retire, since
--- it takes over from those that leave; and the makes that it may have to count are few
+-- it takes over from those that leave
 pub record HasRooms (v : CoreView) (batch_room seen_room dying_room ripe_room : ℕ) : Type 0 where
   pub batch : v.room ≤ batch_room
   pub root : v.seat ≡ 0 → v.shape.seats * room_of v.shape ≤ batch_room
   pub seen : seen_room ≡ 4 * v.shape.seats
   pub dying : v.shape.slots ≤ dying_room
   pub ripe : v.shape.slots ≤ ripe_room
-  pub grants : sum v.grants ≤ 2 ^ 40
+
+-- there is room to retire an entry for each announcement word, and a batch
+abbrev pub HasBatch : CoreView → Type 0
+HasBatch v = v.left ≡ false → room_of v.shape ≤ v.room
 
 -- it carries no slot of the table and hasn't left, and what holds of a seat by itself holds of it
 pub record IsSeated {V : Type 0} (me : Me (Unit {0}) (SeatView V)) : Type 0 where
@@ -72,6 +77,8 @@ pub record IsSeated {V : Type 0} (me : Me (Unit {0}) (SeatView V)) : Type 0 wher
   pub shape : IsShape me.0.core.shape
   pub there : me.0.core.seat < me.0.core.shape.seats
   pub law : SeatLaw me.0.core.shape me.0.core.seat me.0.core
+  pub room : HasBatch me.0.core
+  pub granted : granted me.0.core.grants me.0.core.tickets ≤ 2 ^ 40
   pub knows : KnowsAll me.0
 
 -- between calls it stores what its view has

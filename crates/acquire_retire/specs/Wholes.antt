@@ -9,7 +9,7 @@ use Rattle.plain_state.specs.State.{Plain}
 use Rattle.core_events.specs.Counts.{barers}
 use Rattle.core_events.specs.Runs.{Core, view_at}
 use Rattle.core_events.specs.Shows.{shows}
-use Rattle.core_events.specs.Words.{ZERO}
+use Rattle.counter_word.specs.Words.{ZERO}
 use Rattle.plain_state.specs.declared.slot.SlotId.{SlotId}
 use Rattle.core_invariant.specs.Sound.{Sound}
 use Rattle.domain_rule.specs.declared.view.SeatView.{SeatView}

@@ -1,8 +1,8 @@
 //! The kinds of atomic step, each as one event of the table of events.
-ghost use Rattle.std.specs.Prelude.{ℕ, ◌≡◌, ◌==◌, ◌+◌, ◌%◌, ◌^◌, bit_and, Some};
+ghost use Rattle.std.specs.Prelude.{ℕ, ◌==◌, ◌+◌, ◌%◌, ◌^◌, bit_and};
 ghost use prog.Atomic.{either};
-ghost use Rattle.core_events.specs.Steps.{minus_one, next, place};
-ghost use Rattle.acquire_retire.specs.Calls.{CanStep, Stepped, aimed};
+ghost use Rattle.core_events.specs.Steps.{minus_one};
+ghost use Rattle.acquire_retire.specs.Calls.{CanStep, IsAimed, Stepped};
 
 use crate::aim::{Aim, Reads, Writes};
 use crate::domain::Domain;
@@ -20,10 +20,9 @@ impl<P: Protocol> Domain<P> {
         deed: D,
         word: usize,
     ) -> u64
-        requires aim { B.aim ≡ Some (aimed self.now deed act) }
+        requires aim { IsAimed B.aim self.now deed act seat.old.me.0.core word
+            (λ w. w) }
         requires can { CanStep self.now (D.ready deed self.now.protocol) P.Kind.fits act seat.old }
-        requires word { word ≡ place self.now.shape act seat.old.me.0.core }
-        requires kind { (w : ℕ) → next act seat.old.me.0.core w ≡ w }
         ensures { Stepped P.Kind.fits self.now (D.next deed self.now.protocol)
             (D.allows deed self.now.protocol) act seat.old result seat.new }
     {
@@ -39,10 +38,9 @@ impl<P: Protocol> Domain<P> {
         word: usize,
         new: u64,
     )
-        requires aim { B.aim ≡ Some (aimed self.now deed act) }
+        requires aim { IsAimed B.aim self.now deed act seat.old.me.0.core word
+            (λ w. new) }
         requires can { CanStep self.now (D.ready deed self.now.protocol) P.Kind.fits act seat.old }
-        requires word { word ≡ place self.now.shape act seat.old.me.0.core }
-        requires kind { (w : ℕ) → next act seat.old.me.0.core w ≡ new }
         ensures { (w : ℕ) × Stepped P.Kind.fits self.now (D.next deed self.now.protocol)
             (D.allows deed self.now.protocol) act seat.old w seat.new }
     {
@@ -58,10 +56,9 @@ impl<P: Protocol> Domain<P> {
         word: usize,
         new: u64,
     ) -> u64
-        requires aim { B.aim ≡ Some (aimed self.now deed act) }
+        requires aim { IsAimed B.aim self.now deed act seat.old.me.0.core word
+            (λ w. new) }
         requires can { CanStep self.now (D.ready deed self.now.protocol) P.Kind.fits act seat.old }
-        requires word { word ≡ place self.now.shape act seat.old.me.0.core }
-        requires kind { (w : ℕ) → next act seat.old.me.0.core w ≡ new }
         ensures { Stepped P.Kind.fits self.now (D.next deed self.now.protocol)
             (D.allows deed self.now.protocol) act seat.old result seat.new }
     {
@@ -78,10 +75,9 @@ impl<P: Protocol> Domain<P> {
         old: u64,
         new: u64,
     ) -> u64
-        requires aim { B.aim ≡ Some (aimed self.now deed act) }
+        requires aim { IsAimed B.aim self.now deed act seat.old.me.0.core word
+            (λ w. either (w == old) new w) }
         requires can { CanStep self.now (D.ready deed self.now.protocol) P.Kind.fits act seat.old }
-        requires word { word ≡ place self.now.shape act seat.old.me.0.core }
-        requires kind { (w : ℕ) → next act seat.old.me.0.core w ≡ either (w == old) new w }
         ensures { Stepped P.Kind.fits self.now (D.next deed self.now.protocol)
             (D.allows deed self.now.protocol) act seat.old result seat.new }
     {
@@ -99,10 +95,9 @@ impl<P: Protocol> Domain<P> {
         word: usize,
         amount: u64,
     ) -> u64
-        requires aim { B.aim ≡ Some (aimed self.now deed act) }
+        requires aim { IsAimed B.aim self.now deed act seat.old.me.0.core word
+            (λ w. (w + amount) % 2 ^ 64) }
         requires can { CanStep self.now (D.ready deed self.now.protocol) P.Kind.fits act seat.old }
-        requires word { word ≡ place self.now.shape act seat.old.me.0.core }
-        requires kind { (w : ℕ) → next act seat.old.me.0.core w ≡ (w + amount) % 2 ^ 64 }
         ensures { Stepped P.Kind.fits self.now (D.next deed self.now.protocol)
             (D.allows deed self.now.protocol) act seat.old result seat.new }
     {
@@ -119,10 +114,9 @@ impl<P: Protocol> Domain<P> {
         deed: D,
         word: usize,
     ) -> u64
-        requires aim { B.aim ≡ Some (aimed self.now deed act) }
+        requires aim { IsAimed B.aim self.now deed act seat.old.me.0.core word
+            (λ w. minus_one w) }
         requires can { CanStep self.now (D.ready deed self.now.protocol) P.Kind.fits act seat.old }
-        requires word { word ≡ place self.now.shape act seat.old.me.0.core }
-        requires kind { (w : ℕ) → next act seat.old.me.0.core w ≡ minus_one w }
         ensures { Stepped P.Kind.fits self.now (D.next deed self.now.protocol)
             (D.allows deed self.now.protocol) act seat.old result seat.new }
     {
@@ -138,10 +132,9 @@ impl<P: Protocol> Domain<P> {
         word: usize,
         mask: u64,
     ) -> u64
-        requires aim { B.aim ≡ Some (aimed self.now deed act) }
+        requires aim { IsAimed B.aim self.now deed act seat.old.me.0.core word
+            (λ w. bit_and w mask) }
         requires can { CanStep self.now (D.ready deed self.now.protocol) P.Kind.fits act seat.old }
-        requires word { word ≡ place self.now.shape act seat.old.me.0.core }
-        requires kind { (w : ℕ) → next act seat.old.me.0.core w ≡ bit_and w mask }
         ensures { Stepped P.Kind.fits self.now (D.next deed self.now.protocol)
             (D.allows deed self.now.protocol) act seat.old result seat.new }
     {

@@ -17,7 +17,7 @@ impl<P: Protocol> Domain<P> {
         requires may { CanLeave root.view.core }
         ensures { IsLast P.Kind.fits (P.law self.protocol) self.shape.seats root.view }
     {
-        let Domain { table, shape: _ } = self;
+        let Domain { table, .. } = self;
         let SeatOf { seat, .. } = root;
         table.close_with(seat).free();
     }

@@ -3,15 +3,14 @@ ghost use Rattle.std.specs.Prelude.{◌≡◌, nat_lt, if◌then◌else◌};
 ghost use Rattle.core_events.specs.declared.act.Act.TheVariants as act;
 ghost use Rattle.core_events.specs.declared.outcome.Outcome.TheVariants as outcome;
 ghost use Rattle.core_events.specs.Steps.{May};
-ghost use Rattle.core_events.specs.Words.{ZERO};
+ghost use Rattle.counter_word.specs.Words.{ZERO};
 ghost use Rattle.acquire_retire.specs.Calls.{IsOf, IsReady, IsSameView, Steps, same_view};
 
 use crate::domain::Domain;
 use crate::seat::Seat;
 use core_events::{Act, Kind, Outcome, Phase, SlotId};
-use core_parts::{
-    HELP_FLAG, ZERO_FLAG, counted, counter_index, given_up, helps, slot_in_phase, slot_index,
-};
+use core_functions::{counter_index, given_up, slot_index};
+use counter_word::{HELP, ZERO, has_help, value};
 use plain_protocol::{Deed, Protocol, Still};
 use std::marker::Brand;
 
@@ -19,7 +18,7 @@ use std::marker::Brand;
 fn added(word: u64) -> Outcome
     ensures { result ≡ (if nat_lt word ZERO then outcome.Up else outcome.Dead) }
 {
-    if word < ZERO_FLAG {
+    if word < ZERO {
         Outcome::Up
     } else {
         Outcome::Dead
@@ -82,7 +81,9 @@ impl<P: Protocol> Domain<P> {
         ensures { Steps P.Kind.fits self.now same_view IsSameView act.Finish
             seat.old seat.new result }
     {
-        let slot = slot_in_phase(seat.phase);
+        let Phase::Finish(slot) = seat.phase else {
+            unreachable!()
+        };
         let word = slot_index(&self.shape, slot);
         let found = self.compare_exchange_as::<Still, Brand>(
             &mut seat.seat,
@@ -90,14 +91,14 @@ impl<P: Protocol> Domain<P> {
             Still,
             word,
             0,
-            ZERO_FLAG,
+            ZERO,
         );
         if found == 0 {
             seat.dying.push_reserved(slot);
             seat.phase = Phase::Idle;
             return Outcome::Ended;
         }
-        if helps(found) {
+        if has_help(found) {
             seat.phase = Phase::Help(slot);
             return Outcome::Help;
         }
@@ -112,17 +113,19 @@ impl<P: Protocol> Domain<P> {
         ensures { Steps P.Kind.fits self.now same_view IsSameView act.Take
             seat.old seat.new result }
     {
-        let slot = slot_in_phase(seat.phase);
+        let Phase::Help(slot) = seat.phase else {
+            unreachable!()
+        };
         let word = slot_index(&self.shape, slot);
         let found = self.fetch_and_as::<Still, Brand>(
             &mut seat.seat,
             Act::Take,
             Still,
             word,
-            !HELP_FLAG,
+            !HELP,
         );
         seat.phase = Phase::Idle;
-        if helps(found) {
+        if has_help(found) {
             seat.dying.push_reserved(slot);
             return Outcome::Ended;
         }
@@ -145,7 +148,7 @@ impl<P: Protocol> Domain<P> {
             seat.phase = Phase::Zero(slot);
             return Outcome::Again;
         }
-        Outcome::Number(counted(found))
+        Outcome::Number(value(found))
     }
 
     /// Sets both flags of the strong word that the seat read as 0, where it still is 0, and tells the count.
@@ -157,7 +160,9 @@ impl<P: Protocol> Domain<P> {
         ensures { Steps P.Kind.fits self.now (D.next deed self.now.protocol)
             (D.allows deed self.now.protocol) act.Mark seat.old seat.new result }
     {
-        let slot = slot_in_phase(seat.phase);
+        let Phase::Zero(slot) = seat.phase else {
+            unreachable!()
+        };
         let word = slot_index(&self.shape, slot);
         let found = self.compare_exchange_as::<D, Brand>(
             &mut seat.seat,
@@ -165,9 +170,9 @@ impl<P: Protocol> Domain<P> {
             deed,
             word,
             0,
-            ZERO_FLAG + HELP_FLAG,
+            ZERO + HELP,
         );
         seat.phase = Phase::Idle;
-        Outcome::Number(counted(found))
+        Outcome::Number(value(found))
     }
 }

@@ -11,6 +11,8 @@ use std::marker::Model;
 pub struct Domain<P: Protocol> {
     pub(crate) table: Table<(), SeatView<P::View>, Charter<P>, DomainRule<P>, Global>,
     pub(crate) shape: Shape,
+    /// How many makes each ticket grants.
+    pub(crate) grants: Vec<u64>,
 }
 
 // A clause sees which domain it is, and what it was opened with.
@@ -33,5 +35,5 @@ impl<P: Protocol> Model for Domain<P> {
         (record {
           quotas = d.table.shared.key.quotas.items;
           grants = d.table.shared.key.grants.items;
-        }) d.shape };
+        }) (record { shape = d.shape; grants = d.grants.items }) };
 }

@@ -8,7 +8,7 @@ use crate::domain::Domain;
 use crate::seat::Seat;
 use crate::splitting::retire;
 use core_events::{Act, EventPlace, Outcome, SlotId};
-use core_parts::{found_in, held_as, kind_of, place_index};
+use core_functions::{found_in, held_as, kind_of, place_index};
 use plain_protocol::{Deed, Protocol};
 use std::marker::Brand;
 

@@ -11,12 +11,9 @@ ghost use Rattle.acquire_retire.specs.Calls.{IsOf, IsReady, IsSameView, Steps, s
 use crate::domain::Domain;
 use crate::seat::Seat;
 use core_events::{Act, Kind, Outcome, Phase, SlotId};
-use core_parts::{bit_alone, bits_index, counter_index, has_bit, slot_in_phase, slot_index};
+use core_functions::{bit_alone, bits_index, counter_index, has_bit, payload_index, slot_index};
 use plain_protocol::{Deed, Protocol, Still};
 use std::marker::Brand;
-
-/// The first payload word of a slot, counted from its first word.
-const FIRST_PAYLOAD: usize = 5;
 
 impl<P: Protocol> Domain<P> {
     /// Claims a slot: `Claimed` where its bit was set, and the seat is to arm it then, else `Taken`, with the word
@@ -51,7 +48,9 @@ impl<P: Protocol> Domain<P> {
         ensures { Steps P.Kind.fits self.now same_view IsSameView act.Arm
             seat.old seat.new result }
     {
-        let slot = slot_in_phase(seat.phase);
+        let Phase::Bare(slot) = seat.phase else {
+            unreachable!()
+        };
         let word = counter_index(&self.shape, Kind::Weak, slot);
         self.store_as::<Still, Brand>(&mut seat.seat, Act::Arm, Still, word, 1);
         seat.phase = Phase::Blank(slot);
@@ -65,8 +64,10 @@ impl<P: Protocol> Domain<P> {
         ensures { Steps P.Kind.fits self.now same_view IsSameView (act.Fill index word) seat.old
             seat.new result }
     {
-        let slot = slot_in_phase(seat.phase);
-        let at = slot_index(&self.shape, slot) + FIRST_PAYLOAD + index as usize;
+        let Phase::Blank(slot) = seat.phase else {
+            unreachable!()
+        };
+        let at = payload_index(&self.shape, slot, index);
         self.store_as::<Still, Brand>(&mut seat.seat, Act::Fill(index, word), Still, at, word);
         Outcome::Plain
     }
@@ -83,7 +84,9 @@ impl<P: Protocol> Domain<P> {
         ensures { Steps P.Kind.fits self.now (D.next deed self.now.protocol)
             (D.allows deed self.now.protocol) act.Start seat.old seat.new result }
     {
-        let slot = slot_in_phase(seat.phase);
+        let Phase::Blank(slot) = seat.phase else {
+            unreachable!()
+        };
         let word = slot_index(&self.shape, slot);
         self.store_as::<D, Brand>(&mut seat.seat, Act::Start, deed, word, 1);
         seat.adds += 1;
@@ -98,7 +101,7 @@ impl<P: Protocol> Domain<P> {
         ensures { Steps P.Kind.fits self.now same_view IsSameView (act.See slot index) seat.old
             seat.new result }
     {
-        let at = slot_index(&self.shape, slot) + FIRST_PAYLOAD + index as usize;
+        let at = payload_index(&self.shape, slot, index);
         let found = self.load_as::<Still, Brand>(&mut seat.seat, Act::See(slot, index), Still, at);
         Outcome::Word(found)
     }

@@ -12,7 +12,8 @@ ghost use Rattle.acquire_retire.specs.Wholes.{IsSame, IsWholeImage, KnowsCore, k
 use crate::domain::Domain;
 use crate::seat::Seat;
 use core_events::{EventPlace, Kind, SlotId};
-use core_parts::{ZERO_FLAG, place_index, slot_index};
+use core_functions::{place_index, slot_index};
+use counter_word::ZERO;
 use domain_rule::SeatView;
 use out_of_memory::OutOfMemory;
 use plain_protocol::Protocol;
@@ -23,7 +24,7 @@ use std::alloc::Global;
 fn strong_image(word: u64) -> u64
     ensures { result ≡ strong_image word }
 {
-    if word < ZERO_FLAG { word } else { ZERO_FLAG }
+    if word < ZERO { word } else { ZERO }
 }
 
 impl<P: Protocol> Domain<P> {

@@ -60,7 +60,8 @@ impl<P: Protocol> Domain<P> {
         requires seats { IsOf self.now root.old × IsOf self.now seat }
         requires root { root.old.view.core.seat ≡ 0 }
         requires may { CanLeave root.old.view.core × CanLeave seat.view.core }
-        ensures { TookOver (P.joined self.now.protocol) root.old seat root.new }
+        ensures { TookOver self.now P.Kind.fits (P.joined self.now.protocol)
+            root.old seat root.new }
     {
         let SeatOf {
             seat,

@@ -30,6 +30,7 @@ mod domain;
 mod errors;
 mod exchanging;
 mod filling;
+mod hints;
 mod image;
 mod leaving;
 mod opening;

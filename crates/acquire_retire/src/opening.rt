@@ -4,7 +4,7 @@ ghost use Rattle.core_events.specs.declared.shape.ShapeField.{ShapeField};
 ghost use Rattle.core_events.specs.Runs.{AreTerms, IsShape};
 ghost use Rattle.core_events.specs.Words.{each_from};
 ghost use Rattle.core_events.specs.Views.{first_view, room_of};
-ghost use Rattle.core_parts.specs.Fields.{IsFirstBad};
+ghost use Rattle.core_functions.specs.Fields.{IsFirstBad};
 ghost use Rattle.domain_rule.specs.Opening.{opened_more};
 ghost use Rattle.acquire_retire.specs.declared.errors.OpenError.TheVariants.{BadShape};
 ghost use Rattle.acquire_retire.specs.Openings.{IsFirst, IsNew, begun_seat, newcomer, opened_seats};
@@ -16,7 +16,7 @@ use crate::seat::{Seat, SeatOf};
 use crate::site::Site;
 use atomic_table::{Split, Table};
 use core_events::{Note, Phase, Quota, Shape};
-use core_parts::{first_bad, first_words};
+use core_functions::{first_bad, first_words};
 use domain_rule::{Charter, SeatView};
 use eject_scan::Seen;
 use out_of_memory::OutOfMemory;
@@ -24,6 +24,9 @@ use plain_protocol::Protocol;
 use retire_batch::Batch;
 use std::alloc::Global;
 use std::marker::{Brand, PhantomData};
+
+/// How many of the slots that it gave back a seat remembers.
+const MOST_FREED: usize = 64;
 
 /// Seat 0 opens one more seat.
 pub(crate) struct Opens<P, B> {
@@ -48,7 +51,6 @@ fn new_seat<W>(
     requires seated { IsSeated seat.me }
     requires new { (grants : List ℕ)
         × (seat.me.0.core ≡ first_view shape.now number quota grants) }
-    requires grants { sum seat.me.0.core.grants ≤ 2 ^ 40 }
     requires room { room_of shape.now ≤ room }
     requires root { number ≡ 0 → shape.now.seats * room_of shape.now ≤ room }
     ensures { IfOk result (λ s. s ≡ record { table = seat.table_id; view = seat.me.0 }) }
@@ -57,12 +59,14 @@ fn new_seat<W>(
     let seen = Seen::with_room(alloc, 4 * shape.seats)?;
     let dying = Vec::with_capacity(alloc, shape.slots as usize)?;
     let ripe = Vec::with_capacity(alloc, shape.slots as usize)?;
+    let freed = Vec::with_capacity(alloc, MOST_FREED)?;
     Ok(SeatOf {
         seat,
         number,
         quota,
         adds: 0,
         makes: 0,
+        granted: 0,
         phase: Phase::Idle,
         notes: [Note::Idle, Note::Idle, Note::Idle, Note::Idle],
         batch,
@@ -71,6 +75,8 @@ fn new_seat<W>(
         dying,
         ripe,
         left: 0,
+        freed,
+        searched: (shape.slots / 32).wrapping_mul(number),
     })
 }
 
@@ -103,7 +109,15 @@ impl<P: Protocol> Domain<P> {
             grants: grants.to_vec(alloc)?,
         };
         let (table, root) = Table::of_words(alloc, words.as_slice(), &charter)?;
-        Ok((Domain { table, shape }, root))
+        let grants = charter.grants;
+        Ok((
+            Domain {
+                table,
+                shape,
+                grants,
+            },
+            root,
+        ))
     }
 
     fn open_another_as<B: Site<P>>(

@@ -7,12 +7,13 @@ ghost use Rattle.acquire_retire.specs.Calls.{IsOf, IsReady, IsSameView, Steps, s
 
 use crate::domain::Domain;
 use crate::seat::Seat;
-use crate::splitting::{ripen, split};
+use crate::splitting::split;
+use announce_slots::announced_as;
 use core_events::{Act, EventPlace, Kind, Note, Outcome, Phase, SlotId};
-use core_parts::{
-    announced_as, counted, found_in, held_as, note_index, note_of, place_index, slot_in_note,
-    slot_index, validated,
+use core_functions::{
+    found_in, held_as, note_index, note_of, place_index, ripen, slot_in_note, slot_index, validated,
 };
+use counter_word::value;
 use plain_protocol::{Deed, Protocol, Still};
 use std::marker::Brand;
 
@@ -102,9 +103,12 @@ impl<P: Protocol> Domain<P> {
             (D.allows deed self.now.protocol) (act.Alive note) seat.old seat.new result }
     {
         let announced = note_of(&seat.notes, note);
-        let word = slot_index(&self.shape, slot_in_note(announced));
+        let Some(slot) = slot_in_note(announced) else {
+            unreachable!()
+        };
+        let word = slot_index(&self.shape, slot);
         let found = self.load_as::<D, Brand>(&mut seat.seat, Act::Alive(note), deed, word);
-        if counted(found) > 0 {
+        if value(found) > 0 {
             seat.notes[note as usize] = validated(announced);
             return Outcome::Alive;
         }

@@ -14,6 +14,8 @@ pub struct SeatOf<W> {
     pub(crate) quota: Quota,
     pub(crate) adds: u64,
     pub(crate) makes: u64,
+    /// How many makes its own tickets grant.
+    pub(crate) granted: u64,
     pub(crate) phase: Phase,
     pub(crate) notes: [Note; 4],
     pub(crate) batch: Batch,
@@ -25,6 +27,10 @@ pub struct SeatOf<W> {
     pub(crate) ripe: Vec<SlotId>,
     /// At seat 0: how many seats have left.
     pub(crate) left: u32,
+    /// Slots that it gave back itself, which may be free still, the latest last.
+    pub(crate) freed: Vec<SlotId>,
+    /// The slot at which its last search for a free one ended.
+    pub(crate) searched: u32,
 }
 
 // A clause sees which table it steps on, and what it knows.
@@ -41,6 +47,7 @@ impl<W> Model for SeatOf<W> {
       quota = s.quota;
       adds = s.adds;
       makes = s.makes;
+      granted = s.granted;
       phase = s.phase;
       notes = s.notes;
       retired = s.batch.retired;

@@ -1,8 +1,12 @@
 //! What a domain and its seats tell of themselves, without a step.
-ghost use Rattle.std.specs.Prelude.{◌≡◌, ◌↔◌, ◌+◌, [], IfSome, IsNone, IsTrue, length, slice_index_or};
+ghost use Rattle.std.specs.Prelude.{◌≡◌, ◌≤◌, ◌↔◌, ◌+◌, false, [], IfSome, IsNone, IsTrue, length, slice_index_or};
+ghost use Rattle.plain_state.specs.declared.slot.SlotId.{SlotId};
+ghost use Rattle.plain_state.specs.Lists.{times};
+ghost use Rattle.core_events.specs.Views.{allowed_makes};
 ghost use Rattle.domain_rule.specs.Views.{IsAlone};
 ghost use Rattle.acquire_retire.specs.Calls.{IsOf};
 ghost use Rattle.acquire_retire.specs.Notes.{is_free, least_free};
+ghost use Rattle.acquire_retire.specs.Seats.{HasBatch};
 
 use crate::domain::Domain;
 use crate::seat::Seat;
@@ -52,10 +56,21 @@ impl<P: Protocol> Domain<P> {
         seat.quota.adds - seat.adds
     }
 
-    /// How many entries the seat has retired and neither paid for nor found to be owed.
+    /// How many makes the seat has left of its quota and of what its own tickets grant.
+    pub fn makes_left(&self, seat: &Seat<P>) -> u64
+        requires seat { IsOf self.now seat.now }
+        requires here { seat.now.view.core.left ≡ false }
+        ensures { result + seat.now.view.core.makes ≡ allowed_makes seat.now.view.core }
+    {
+        seat.quota.makes + seat.granted - seat.makes
+    }
+
+    /// How many entries the seat has retired and neither paid for nor found to be owed. Every seat has room for one of
+    /// each announcement word, and a batch.
     pub fn deferred(&self, seat: &Seat<P>) -> u32
         requires { IsOf self.now seat.now }
-        ensures { result ≡ length seat.now.view.core.retired }
+        ensures count { result ≡ length seat.now.view.core.retired }
+        ensures room { HasBatch seat.now.view.core }
     {
         seat.batch.len()
     }
@@ -73,11 +88,14 @@ impl<P: Protocol> Domain<P> {
         }
     }
 
-    /// The slot that comes first of those that the seat may destroy once it has left their fields null.
+    /// The slot that comes first of those that the seat may destroy once it has left their fields null. Each of them is
+    /// one that the seat has ended.
     pub fn next_ripe(&self, seat: &Seat<P>) -> Option<SlotId>
         requires { IsOf self.now seat.now }
         ensures none { IsNone result ↔ (seat.now.view.core.ripe ≡ []) }
         ensures first { IfSome result (λ s. s ≡ slice_index_or seat.now.view.core.ripe 0 s) }
+        ensures dying { (s : SlotId)
+            → times s seat.now.view.core.ripe ≤ times s seat.now.view.core.dying }
     {
         if seat.ripe.is_empty() {
             None

@@ -245,6 +245,8 @@ fn a_slot_is_destroyed_and_claimed_again(rt: HostRuntime) -> Result<(), Fail> {
     assert!(rt; plays(&domain, &mut seat, &ENDED));
     assert!(rt; agrees(destroy(&domain, &mut seat, SLOT), Outcome::Last));
     assert!(rt; plays(&domain, &mut seat, &GIVEN_AGAIN));
+    assert_eq!(rt; domain.take_freed(&mut seat), Some(SLOT));
+    assert_eq!(rt; domain.take_freed(&mut seat), None);
     Ok(())
 }
 

@@ -45,7 +45,7 @@ fn one_seat_leaves_and_the_other_closes(rt: HostRuntime) -> Result<(), Fail> {
     let Ok((domain, mut seats)) = open_domain(rt.alloc(), SMALL, &[WIDE, WIDE], protocol) else {
         panic!(rt; "no memory");
     };
-    let Some(other) = seats.pop() else {
+    let Some(mut other) = seats.pop() else {
         panic!(rt; "no seat 1");
     };
     let Some(mut root) = seats.pop() else {
@@ -57,6 +57,13 @@ fn one_seat_leaves_and_the_other_closes(rt: HostRuntime) -> Result<(), Fail> {
         (domain.adds_left(&other), domain.deferred(&other)),
         (1 << 40, 0)
     );
+    assert_eq!(rt;
+        (domain.makes_left(&other), domain.take_freed(&mut other)),
+        (1 << 40, None)
+    );
+    assert_eq!(rt; domain.search_start(&other), SlotId(0));
+    domain.end_search(&mut other, SlotId(1));
+    assert_eq!(rt; domain.search_start(&other), SlotId(1));
     assert_eq!(rt;
         (domain.next_dying(&other), domain.next_ripe(&other)),
         (None, None)

@@ -1,4 +1,5 @@
 //! The call on the word of tickets. It is one atomic step.
+ghost use Rattle.std.specs.Prelude.{◌≡◌, slice_index_or};
 ghost use Rattle.core_events.specs.declared.act.Act.TheVariants as act;
 ghost use Rattle.core_events.specs.Steps.{May};
 ghost use Rattle.acquire_retire.specs.Calls.{IsOf, IsReady, Steps};
@@ -6,9 +7,19 @@ ghost use Rattle.acquire_retire.specs.Calls.{IsOf, IsReady, Steps};
 use crate::domain::Domain;
 use crate::seat::Seat;
 use core_events::{Act, Outcome};
-use core_parts::ticket_index;
+use core_functions::ticket_index;
 use plain_protocol::{Deed, Protocol};
 use std::marker::Brand;
+
+/// How many makes a ticket grants, by its number.
+fn granted_by(grants: &[u64], ticket: u64) -> u64
+    ensures { result ≡ slice_index_or grants.now ticket 0 }
+{
+    match grants.get(ticket as usize) {
+        Some(makes) => *makes,
+        None => 0,
+    }
+}
 
 impl<P: Protocol> Domain<P> {
     /// Draws the next ticket, and answers its number. It costs an add, and from then on the seat may make as many more
@@ -24,6 +35,7 @@ impl<P: Protocol> Domain<P> {
         let word = ticket_index(&self.shape);
         let found = self.fetch_add_as::<D, Brand>(&mut seat.seat, Act::Ticket, deed, word, 1);
         seat.adds += 1;
+        seat.granted += granted_by(&self.grants, found);
         Outcome::Number(found)
     }
 }

@@ -6,10 +6,10 @@ ghost use Rattle.domain_rule.specs.Views.{HasCleared};
 ghost use Rattle.acquire_retire.specs.Calls.{IsOf, IsSameView, Steps, same_view};
 
 use crate::domain::Domain;
+use crate::hints::remember;
 use crate::seat::Seat;
-use crate::splitting::forget;
 use core_events::{Act, Kind, Outcome, Phase, SlotId};
-use core_parts::{bit_alone, bits_index, counter_index, given_up, slot_in_phase};
+use core_functions::{bit_alone, bits_index, counter_index, given_up, take_first};
 use plain_protocol::{Protocol, Still};
 use std::marker::Brand;
 
@@ -75,26 +75,29 @@ impl<P: Protocol> Domain<P> {
             Still,
             word,
         );
-        forget(&mut seat.dying, slot);
-        forget(&mut seat.ripe, slot);
+        take_first(&mut seat.dying, slot);
+        take_first(&mut seat.ripe, slot);
         let (phase, outcome) = given_up(Kind::Weak, slot, found);
         seat.phase = phase;
         outcome
     }
 
     /// Gives back the slot whose weak word the seat took to 0: it sets the slot's bit, and the slot is free to be
-    /// claimed then.
+    /// claimed then. The seat remembers it, to look there first.
     pub fn free(&self, seat: &mut Seat<P>) -> Outcome
         requires seat { IsOf self.now seat.old }
         requires may { May self.now.shape act.Free seat.old.view.core }
         ensures { Steps P.Kind.fits self.now same_view IsSameView act.Free
             seat.old seat.new result }
     {
-        let slot = slot_in_phase(seat.phase);
+        let Phase::Give(slot) = seat.phase else {
+            unreachable!()
+        };
         let word = bits_index(&self.shape, slot);
         let bit = bit_alone(slot);
         self.fetch_add_as::<Still, Brand>(&mut seat.seat, Act::Free, Still, word, bit);
         seat.phase = Phase::Idle;
+        remember(&mut seat.freed, slot);
         Outcome::Plain
     }
 }

@@ -21,4 +21,4 @@ mod tests;
 mod words;
 
 pub use notes::Notes;
-pub use words::{SLOT_LIMIT, decode, encode};
+pub use words::{announced_as, decode, encode};

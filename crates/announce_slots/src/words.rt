@@ -1,19 +1,21 @@
 //! The word of a kind and a slot.
 ghost use Rattle.std.specs.Prelude.{◌≡◌, ◌≤◌, ◌<◌, ◌^◌, ◌↔◌, ℕ, IsNone, Some};
-ghost use Rattle.announce_slots.specs.Words.{word_of, Announces};
+ghost use Rattle.announce_slots.specs.Words.{announcement, Announces, code};
+
+use plain_state::{Kind, SlotId};
 
 /// The kinds: 0 strong, 1 weak, 2 disposal.
 const KINDS: u64 = 3;
 
 /// The number of a slot that has announcement words is below this.
-pub const SLOT_LIMIT: u32 = 1 << 22;
+const SLOT_LIMIT: u32 = 1 << 22;
 
 /// The announcement word of a kind (0 strong, 1 weak, 2 disposal) and a slot: four times the slot's number and one,
 /// and the kind. It is never 0, the word that announces nothing.
 pub fn encode(kind: u8, slot: u32) -> u64
     requires kind_in_range { kind ≤ 2 }
     requires slot_in_range { slot < 2 ^ 22 }
-    ensures { result ≡ word_of kind slot }
+    ensures { result ≡ announcement kind slot }
 {
     4 * (u64::from(slot) + 1) + u64::from(kind)
 }
@@ -30,4 +32,16 @@ pub fn decode(word: u64) -> Option<(u8, u32)>
         return None;
     }
     Some((kind as u8, (place - 1) as u32))
+}
+
+/// The announcement word of a reference: that of its kind and its slot.
+pub fn announced_as(kind: Kind, slot: SlotId) -> u64
+    ensures { result ≡ code kind slot }
+{
+    let number = match kind {
+        Kind::Strong => 0,
+        Kind::Weak => 1,
+        Kind::Disposal => 2,
+    };
+    4 * (u64::from(slot.0) + 1) + number
 }

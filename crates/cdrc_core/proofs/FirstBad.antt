@@ -4,7 +4,7 @@ use Rattle.std.specs.Prelude.{◌↔◌}
 use Rattle.core_events.specs.declared.shape.Shape.{Shape}
 use Rattle.core_events.specs.Views.{Terms}
 use Rattle.core_events.specs.declared.shape.ShapeField.{ShapeField}
-use Rattle.core_parts.specs.Fields.{IsFirstBad}
+use Rattle.core_functions.specs.Fields.{IsFirstBad}
 use Rattle.cdrc_core.specs.declared.errors.StartError.{StartError}
 use Rattle.cdrc_core.specs.declared.errors.StartError.TheVariants.{BadShape}
 use Rattle.cdrc_core.specs.declared.errors.ReplayError.{ReplayError}

@@ -15,7 +15,7 @@ use Rattle.core_invariant.proofs.InRange.{content_in, open_in_range, place_in, p
 use Rattle.core_invariant.proofs.Steady.{named_in_range}
 use Rattle.cdrc_core.specs.Kept.{Kept}
 use Rattle.core_promises.proofs.Granted.{seat_granted}
-use Rattle.core_seats.specs.Fits.{IsFit, IsWordFor}
+use Rattle.core_views.specs.Fits.{IsFit, IsWordFor}
 
 module _ (z : Shape) (c : Core) (n : ℕ) (k : Kept z c) (there : n < length c.views) where
   so : Sound z c
@@ -37,6 +37,7 @@ module _ (z : Shape) (c : Core) (n : ℕ) (k : Kept z c) (there : n < length c.v
     room = so.room.each n no_view there;
     makes = let few = (so.seats n hn).quota.0 in
         let own = seat_granted z c n so.tickets there in let most = k.grants n in omega arith;
+    reads = let r = (so.seats n hn).reads in let few = so.shape in omega arith;
     can_start = λ s e. (so.seats n hn).can_start s (inr e);
   }
 

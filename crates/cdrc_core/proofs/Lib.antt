@@ -5,4 +5,3 @@ pub mod Replaying
 pub mod Starting
 pub mod Starts
 pub mod Stays
-pub mod Grants

@@ -12,7 +12,7 @@ use Rattle.core_invariant.proofs.Parts.{sound_good}
 use Rattle.core_invariant.proofs.Starts.{start_sound}
 use Rattle.cdrc_core.specs.Kept.{Kept}
 use Rattle.cdrc_core.specs.State.{State}
-use Rattle.cdrc_core.proofs.Grants.{first_few, grants_after}
+use Rattle.core_law.proofs.Grants.{first_few, grants_after}
 
 start_kept : (z : Shape) (ts : Terms) → IsShape z → AreTerms z ts → Kept z (start z ts)
 start_kept z ts h q = record {

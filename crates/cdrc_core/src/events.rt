@@ -42,7 +42,7 @@ impl Table {
 
     /// Makes an event that is no leave: it changes one word and one seat. After an error nothing
     /// has changed.
-    #[tactic(auto, using(crate::proofs::InRange::in_range, crate::proofs::Stays::stays_views))]
+    #[tactic(auto, using(crate::proofs::InRange::in_range, core_law::proofs::Trails::views_plain))]
     fn make(&mut self, event: &Event) -> Result<Outcome, NoMemory>
         requires kept { Kept self.old.shape self.old.core }
         requires enabled { Enabled self.old.shape self.old.core event.now.seat event.now.act }

@@ -38,7 +38,7 @@ mod words;
 pub use core_events::{
     Act, Event, EventPlace, Kind, Note, Outcome, Phase, Quota, Shape, ShapeField, SlotId,
 };
-pub use core_parts::one_first_bad;
-pub use core_seats::SeatView;
+pub use core_functions::one_first_bad;
+pub use core_views::OwnView;
 pub use errors::{ReplayError, StartError, StepError};
 pub use machine::Core;

@@ -4,7 +4,7 @@ ghost use Rattle.core_events.specs.declared.shape.ShapeField.{ShapeField};
 ghost use Rattle.core_events.specs.Counts.{free_bit, strong, weak};
 ghost use Rattle.core_events.specs.Good.{Good};
 ghost use Rattle.core_events.specs.Runs.{AreTerms, Enabled, IsShape, after, outcome_of, start, view_at};
-ghost use Rattle.core_parts.specs.Fields.{IsFirstBad};
+ghost use Rattle.core_functions.specs.Fields.{IsFirstBad};
 ghost use Rattle.cdrc_core.specs.declared.errors.StartError.TheVariants.{BadShape};
 ghost use Rattle.cdrc_core.specs.declared.errors.StepError.TheVariants.{NotEnabled, OutOfMemory};
 ghost use Rattle.cdrc_core.specs.State.{terms};
@@ -12,8 +12,8 @@ ghost use Rattle.cdrc_core.specs.State.{terms};
 use crate::errors::{StartError, StepError};
 use crate::table::Table;
 use core_events::{Event, Outcome, Quota, Shape, SlotId};
-use core_parts::first_bad;
-use core_seats::SeatView;
+use core_functions::first_bad;
+use core_views::OwnView;
 use std::alloc::Global;
 use std::marker::Model;
 
@@ -133,7 +133,7 @@ impl Core {
     }
 
     /// What one seat knows.
-    pub fn seat(&self, seat: u32) -> &SeatView
+    pub fn seat(&self, seat: u32) -> &OwnView
         requires { seat < self.now.shape.seats }
         ensures { result.now ≡ view_at self.now.core seat }
     {

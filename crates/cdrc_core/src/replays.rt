@@ -2,7 +2,7 @@
 ghost use Rattle.std.specs.Prelude.{ℕ, ◌≡◌, ◌↔◌, ◌<◌, ◌+◌, [], IfOk, OnOk, Err, length, take};
 ghost use Rattle.core_events.specs.declared.shape.ShapeField.{ShapeField};
 ghost use Rattle.core_events.specs.Runs.{AreEnabled, AreTerms, IsShape, outcomes, run, start};
-ghost use Rattle.core_parts.specs.Fields.{IsFirstBad};
+ghost use Rattle.core_functions.specs.Fields.{IsFirstBad};
 ghost use Rattle.cdrc_core.specs.Replays.{IsFirstRefused};
 ghost use Rattle.cdrc_core.specs.declared.errors.StartError.TheVariants.{BadShape};
 ghost use Rattle.cdrc_core.specs.declared.errors.StepError.TheVariants.{NotEnabled, OutOfMemory};

@@ -5,7 +5,7 @@ ghost use Rattle.core_events.specs.Runs.{AreTerms, IsShape};
 ghost use Rattle.cdrc_core.specs.State.{terms};
 
 use core_events::{Quota, Shape};
-use core_seats::SeatView;
+use core_views::OwnView;
 use out_of_memory::OutOfMemory;
 use std::alloc::Global;
 
@@ -16,14 +16,14 @@ pub fn first_seats(
     shape: Shape,
     quotas: &[Quota],
     grants: &[u64],
-) -> Result<Vec<SeatView>, OutOfMemory>
+) -> Result<Vec<OwnView>, OutOfMemory>
     requires sizes { IsShape shape }
     requires terms { AreTerms shape (terms quotas.now grants.now) }
     ensures { IfOk result (λ seats. seats.items ≡ first_views shape 0 quotas.now grants.now) }
 {
     let mut seats = Vec::with_capacity(alloc, quotas.len())?;
     for (seat, quota) in quotas.iter().enumerate() {
-        let view = SeatView::first(alloc, shape, seat as u32, *quota, grants)?;
+        let view = OwnView::first(alloc, shape, seat as u32, *quota, grants)?;
         seats.push_reserved(view);
     }
     Ok(seats)

@@ -7,8 +7,8 @@ ghost use Rattle.cdrc_core.specs.State.{State, terms};
 
 use crate::seats::first_seats;
 use core_events::{Quota, Shape, SlotId};
-use core_parts::{bits_index, first_words, has_bit, slot_index};
-use core_seats::SeatView;
+use core_functions::{bits_index, first_words, has_bit, slot_index};
+use core_views::OwnView;
 use out_of_memory::OutOfMemory;
 use std::alloc::Global;
 use std::marker::Model;
@@ -18,7 +18,7 @@ use std::marker::Model;
 pub struct Table {
     pub(crate) shape: Shape,
     pub(crate) words: Vec<u64>,
-    pub(crate) seats: Vec<SeatView>,
+    pub(crate) seats: Vec<OwnView>,
 }
 
 impl Model for Table {
@@ -54,6 +54,7 @@ impl Table {
         })
     }
 
+    /// How large the core is.
     pub fn shape(&self) -> Shape
         ensures { result ≡ self.now.shape }
     {
@@ -88,7 +89,7 @@ impl Table {
     }
 
     /// What one seat knows.
-    pub fn seat(&self, seat: u32) -> &SeatView
+    pub fn seat(&self, seat: u32) -> &OwnView
         requires there { seat < self.now.shape.seats }
         requires kept { Kept self.now.shape self.now.core }
         ensures { result.now ≡ view_at self.now.core seat }

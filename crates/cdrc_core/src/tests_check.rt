@@ -1,6 +1,6 @@
 //! The invariant of a core, read from its definition and tested slowly: every reference is looked
 //! for in every list and place.
-use crate::{Core, Kind, Note, Phase, SeatView, SlotId};
+use crate::{Core, Kind, Note, OwnView, Phase, SlotId};
 
 const ZERO: u64 = 1 << 63;
 
@@ -31,7 +31,7 @@ fn entry_times(entries: &[(Kind, SlotId)], kind: Kind, slot: SlotId) -> u64 {
         .count() as u64
 }
 
-fn owed_times(view: &SeatView, kind: Kind, slot: SlotId) -> u64 {
+fn owed_times(view: &OwnView, kind: Kind, slot: SlotId) -> u64 {
     view.owed()
         .iter()
         .filter(|e| e.0 == kind && e.1 == slot)
@@ -80,7 +80,7 @@ fn in_places(core: &Core, kind: Kind, slot: SlotId) -> u64 {
     }
 }
 
-fn add_lists(tally: &mut Tally, view: &SeatView, slot: SlotId) {
+fn add_lists(tally: &mut Tally, view: &OwnView, slot: SlotId) {
     tally.strong = tally
         .strong
         .saturating_add(times(view.owned(), slot))
@@ -94,7 +94,7 @@ fn add_lists(tally: &mut Tally, view: &SeatView, slot: SlotId) {
     tally.dying = tally.dying.saturating_add(times(view.dying(), slot));
 }
 
-fn add_phase(tally: &mut Tally, view: &SeatView, slot: SlotId) {
+fn add_phase(tally: &mut Tally, view: &OwnView, slot: SlotId) {
     match view.phase() {
         Phase::Finish(s) if s == slot => tally.finishing = tally.finishing.saturating_add(1),
         Phase::Help(s) if s == slot => tally.helping = tally.helping.saturating_add(1),
@@ -199,7 +199,7 @@ fn announced(note: Note) -> u64 {
 }
 
 /// What of a seat's lists keeps a snapshot of the kind valid.
-fn waiting(view: &SeatView, kind: Kind, slot: SlotId) -> u64 {
+fn waiting(view: &OwnView, kind: Kind, slot: SlotId) -> u64 {
     match kind {
         Kind::Strong | Kind::Weak => entry_times(view.retired(), kind, slot),
         Kind::Disposal => times(view.dying(), slot),

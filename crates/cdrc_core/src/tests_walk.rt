@@ -3,7 +3,7 @@ ghost use Rattle.std.specs.Prelude.{◌≡◌, ◌<◌, ◌≤◌};
 
 use crate::tests_check::{are_seats_good, are_tickets_good, is_slot_good};
 use crate::{
-    Act, Core, Event, EventPlace, Kind, Outcome, Phase, Quota, SeatView, Shape, SlotId, StepError,
+    Act, Core, Event, EventPlace, Kind, Outcome, OwnView, Phase, Quota, Shape, SlotId, StepError,
 };
 use std::process::Abort;
 use std::test::Fail;
@@ -130,7 +130,7 @@ impl Dice {
     }
 
     /// The more a seat has, the more it gives up.
-    fn idle_act(&mut self, view: &SeatView) -> Act {
+    fn idle_act(&mut self, view: &OwnView) -> Act {
         let held = view.owned().len().saturating_add(view.weaks().len() / 2);
         if !view.retired().is_empty() && self.below(40) == 0 {
             Act::Scan
@@ -149,7 +149,7 @@ impl Dice {
 
     /// An act that a seat in this phase may perhaps make. One that is to end something mostly
     /// waits.
-    fn act(&mut self, view: &SeatView) -> Act {
+    fn act(&mut self, view: &OwnView) -> Act {
         let phase = view.phase();
         if self.below(12) > 0 && !matches!(phase, Phase::Idle | Phase::Scan) {
             return Act::Pay;
@@ -173,7 +173,7 @@ impl Dice {
     }
 
     /// Towards the end the seats let go of what they announce, and leave.
-    fn last_act(&mut self, view: &SeatView) -> Act {
+    fn last_act(&mut self, view: &OwnView) -> Act {
         match self.below(3) {
             0 => Act::Leave(self.below(SHAPE.seats)),
             1 => Act::Release(self.below(4)),

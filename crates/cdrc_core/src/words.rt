@@ -3,9 +3,11 @@ ghost use Rattle.std.specs.Prelude.{◌≡◌};
 ghost use Rattle.core_events.specs.Steps.{next};
 ghost use prog.Atomic.{either};
 
+use announce_slots::announced_as;
 use core_events::Act;
-use core_parts::{HELP_FLAG, ZERO_FLAG, announced_as, bit_alone, held_as, slot_in_phase};
-use core_seats::SeatView;
+use core_functions::{bit_alone, held_as, slot_in_phase};
+use core_views::OwnView;
+use counter_word::{HELP, ZERO};
 
 /// `new` where the condition holds, else the word that was there.
 fn replaced(condition: bool, new: u64, word: u64) -> u64
@@ -15,15 +17,15 @@ fn replaced(condition: bool, new: u64, word: u64) -> u64
 }
 
 /// What becomes of the word that an act of the seat works on.
-pub fn next_word(act: &Act, seat: &SeatView, word: u64) -> u64
+pub fn next_word(act: &Act, seat: &OwnView, word: u64) -> u64
     ensures { result ≡ next act.now seat.now word }
 {
     match *act {
         Act::Add(_) | Act::Wadd(_) | Act::Ticket => word.wrapping_add(1),
         Act::Drop(_) | Act::Pay | Act::Wdrop(_) | Act::Destroy(_) => word.wrapping_sub(1),
-        Act::Finish => replaced(word == 0, ZERO_FLAG, word),
-        Act::Take => word & !HELP_FLAG,
-        Act::Mark => replaced(word == 0, ZERO_FLAG + HELP_FLAG, word),
+        Act::Finish => replaced(word == 0, ZERO, word),
+        Act::Take => word & !HELP,
+        Act::Mark => replaced(word == 0, ZERO + HELP, word),
         Act::Announce(_, kind, slot) => announced_as(kind, slot),
         Act::Release(_) => 0,
         Act::Swap(_, new) => held_as(new),
@@ -31,7 +33,10 @@ pub fn next_word(act: &Act, seat: &SeatView, word: u64) -> u64
         Act::Claim(slot) => word & !bit_alone(slot),
         Act::Fill(_, content) => content,
         Act::Arm | Act::Start => 1,
-        Act::Free => word.wrapping_add(bit_alone(slot_in_phase(seat.phase()))),
+        Act::Free => match slot_in_phase(seat.phase()) {
+            Some(slot) => word.wrapping_add(bit_alone(slot)),
+            None => word,
+        },
         Act::Count(_)
         | Act::Look(_)
         | Act::Check(_, _)

@@ -22,7 +22,7 @@ impl<W: PayloadKind> PlainHeap<W> {
             slots: self.store.slot_images(alloc)?,
             cells: words(alloc, &self.store.cells)?,
             weak_cells: words(alloc, &self.store.weak_cells)?,
-            deferred: self.store.deferred.to_vec(alloc)?,
+            deferred: self.store.deferred_entries(alloc)?,
         })
     }
 }

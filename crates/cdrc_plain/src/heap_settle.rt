@@ -2,7 +2,7 @@
 ghost use Rattle.std.specs.Prelude.{◌≡◌, ◌+◌, IfOk, OnOk, OnErr};
 ghost use Rattle.plain_state.specs.declared.slot.SlotId.{SlotId};
 ghost use Rattle.plain_state.specs.Fits.{AllFit};
-ghost use Rattle.plain_store.specs.Settling.{SettlesTo, IsSettled};
+ghost use Rattle.plain_store.specs.Settling.{SettlesTo, SettlesInOrder, IsSettled};
 ghost use Rattle.plain_store.specs.Stores.{plain_of, Kept};
 ghost use Rattle.cdrc_plain.specs.Watching.{IsRestlessOnly};
 ghost use Rattle.plain_store.specs.Draining.{SettlesFreely, HasRoom, IsCalm};
@@ -55,7 +55,8 @@ fn drain<W: PayloadKind>(store: &mut Store) -> u64
 
 impl<W: PayloadKind> PlainHeap<W> {
     /// Ejects and destroys until nothing more may go, and answers the weights of what it destroyed. Of the deferred
-    /// entries as many copies of each stay as there are snapshots of it. A want of memory changes nothing.
+    /// entries as many copies of each stay as there are snapshots of it, the earlier ones, in their order. An
+    /// allocation failure changes nothing.
     ///
     /// It looks at each object that it destroys and at each entry that it ejects or keeps once, and at each entry
     /// counts the snapshots. Where references to more than one slot were dropped since it settled last, it looks at
@@ -63,6 +64,8 @@ impl<W: PayloadKind> PlainHeap<W> {
     pub fn settle(&mut self) -> Result<u64, OutOfMemory>
         ensures settles { IfOk result (λ total. SettlesTo W.weight self.old total self.new) }
         ensures settled { OnOk result (IsSettled self.new) }
+        ensures ejects { IfOk result (λ total.
+            SettlesInOrder W.weight self.old total self.new) }
         ensures err { OnErr result (self.new ≡ self.old) }
     {
         self.store.make_room()?;

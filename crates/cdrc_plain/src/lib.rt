@@ -5,7 +5,7 @@
 //! deferred entry, each ended object waits in one dying list, and nothing else has fields. Objects end and slots are
 //! given again when the heap settles.
 //!
-//! It doesn't promise that want of memory comes only where a growth was refused, nor which slot a make takes. Strong
+//! It doesn't promise that `OutOfMemory` comes only where a growth was refused, nor which slot a make takes. Strong
 //! cycles are never freed.
 //!
 //! ```text
@@ -37,4 +37,6 @@ pub use plain_state::{
     Announced, EventPlace, Heap, Kind, PayloadKind, PlainAct, PlainSlot, RecordKind, SlotId,
     SlotImage, Stage, ZERO, record_of, steps_keep_sound,
 };
-pub use plain_store::{Hand, MakeRefused, PlainPlace, PlainWeakPlace, SnapHand, WeakHand, counted};
+pub use plain_store::{
+    Full, Hand, MakeRefused, PlainPlace, PlainWeakPlace, SnapHand, WeakHand, counted,
+};

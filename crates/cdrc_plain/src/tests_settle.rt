@@ -131,6 +131,16 @@ fn settles_after_each_put(rt: HostRuntime) {
 }
 
 #[test]
+fn settles_many_puts_at_once(rt: HostRuntime) {
+    let mut heap = heap_of(&rt, rt.alloc(), 100_000, 1);
+    for _ in 0..100_000 {
+        let next = make(&rt, &mut heap, 2);
+        put(&rt, &mut heap, next);
+    }
+    assert!(rt; matches!(heap.settle(), Ok(199_998)));
+}
+
+#[test]
 fn settles_a_long_chain(rt: HostRuntime) {
     let mut heap = heap_of(&rt, rt.alloc(), 100_000, 0);
     let mut last = make(&rt, &mut heap, 5);

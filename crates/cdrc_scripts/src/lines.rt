@@ -5,12 +5,12 @@ ghost use Rattle.plain_store.specs.Settling.{IsSettled};
 ghost use Rattle.script_lines.specs.Spelling.{Spells, SpellsCommand};
 ghost use Rattle.script_lines.specs.declared.command.ScriptLine.TheVariants.{Heap, Command as OnHeap};
 ghost use Rattle.script_lines.specs.declared.command.Command.{Command as OneCommand};
-ghost use Rattle.script_lines.specs.declared.refused.LineRefused.TheVariants.{Syntax};
+ghost use Rattle.script_lines.specs.declared.refused.CommandRefused.TheVariants.{Syntax};
 ghost use Rattle.cdrc_scripts.specs.Meaning.{IsHeapInRange, IsOpened};
 
 use out_of_memory::OutOfMemory;
 use script_desk::Desk;
-use script_lines::{Command, LineRefused, ScriptLine, script_line};
+use script_lines::{Command, CommandRefused, ScriptLine, script_line};
 use std::alloc::Global;
 
 const MOST_SLOTS: u128 = 4_194_304;
@@ -45,14 +45,14 @@ fn numbers_of(line: ScriptLine) -> Option<HeapNumbers>
 
 /// The numbers that the words give a heap. Syntax exactly where they spell no heap.
 #[tactic(auto, using(crate::proofs::OneLine::one_line))]
-pub(crate) fn heap_numbers(alloc: Global, words: &[&[u8]]) -> Result<HeapNumbers, LineRefused>
+pub(crate) fn heap_numbers(alloc: Global, words: &[&[u8]]) -> Result<HeapNumbers, CommandRefused>
     ensures ok { IfOk result (λ n.
         Spells (Heap n.slots n.cells n.weak_cells) (texts_of words.now)) }
     ensures syntax { result ≡ Err Syntax → (slots cells weak_cells : ℕ)
         → Spells (Heap slots cells weak_cells) (texts_of words.now) → ⊥ }
 {
     let line = script_line(alloc, words)?;
-    numbers_of(line).ok_or(LineRefused::Syntax)
+    numbers_of(line).ok_or(CommandRefused::Syntax)
 }
 
 /// The command that a line is, if it is one.
@@ -68,13 +68,13 @@ fn as_command(line: ScriptLine) -> Option<Command>
 
 /// The command that the words spell. Syntax exactly where they spell none.
 #[tactic(auto, using(crate::proofs::OneLine::one_line))]
-pub(crate) fn command_of(alloc: Global, words: &[&[u8]]) -> Result<Command, LineRefused>
+pub(crate) fn command_of(alloc: Global, words: &[&[u8]]) -> Result<Command, CommandRefused>
     ensures ok { IfOk result (λ command. SpellsCommand command (texts_of words.now)) }
     ensures syntax { result ≡ Err Syntax → (command : OneCommand)
         → SpellsCommand command (texts_of words.now) → ⊥ }
 {
     let line = script_line(alloc, words)?;
-    as_command(line).ok_or(LineRefused::Syntax)
+    as_command(line).ok_or(CommandRefused::Syntax)
 }
 
 /// The desk of a heap with these numbers and nothing in it. None exactly where a number leaves its range.

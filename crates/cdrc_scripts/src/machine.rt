@@ -13,7 +13,7 @@ use line_machine::LineMachine;
 use line_words::{Reason, push_refused};
 use out_of_memory::OutOfMemory;
 use script_desk::Desk;
-use script_lines::{Command, LineRefused};
+use script_lines::{Command, CommandRefused};
 use std::alloc::Global;
 
 /// Runs the command, where it has no fault, and appends its line.
@@ -53,8 +53,8 @@ fn take_command(
 {
     let command = match command_of(alloc, words) {
         Ok(command) => command,
-        Err(LineRefused::Syntax) => return Ok(Some(Reason::Syntax)),
-        Err(LineRefused::OutOfMemory) => return Err(OutOfMemory),
+        Err(CommandRefused::Syntax) => return Ok(Some(Reason::Syntax)),
+        Err(CommandRefused::OutOfMemory) => return Err(OutOfMemory),
     };
     run_command(desk, &command, text)
 }
@@ -68,8 +68,8 @@ fn begin(alloc: Global, words: &[&[u8]]) -> Result<Result<Desk, Reason>, OutOfMe
 {
     let numbers = match heap_numbers(alloc, words) {
         Ok(numbers) => numbers,
-        Err(LineRefused::Syntax) => return Ok(Err(Reason::Syntax)),
-        Err(LineRefused::OutOfMemory) => return Err(OutOfMemory),
+        Err(CommandRefused::Syntax) => return Ok(Err(Reason::Syntax)),
+        Err(CommandRefused::OutOfMemory) => return Err(OutOfMemory),
     };
     match open(alloc, numbers)? {
         Some(desk) => Ok(Ok(desk)),

@@ -1,5 +1,5 @@
 -- Which numbers of an event are in their ranges, in a domain of this shape.
-use Rattle.std.specs.Prelude.{◌<◌, ◌^◌, ⊤, Option, Some, None}
+use Rattle.std.specs.Prelude.{◌<◌, ◌^◌, ⊤}
 use Rattle.plain_state.specs.declared.act.EventPlace.{EventPlace}
 use Rattle.plain_state.specs.declared.act.EventPlace.TheVariants.{Cell, Field, WeakCell, WeakField}
 use Rattle.plain_state.specs.declared.slot.SlotId.{SlotId}
@@ -7,14 +7,10 @@ use Rattle.core_events.specs.declared.act.Act.{Act}
 use Rattle.core_events.specs.declared.act.Act.TheVariants as act
 use Rattle.core_events.specs.declared.act.Event.{Event}
 use Rattle.core_events.specs.declared.shape.Shape.{Shape}
+use Rattle.core_events.specs.Steps.{IsContent}
 
 abbrev pub HasSlot : Shape → SlotId → Type 0
 HasSlot z s = s.0 < z.slots
-
--- null is always there
-abbrev pub HasContent : Shape → Option SlotId → Type 0
-HasContent z None = ⊤
-HasContent z (Some s) = HasSlot z s
 
 abbrev pub HasPlace : Shape → EventPlace → Type 0
 HasPlace z (Cell i) = i < z.cells
@@ -32,8 +28,8 @@ HasNumbersOf z (act.Release j) = j < 4
 HasNumbersOf z (act.Alive j) = j < 4
 HasNumbersOf z (act.Look p) = HasPlace z p
 HasNumbersOf z (act.Check j p) = (j < 4) × HasPlace z p
-HasNumbersOf z (act.Swap p new) = HasPlace z p × HasContent z new
-HasNumbersOf z (act.Cas p old new) = HasPlace z p × HasContent z old × HasContent z new
+HasNumbersOf z (act.Swap p new) = HasPlace z p × IsContent z new
+HasNumbersOf z (act.Cas p old new) = HasPlace z p × IsContent z old × IsContent z new
 HasNumbersOf z (act.Claim s) = HasSlot z s
 HasNumbersOf z (act.Fill i value) = (i < 16) × (value < 2 ^ 64)
 HasNumbersOf z (act.See s i) = HasSlot z s × (i < 16)

@@ -12,7 +12,7 @@ use line_machine::LineMachine;
 use line_words::{Reason, push_refused};
 use out_of_memory::OutOfMemory;
 use std::alloc::Global;
-use step_lines::{LineRefused, event_line, push_event, shape_line};
+use step_lines::{EventRefused, event_line, push_event, shape_line};
 
 impl Running {
     /// Makes the event that the words spell, and appends its name and its outcome.
@@ -26,8 +26,8 @@ impl Running {
         let shape = self.core.shape();
         let event = match event_line(words) {
             Ok(event) => event,
-            Err(LineRefused::Syntax) => return Ok(Some(Reason::Syntax)),
-            Err(LineRefused::Range) => return Ok(Some(Reason::Range)),
+            Err(EventRefused::Syntax) => return Ok(Some(Reason::Syntax)),
+            Err(EventRefused::Range) => return Ok(Some(Reason::Range)),
         };
         if !is_in_range(&shape, event) {
             return Ok(Some(Reason::Range));
@@ -55,8 +55,8 @@ impl StepMachine {
     {
         let shape = match shape_line(words) {
             Ok(shape) => shape,
-            Err(LineRefused::Syntax) => return Ok(Some(Reason::Syntax)),
-            Err(LineRefused::Range) => return Ok(Some(Reason::Range)),
+            Err(EventRefused::Syntax) => return Ok(Some(Reason::Syntax)),
+            Err(EventRefused::Range) => return Ok(Some(Reason::Range)),
         };
         match open(alloc, shape)? {
             None => Ok(Some(Reason::Range)),

@@ -1,22 +1,14 @@
 //! Whether the numbers of an event are in their ranges.
 ghost use Rattle.std.specs.Prelude.{◌↔◌, IsTrue};
-ghost use Rattle.cdrc_steps.specs.Ranges.{HasContent, HasNumbersOf, HasPlace, HasSlot, IsInRange};
+ghost use Rattle.cdrc_steps.specs.Ranges.{HasNumbersOf, HasPlace, HasSlot, IsInRange};
 
 use core_events::{Act, Event, EventPlace, Shape, SlotId};
+use core_functions::is_content;
 
 fn has_slot(shape: &Shape, slot: SlotId) -> bool
     ensures { IsTrue result ↔ HasSlot shape.now slot }
 {
     slot.0 < shape.slots
-}
-
-fn has_content(shape: &Shape, content: Option<SlotId>) -> bool
-    ensures { IsTrue result ↔ HasContent shape.now content }
-{
-    match content {
-        None => true,
-        Some(slot) => has_slot(shape, slot),
-    }
 }
 
 fn has_place(shape: &Shape, place: EventPlace) -> bool
@@ -45,9 +37,9 @@ fn has_numbers_of(shape: &Shape, act: Act) -> bool
         Act::Release(note) | Act::Alive(note) => note < 4,
         Act::Look(place) => has_place(shape, place),
         Act::Check(note, place) => note < 4 && has_place(shape, place),
-        Act::Swap(place, new) => has_place(shape, place) && has_content(shape, new),
+        Act::Swap(place, new) => has_place(shape, place) && is_content(shape, new),
         Act::Cas(place, old, new) => {
-            has_place(shape, place) && has_content(shape, old) && has_content(shape, new)
+            has_place(shape, place) && is_content(shape, old) && is_content(shape, new)
         }
         Act::Fill(word, _) => word < 16,
         Act::See(slot, word) => has_slot(shape, slot) && word < 16,

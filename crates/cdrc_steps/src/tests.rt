@@ -192,7 +192,7 @@ events 21
 }
 
 /// Texts whose first line that isn't made is refused, each with the line that tells so.
-const REFUSED: [(&str, &str); 36] = [
+const REFUSED: [(&str, &str); 39] = [
     ("", "line 1 refused: syntax\n"),
     ("\n# shape 1 1 0 0 4\n \t\n#", "line 1 refused: syntax\n"),
     ("0 claim 0\n", "line 1 refused: syntax\n"),
@@ -239,6 +239,18 @@ const REFUSED: [(&str, &str); 36] = [
     ("shape 1 1 0 0 4\n0 free", "line 2 refused: not enabled\n"),
     ("shape 1 1 0 0 4\n7 destroy 7", "line 2 refused: range\n"),
     ("shape 2 1 0 0 4\n0 leave 2", "line 2 refused: range\n"),
+    (
+        "shape 2 1 0 0 4\n0 leave 0",
+        "line 2 refused: not enabled\n",
+    ),
+    (
+        "shape 2 1 0 0 4\n1 leave 0",
+        "line 2 refused: not enabled\n",
+    ),
+    (
+        "shape 1 70 0 0 4\n0 claim 99999999999999999999",
+        "line 2 refused: range\n",
+    ),
     (
         "shape 1 1 0 0 4\n0 wcount 0",
         "line 2 refused: not enabled\n",

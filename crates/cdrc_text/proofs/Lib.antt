@@ -4,6 +4,7 @@ pub mod Cutting
 pub mod Fields
 pub mod Listed
 pub mod Reported
+pub mod Runs
 pub mod Scan
 pub mod Sorting
 pub mod Unique

@@ -5,7 +5,7 @@ use Rattle.cdrc_text.specs.declared.error.PiecesError.{PiecesError}
 use Rattle.cdrc_text.specs.declared.error.PiecesError.TheVariants.{TooMany, OutOfMemory}
 
 -- there are more pieces than the limit, and the answer is the place of the first one over it
--- (want of memory says nothing)
+-- (an allocation failure says nothing)
 abbrev pub IsCauseOf : List ℕ → ℕ → PiecesError → Type 0
 IsCauseOf bytes limit (TooMany place) =
     (limit < length (pieces_of bytes)) × (place ≡ place_over bytes limit)

@@ -18,7 +18,7 @@ const LONGEST: usize = 120;
 /// Linear in the bytes.
 ///
 /// It is refused exactly where there are more than `limit` pieces, with the place of the first piece over the
-/// limit, and reads no further then; and it may want memory.
+/// limit, and reads no further then; and an allocation may fail.
 pub fn pieces(alloc: Global, bytes: &[u8], limit: u64) -> Result<Pieces, PiecesError>
     ensures places { IfOk result (λ found. found ≡ places_of bytes.now) }
     ensures texts { IfOk result (λ found. map (bytes_at bytes.now) found ≡ pieces_of bytes.now) }

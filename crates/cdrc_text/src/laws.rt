@@ -1,16 +1,29 @@
 //! What holds of the definitions themselves: the text of some files is one, and a report of their counts is it.
 
-ghost use Rattle.std.specs.Prelude.{◌≡◌, ◌<◌, ◌++◌, ℕ, List, [], ◌∷◌, map, codes, replicate};
+ghost use Rattle.std.specs.Prelude.{◌≡◌, ◌<◌, ◌++◌, ℕ, List, [], ◌∷◌, length, map, codes, replicate};
 ghost use Rattle.std.specs.List.{All};
 ghost use Rattle.std.specs.Map.{keys_of};
+ghost use Rattle.bstr.specs.Fields.{SpanChain};
+ghost use Rattle.bstr.specs.Text.{part};
 ghost use Rattle.cdrc_text.specs.declared.row.Row.{Row};
 ghost use Rattle.cdrc_text.specs.declared.row.Totals.{Totals};
 ghost use Rattle.cdrc_text.specs.Fold.{IsWords, occurrences_of};
 ghost use Rattle.cdrc_text.specs.Generated.{generated_text};
-ghost use Rattle.cdrc_text.specs.Pieces.{pieces_of, places_of};
+ghost use Rattle.cdrc_text.specs.Pieces.{fields_of, pieces_of, places_of, spans_of};
 ghost use Rattle.cdrc_text.specs.Report.{report_of};
+ghost use Rattle.cdrc_text.specs.Runs.{AreMaximalRuns, field_places};
 ghost use Rattle.cdrc_text.specs.Tally.{ListsWords, count_of};
 ghost use Rattle.cdrc_text.specs.Text.{IsRowOf, IsText, text_of, totals_of, word_of};
+
+/// The fields of a text, which are cut into the pieces, are its maximal runs without white space, in their order: the
+/// bytes at each field's place are the field, and the places are those of the runs. The characters of the text follow
+/// each other from its first byte.
+pub fn fields_are_maximal_runs()
+    ensures fields { (bytes : List ℕ)
+        → fields_of bytes ≡ map (λ f. part f.0 f.1 bytes) (field_places bytes) }
+    ensures runs { (bytes : List ℕ) → AreMaximalRuns (field_places bytes) (spans_of bytes) }
+    ensures characters { (bytes : List ℕ) → SpanChain 0 (length bytes) (spans_of bytes) }
+{}
 
 /// The files and the rounds determine the text.
 pub fn text_is_one()

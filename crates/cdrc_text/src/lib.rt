@@ -4,7 +4,7 @@
 //! and a field longer than 120 bytes counts as its consecutive pieces of 120 bytes, the last being the rest. `Tally`
 //! counts words. `report` writes a line for each word and three lines of totals, byte for byte as `report_of` says.
 //!
-//! Only a want of memory is left open: no contract says when it comes.
+//! Only an allocation failure is left open: no contract says when it comes.
 //!
 //! ```text
 //! let found = pieces(alloc, text, 1_000_000)?;

@@ -76,8 +76,8 @@ fn push_audit(text: &mut Vec<u8>, name: &[u8], audit: AuditLine) -> Result<(), O
     Ok(())
 }
 
-/// Puts the label and then the number, in decimal, at the end of the text. A refusal, for want of memory, leaves the
-/// text as it was or with the label alone behind it. Linear in the bytes it writes.
+/// Puts the label and then the number, in decimal, at the end of the text. A refusal, for an allocation failure,
+/// leaves the text as it was or with the label alone behind it. Linear in the bytes it writes.
 pub fn push_number(text: &mut Vec<u8>, label: &[u8], number: u64) -> Result<(), OutOfMemory>
     ensures { OnOk result (text.new.items ≡ text.old.items ++ label.now ++ decimal number) }
 {

@@ -37,7 +37,8 @@ impl Tally {
         }
     }
 
-    /// Counts the piece once more. A refusal, for want of memory, comes for a new word alone and changes nothing.
+    /// Counts the piece once more. A refusal, for an allocation failure, comes for a new word alone and changes
+    /// nothing.
     pub fn add(&mut self, piece: &[u8]) -> Result<(), OutOfMemory>
         requires { total_of self.old < 2 ^ 63 }
         ensures ok { OnOk result (CountsOneMore self.old self.new piece.now) }

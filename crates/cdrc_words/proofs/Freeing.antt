@@ -8,19 +8,18 @@ use Rattle.plain_state.specs.declared.act.PlainAct.{PlainAct}
 use Rattle.plain_state.specs.declared.act.PlainAct.TheVariants as act
 use Rattle.plain_state.specs.declared.act.EventPlace.{EventPlace}
 use Rattle.plain_state.specs.declared.act.EventPlace.TheVariants.{Cell, Field, WeakCell, WeakField}
-use Rattle.plain_state.specs.declared.slot.Kind.{Kind}
 use Rattle.plain_state.specs.declared.slot.Kind.TheVariants.{Strong, Weak}
 use Rattle.plain_state.specs.declared.slot.SlotId.{SlotId}
 use Rattle.plain_state.specs.declared.slot.PlainSlot.{PlainSlot}
 use Rattle.plain_state.specs.declared.slot.Stage.TheVariants.{Free, Ended, Husk}
-use Rattle.plain_state.specs.Lists.{Entry, times, entry_times}
+use Rattle.plain_state.specs.Lists.{times, entry_times}
 use Rattle.plain_state.specs.State.{Plain, PlainSeat, new_seat, new_slot, seat_at, slot_at, with_seat, with_slot}
 use Rattle.plain_state.specs.Places.{content, with_field}
 use Rattle.plain_state.specs.Lawful.{HasNullFields}
 use Rattle.plain_state.specs.Sound.{Sound}
 use Rattle.plain_state.specs.Steps.{Does, joined}
 use Rattle.plain_store.specs.Settling.{Settles, SettlesBy}
-use Rattle.plain_state.proofs.Kit.{times_push, times_loses, entry_none, entry_cons, entry_self, entry_lost}
+use Rattle.plain_state.proofs.Kit.{times_push, times_loses, entry_none, entry_lost}
 use Rattle.plain_state.proofs.EveryStep.{step_sound}
 use Rattle.cdrc_words.specs.Records.{OwnsOnly}
 
@@ -53,10 +52,6 @@ drop_one p q s hands found o (here, (xs, l, z, e)) =
 null_at : (p : Plain) (s : SlotId) → All HasNullFields p.slots → HasNullFields (slot_at p s)
 null_at p s all = ⊎_elim (λ lt. All-get_or HasNullFields p.slots s.0 new_slot lt all)
     (λ le. subst HasNullFields (sym (get_or_past p.slots s.0 new_slot le)) (refl, refl, refl)) (cases_lt s.0 (length p.slots))
-
-none_left : (es : List Entry) → ((k : Kind) (s : SlotId) → entry_times k s es ≡ 0) → es ≡ []
-none_left [] h = refl
-none_left (e ∷ es) h = absurd (omega (arith, h e.0 e.1, entry_cons e.0 e.1 e es, entry_self e.0 e.1))
 
 -- one slot is written, and keeps null fields
 slot_written : (p q : Plain) (w : PlainSeat) (s : SlotId) (y : PlainSlot) → OwnsOnly p [] → Sound q
@@ -101,7 +96,7 @@ clear_step p q (WeakField s) found o so (here, (dying, z, e)) =
     (ap (λ (c : Option SlotId). joined Weak c (seat_at p 0).deferred) n.2 ∙ o.deferred) (n.0, n.1, refl)
 
 -- no step that settles brings a reference back
-settle_step : (p q : Plain) (a : PlainAct) (found : ℕ) → OwnsOnly p [] → Settles p a → Does p 0 a found q → OwnsOnly q []
+settle_step : (p q : Plain) (a : PlainAct) (found : ℕ) → OwnsOnly p [] → Settles p a q → Does p 0 a found q → OwnsOnly q []
 settle_step p q (act.Eject k s) found o may (here, (es, l, z, e, covered)) =
     absurd (omega (arith, entry_lost k s (seat_at p 0).deferred es l, ap (entry_times k s) o.deferred, entry_none k s))
 settle_step p q (act.End s) found o may (here, (live, dead, z, e)) =
@@ -113,11 +108,6 @@ settle_step p q (act.Destroy s) found o may (here, (nulls, under, z, (xs, l, e))
     (step_sound p q 0 (act.Destroy s) found o.sound (here, (nulls, under, z, (xs, l, e)))) e refl o.snapshots o.deferred nulls
 settle_step p q (act.Give s) found o may (here, (husk, none, z, e)) =
     slot_alone p q s (record (slot_at p s) { stage = Free }) o (step_sound p q 0 (act.Give s) found o.sound (here, (husk, none, z, e))) e (null_at p s o.fields)
-settle_step p q act.Split found o may (here, (z, (es, same, e))) =
-    seat_written p q [] [] (record (seat_at p 0) { deferred = es }) o (step_sound p q 0 act.Split found o.sound (here, (z, (es, same, e))))
-    (ap (λ (r : Plain). r.seats) e) o.owned o.snapshots
-    (none_left es (λ k s. same k s ∙ ap (entry_times k s) o.deferred ∙ entry_none k s))
-    (ap (λ (r : Plain). r.cells) e) (subst (λ (r : Plain). All HasNullFields r.slots) (sym e) o.fields)
 settle_step p q _ found o may d = absurd may
 
 pub settles_free : (weight : List ℕ → ℕ) (acts : List PlainAct) (p q : Plain) (total : ℕ) → OwnsOnly p [] → SettlesBy weight acts p total q → OwnsOnly q []

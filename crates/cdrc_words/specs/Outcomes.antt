@@ -46,7 +46,7 @@ pub record IsOutputOf (task : Task) (told : Option (List ℕ)) (bytes : List ℕ
 abbrev pub TookAll : List ℕ → Option (List ℕ) → Option (List ℕ) → Type 0
 TookAll bytes before now = now ≡ append_known before bytes
 
--- it took a front of them, and not all
+-- it took a prefix of them, and not all
 abbrev pub TookPart : List ℕ → Option (List ℕ) → Option (List ℕ) → Type 0
 TookPart bytes before now =
     (n : ℕ) × (n < length bytes) × (now ≡ append_known before (take n bytes))
@@ -56,7 +56,7 @@ abbrev pub TookOutput : Task → Option (List ℕ) → Bool → Option (List ℕ
 TookOutput task told refused before now =
     (bytes : List ℕ) × IsOutputOf task told bytes refused × TookAll bytes before now
 
--- it took a front of the output, and not all
+-- it took a prefix of the output, and not all
 abbrev pub TookPartOfOutput : Task → Option (List ℕ) → Option (List ℕ) → Option (List ℕ) → Type 0
 TookPartOfOutput task told before now =
     (bytes : List ℕ) × (refused : Bool) × IsOutputOf task told bytes refused × TookPart bytes before now
@@ -78,8 +78,8 @@ IsTooLarge task told before now =
 abbrev pub text_of_draws : Draws → List ℕ
 text_of_draws draws = generated_text draws.seed draws.words draws.vocabulary
 
--- the end of a run whose output is these bytes: with 0 a sink took them all, with 4 a front of them, with 9 a front or
--- nothing. A front is never all, and there is no other status
+-- the end of a run whose output is these bytes: with 0 a sink took them all, with 4 a prefix of
+-- them, with 9 a prefix or nothing. A prefix is never all, and there is no other status
 abbrev pub EndsWith : List ℕ → ℕ → Option (List ℕ) → Option (List ℕ) → Type 0
 EndsWith bytes status before now =
     ((status ≡ 0) × TookAll bytes before now)

@@ -6,7 +6,7 @@ ghost use Rattle.cdrc_words.specs.Statuses.{line_for};
 use std::io::ErrorKind;
 
 /// The status that the process ends with: that of the run; where the words of the command line couldn't be had, 9 for
-/// want of memory, and else 2, since a word that isn't UTF-8 is no word of the grammar.
+/// an allocation failure, and else 2, since a word that isn't UTF-8 is no word of the grammar.
 pub fn exit_status(outcome: Result<u8, ErrorKind>) -> u8
     ensures ran { IfOk outcome (λ status. result ≡ status) }
     ensures memory { outcome ≡ Err kinds.OutOfMemory → result ≡ 9 }

@@ -8,7 +8,7 @@ use crate::outcome::Refusal;
 use lane_gate::{Sink, SinkFault};
 
 /// Offers the sink all bytes that it hasn't taken yet, until it took all. Write comes only where the sink's count of
-/// faults rose; after a refusal the sink took a front of the bytes, and not all.
+/// faults rose; after a refusal the sink took a prefix of the bytes, and not all.
 pub fn write_all<K: Sink>(sink: &mut K, bytes: &[u8]) -> Result<(), Refusal>
     ensures all { OnOk result (TookAll bytes.now (K.taken sink.old) (K.taken sink.new)) }
     ensures part { OnErr result (TookPart bytes.now (K.taken sink.old) (K.taken sink.new)) }

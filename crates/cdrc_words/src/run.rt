@@ -28,7 +28,7 @@ use std::thread::Threads;
 /// output's last line tells; 9 where there was no memory, which may come in place of any but 2. Over a source that
 /// doesn't tell the content, what is said of it is said of some content.
 ///
-/// With 0 and 8 the sink took the whole output, with 4 a front of it, with 9 a front or nothing, and else nothing.
+/// With 0 and 8 the sink took the whole output, with 4 a prefix of it, with 9 a prefix or nothing, and else nothing.
 pub fn run<R: Threads + Wait + Sync, F: Files, K: Sink, G: Gate + Sync>(
     rt: &R,
     alloc: Global,

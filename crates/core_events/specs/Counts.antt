@@ -13,7 +13,9 @@ use Rattle.core_events.specs.declared.view.Note.{Note}
 use Rattle.core_events.specs.declared.view.Note.TheVariants as note
 use Rattle.core_events.specs.declared.view.Phase.{Phase}
 use Rattle.core_events.specs.declared.view.Phase.TheVariants as phase
-use Rattle.core_events.specs.Words.{has_zero, has_help, code, strong_at, weak_at, cell_at, weak_cell_at, field_at, weak_field_at, bits_at, bit_in, ticket_at}
+use Rattle.core_events.specs.Words.{strong_at, weak_at, cell_at, weak_cell_at, field_at, weak_field_at, bits_at, bit_in, ticket_at}
+use Rattle.announce_slots.specs.Words.{code}
+use Rattle.counter_word.specs.Words.{has_zero, has_help}
 use Rattle.core_events.specs.Runs.{Core}
 
 -- 1 where they are the same slot

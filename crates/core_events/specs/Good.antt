@@ -11,7 +11,9 @@ use Rattle.core_events.specs.declared.view.CoreView.{CoreView}
 use Rattle.core_events.specs.declared.view.Note.{Note}
 use Rattle.core_events.specs.declared.view.Note.TheVariants as note
 use Rattle.core_events.specs.declared.view.Phase.TheVariants as phase
-use Rattle.core_events.specs.Words.{ZERO, has_help, low, value, note_at, code, bitmaps, word_count}
+use Rattle.core_events.specs.Words.{note_at, bitmaps, word_count}
+use Rattle.announce_slots.specs.Words.{code}
+use Rattle.counter_word.specs.Words.{ZERO, has_help, low, value}
 use Rattle.core_events.specs.Views.{note_of, room_of, allowed_makes}
 use Rattle.core_events.specs.Runs.{Core, view_at, HasNullFields, IsQuota}
 use Rattle.core_events.specs.Counts.{total, listed, naming, refs, places, finishers, helpers, barers, fillers, givers, dying_times, adds_used, strong, weak, free_bit, tickets_drawn, ticket_times, stage, guarding}

@@ -1,9 +1,9 @@
 pub mod Words
 pub mod Views
-pub mod Ejection
 pub mod Steps
 pub mod Runs
 pub mod Counts
 pub mod Good
 pub mod Shows
 pub mod ShownSteps
+pub mod Counters

@@ -1,9 +1,10 @@
 -- Which step of the plain state each event shows.
-use Rattle.std.specs.Prelude.{ℕ, ◌==◌, nat_lt, Bool, false, List, [], ◌∷◌, if◌then◌else◌}
+use Rattle.std.specs.Prelude.{ℕ, ◌==◌, nat_lt, Bool, false, List, [], ◌∷◌, Option, Some, None, if◌then◌else◌}
 use Rattle.plain_state.specs.declared.act.EventPlace.{EventPlace}
 use Rattle.plain_state.specs.declared.act.EventPlace.TheVariants.{Cell, Field, WeakCell, WeakField}
 use Rattle.plain_state.specs.declared.act.PlainAct.{PlainAct}
 use Rattle.plain_state.specs.declared.act.PlainAct.TheVariants as plain
+use Rattle.plain_state.specs.declared.slot.SlotId.{SlotId}
 use Rattle.plain_state.specs.Lists.{Entry, times}
 use Rattle.core_events.specs.declared.act.Act.{Act}
 use Rattle.core_events.specs.declared.act.Act.TheVariants as act
@@ -11,7 +12,8 @@ use Rattle.core_events.specs.declared.shape.Shape.{Shape}
 use Rattle.core_events.specs.declared.view.CoreView.{CoreView}
 use Rattle.core_events.specs.declared.view.Note.{Note}
 use Rattle.core_events.specs.declared.view.Note.TheVariants as note
-use Rattle.core_events.specs.Words.{ZERO, has_help, value, bit_in}
+use Rattle.core_events.specs.Words.{bit_in}
+use Rattle.counter_word.specs.Words.{ZERO, has_help, value}
 use Rattle.core_events.specs.Views.{note_of, slot_of}
 use Rattle.core_events.specs.Steps.{is_last}
 
@@ -33,15 +35,20 @@ is_ripe_field v (Field s i) = nat_lt 0 (times s v.ripe)
 is_ripe_field v (WeakCell i) = false
 is_ripe_field v (WeakField s) = nat_lt 0 (times s v.ripe)
 
+-- a plain step on a slot, where there is one
+abbrev pub on_slot : (SlotId → PlainAct) → Option SlotId → PlainAct
+on_slot f None = plain.Still
+on_slot f (Some s) = f s
+
 -- the plain step that an act shows, where it finds w
 abbrev pub shown_act : Shape → Act → ℕ → CoreView → PlainAct
 shown_act z (act.Add s) w v = plain.Add s
 shown_act z (act.Drop s) w v = plain.Drop s
 shown_act z act.Pay w v = ejects v.owed
-shown_act z act.Finish w v = if w == 0 then plain.End (slot_of v.phase) else plain.Still
-shown_act z act.Take w v = if has_help w then plain.End (slot_of v.phase) else plain.Still
+shown_act z act.Finish w v = if w == 0 then on_slot plain.End (slot_of v.phase) else plain.Still
+shown_act z act.Take w v = if has_help w then on_slot plain.End (slot_of v.phase) else plain.Still
 shown_act z (act.Count s) w v = plain.Count s
-shown_act z act.Mark w v = plain.Mark (slot_of v.phase)
+shown_act z act.Mark w v = on_slot plain.Mark (slot_of v.phase)
 shown_act z (act.Announce j k s) w v = plain.Still
 shown_act z (act.Release j) w v = releases (note_of v j)
 shown_act z (act.Look p) w v = plain.Look p
@@ -52,10 +59,10 @@ shown_act z (act.Swap p new) w v = if is_ripe_field v p then plain.Clear p else 
 shown_act z (act.Cas p old new) w v = plain.TryReplace p old new
 shown_act z (act.Claim s) w v = if bit_in s w == 1 then plain.Claim s else plain.Still
 shown_act z act.Arm w v = plain.Still
-shown_act z (act.Fill i x) w v = plain.Fill (slot_of v.phase) i x
-shown_act z act.Start w v = plain.Make (slot_of v.phase)
+shown_act z (act.Fill i x) w v = on_slot (λ s. plain.Fill s i x) (slot_of v.phase)
+shown_act z act.Start w v = on_slot plain.Make (slot_of v.phase)
 shown_act z (act.See s i) w v = plain.See s i
-shown_act z act.Free w v = plain.Give (slot_of v.phase)
+shown_act z act.Free w v = on_slot plain.Give (slot_of v.phase)
 shown_act z act.Ticket w v = plain.Ticket
 shown_act z (act.Wadd s) w v = plain.WeakGain s
 shown_act z (act.Wdrop s) w v = plain.WeakDrop s

@@ -8,7 +8,8 @@ use Rattle.core_events.specs.declared.shape.Shape.{Shape}
 use Rattle.core_events.specs.declared.view.CoreView.{CoreView}
 use Rattle.core_events.specs.declared.view.Phase.{Phase}
 use Rattle.core_events.specs.declared.view.Phase.TheVariants as phase
-use Rattle.core_events.specs.Words.{each_from, has_zero, slot_in, cell_at, weak_cell_at, field_at, weak_field_at, payload_at}
+use Rattle.core_events.specs.Words.{each_from, slot_in, cell_at, weak_cell_at, field_at, weak_field_at, payload_at}
+use Rattle.counter_word.specs.Words.{has_zero}
 use Rattle.core_events.specs.Views.{snapshots}
 use Rattle.core_events.specs.Runs.{Core}
 use Rattle.core_events.specs.Counts.{total, strong, stage, tickets_drawn}

@@ -1,7 +1,6 @@
 -- The table of events: for each act the word that it works on, what becomes of that word, when a
 -- seat may do it, what it answers, and what the seat has afterwards. w is the word found.
-use Rattle.std.specs.Prelude.{ℕ, ◌≡◌, ◌≢◌, ◌⊎◌, ◌+◌, ◌-◌, ◌%◌, ◌^◌, ◌<◌, ◌==◌, ◌&&◌, not, nat_lt, bit_and, Bool, false, List, [], ◌∷◌, ◌++◌, length, slice_set, Option, Some, None, if◌then◌else◌}
-use Rattle.std.specs.List.{filter}
+use Rattle.std.specs.Prelude.{ℕ, ◌≡◌, ◌≢◌, ◌⊎◌, ◌+◌, ◌-◌, ◌%◌, ◌^◌, ◌<◌, ◌==◌, nat_lt, bit_and, Bool, false, List, [], ◌∷◌, ◌++◌, length, slice_set, Option, Some, None, if◌then◌else◌}
 use prog.Atomic.{either}
 use Rattle.plain_state.specs.declared.slot.Kind.{Kind}
 use Rattle.plain_state.specs.declared.slot.Kind.TheVariants.{Strong, Weak, Disposal}
@@ -19,9 +18,12 @@ use Rattle.core_events.specs.declared.view.Note.{Note}
 use Rattle.core_events.specs.declared.view.Note.TheVariants as note
 use Rattle.core_events.specs.declared.view.Phase.{Phase}
 use Rattle.core_events.specs.declared.view.Phase.TheVariants as phase
-use Rattle.core_events.specs.Words.{ZERO, HELP, has_help, value, note_at, strong_at, weak_at, payload_at, place_at, bits_at, bit_alone, bit_in, ticket_at, announcements, slot_in, code}
-use Rattle.core_events.specs.Ejection.{kept, ejected, is_seen}
-use Rattle.core_events.specs.Views.{note_of, slot_of, slot_noted, without, Holds, IsOpen, IsReadable, IsRipeField, allowed_makes}
+use Rattle.core_events.specs.Words.{note_at, strong_at, weak_at, payload_at, place_at, bits_at, bit_alone, bit_in, ticket_at, announcements, slot_in}
+use Rattle.announce_slots.specs.Words.{code}
+use Rattle.counter_word.specs.Words.{ZERO, HELP, has_help, value}
+use Rattle.plain_state.specs.Ejection.{Announcements, kept, ejected, ripened}
+use Rattle.announce_slots.specs.Seen.{announced_in}
+use Rattle.core_events.specs.Views.{note_of, slot_of, slot_noted, of_slot, about, alone, without, Holds, IsOpen, IsReadable, IsRipeField, allowed_makes}
 
 -- the counter word of a reference. No reference is of the kind Disposal
 abbrev pub counter_at : Shape → Kind → SlotId → ℕ
@@ -39,24 +41,24 @@ abbrev pub place : Shape → Act → CoreView → ℕ
 place z (act.Add s) v = strong_at z s
 place z (act.Drop s) v = strong_at z s
 place z act.Pay v = owed_at z v.owed
-place z act.Finish v = strong_at z (slot_of v.phase)
-place z act.Take v = strong_at z (slot_of v.phase)
+place z act.Finish v = of_slot (strong_at z) (slot_of v.phase)
+place z act.Take v = of_slot (strong_at z) (slot_of v.phase)
 place z (act.Count s) v = strong_at z s
-place z act.Mark v = strong_at z (slot_of v.phase)
+place z act.Mark v = of_slot (strong_at z) (slot_of v.phase)
 place z (act.Announce j k s) v = note_at v.seat j
 place z (act.Release j) v = note_at v.seat j
 place z (act.Look p) v = place_at z p
 place z (act.Check j p) v = place_at z p
-place z (act.Alive j) v = strong_at z (slot_noted (note_of v j))
+place z (act.Alive j) v = of_slot (strong_at z) (slot_noted (note_of v j))
 place z act.Scan v = 1 + length v.seen
 place z (act.Swap p new) v = place_at z p
 place z (act.Cas p old new) v = place_at z p
 place z (act.Claim s) v = bits_at z s
-place z act.Arm v = weak_at z (slot_of v.phase)
-place z (act.Fill i x) v = payload_at z (slot_of v.phase) i
-place z act.Start v = strong_at z (slot_of v.phase)
+place z act.Arm v = of_slot (weak_at z) (slot_of v.phase)
+place z (act.Fill i x) v = of_slot (λ s. payload_at z s i) (slot_of v.phase)
+place z act.Start v = of_slot (strong_at z) (slot_of v.phase)
 place z (act.See s i) v = payload_at z s i
-place z act.Free v = bits_at z (slot_of v.phase)
+place z act.Free v = of_slot (bits_at z) (slot_of v.phase)
 place z act.Ticket v = ticket_at z
 place z (act.Wadd s) v = weak_at z s
 place z (act.Wdrop s) v = weak_at z s
@@ -93,7 +95,7 @@ next act.Arm v w = 1
 next (act.Fill i x) v w = x
 next act.Start v w = 1
 next (act.See s i) v w = w
-next act.Free v w = (w + bit_alone (slot_of v.phase)) % 2 ^ 64
+next act.Free v w = (w + of_slot bit_alone (slot_of v.phase)) % 2 ^ 64
 next act.Ticket v w = plus_one w
 next (act.Wadd s) v w = plus_one w
 next (act.Wdrop s) v w = minus_one w
@@ -182,9 +184,9 @@ is_valid w note.Idle = false
 is_valid w (note.Announced k s) = w == s.0 + 1
 is_valid w (note.Valid k s) = false
 
--- the words of a whole scan, of which w is the last
-abbrev pub all_seen : ℕ → CoreView → List ℕ
-all_seen w v = v.seen ++ w ∷ []
+-- what the words of a whole scan announce, of which w is the last
+abbrev pub all_seen : ℕ → CoreView → Announcements
+all_seen w v = announced_in (v.seen ++ w ∷ [])
 
 abbrev pub is_last : Shape → CoreView → Bool
 is_last z v = length v.seen + 1 == announcements z
@@ -237,9 +239,9 @@ paid w [] v = v
 paid w (e ∷ es) v = given_up e.0 e.1 w (record v { owed = es })
 
 -- it ended the object, or goes on to this phase
-abbrev pub ended : Bool → SlotId → Phase → CoreView → CoreView
+abbrev pub ended : Bool → Option SlotId → Phase → CoreView → CoreView
 ended b s next v =
-    if b then record v { dying = v.dying ++ s ∷ []; phase = phase.Idle } else record v
+    if b then record v { dying = v.dying ++ alone s; phase = phase.Idle } else record v
     { phase = next }
 
 abbrev pub with_note : ℕ → Note → CoreView → CoreView
@@ -263,13 +265,6 @@ abbrev pub exchanged : Kind → Option SlotId → ℕ → CoreView → CoreView
 exchanged k new w v =
     record (without_given k new v) { retired = joined k (slot_in w) v.retired }
 
--- a slot that a whole scan found under no announcement of disposal becomes ripe, if it isn't yet
-abbrev pub ripens : List SlotId → List ℕ → SlotId → Bool
-ripens ripe seen s = not (nat_lt 0 (times s ripe)) && not (is_seen (code Disposal s) seen)
-
-abbrev pub ripened : List SlotId → List SlotId → List ℕ → List SlotId
-ripened ripe dying seen = ripe ++ filter (ripens ripe seen) dying
-
 abbrev pub scanned : Shape → ℕ → CoreView → CoreView
 scanned z w v =
     if is_last z v
@@ -280,7 +275,7 @@ scanned z w v =
       owed = ejected v.retired (all_seen w v);
       ripe = ripened v.ripe v.dying (all_seen w v);
     }
-    else record v { phase = phase.Scan; seen = all_seen w v }
+    else record v { phase = phase.Scan; seen = v.seen ++ w ∷ [] }
 
 -- what the seat has afterwards, but for its trail. A leave is of two views: see `taken_over`
 abbrev pub changed : Shape → Act → ℕ → CoreView → CoreView
@@ -292,7 +287,7 @@ changed z (act.Drop s) w v = given_up Strong s w (record v { owned = without s v
 changed z act.Pay w v = paid w v.owed v
 changed z act.Finish w v =
     ended (w == 0) (slot_of v.phase)
-    (if has_help w then phase.Help (slot_of v.phase) else phase.Idle) v
+    (if has_help w then about phase.Help (slot_of v.phase) else phase.Idle) v
 changed z act.Take w v = ended (has_help w) (slot_of v.phase) phase.Idle v
 changed z (act.Count s) w v = if w == 0 then record v { phase = phase.Zero s } else v
 changed z act.Mark w v = record v { phase = phase.Idle }
@@ -308,12 +303,12 @@ changed z (act.Swap p new) w v = exchanged (place_kind p) new w v
 changed z (act.Cas p old new) w v = if w == word_of old then exchanged (place_kind p) new w v else v
 changed z (act.Claim s) w v =
     if bit_in s w == 1 then record v { makes = v.makes + 1; phase = phase.Bare s } else v
-changed z act.Arm w v = record v { phase = phase.Blank (slot_of v.phase) }
+changed z act.Arm w v = record v { phase = about phase.Blank (slot_of v.phase) }
 changed z (act.Fill i x) w v = v
 changed z act.Start w v =
     record v {
-      owned = v.owned ++ slot_of v.phase ∷ [];
-      made = v.made ++ slot_of v.phase ∷ [];
+      owned = v.owned ++ alone (slot_of v.phase);
+      made = v.made ++ alone (slot_of v.phase);
       adds = v.adds + 1;
       phase = phase.Idle;
     }

@@ -1,6 +1,6 @@
 -- What a seat has by its view: what it holds, which places are open to it, what a scan of it still
 -- guards.
-use Rattle.std.specs.Prelude.{ℕ, ◌<◌, ◌+◌, ◌*◌, false, List, [], ◌∷◌, slice_index_or, sum_by, if◌then◌else◌}
+use Rattle.std.specs.Prelude.{ℕ, ◌<◌, ◌+◌, ◌*◌, false, List, [], ◌∷◌, slice_index_or, sum_by, if◌then◌else◌, Option, Some, None}
 use Rattle.plain_state.specs.declared.act.EventPlace.{EventPlace}
 use Rattle.plain_state.specs.declared.act.EventPlace.TheVariants.{Cell, Field, WeakCell, WeakField}
 use Rattle.plain_state.specs.declared.slot.Kind.TheVariants.{Strong, Weak, Disposal}
@@ -121,21 +121,36 @@ abbrev pub allowed_makes : CoreView → ℕ
 allowed_makes v = v.quota.makes + granted v.grants v.tickets
 
 -- the slot of a phase that has one
-abbrev pub slot_of : Phase → SlotId
-slot_of phase.Idle = record { 0 = 0 }
-slot_of (phase.Finish s) = s
-slot_of (phase.Help s) = s
-slot_of (phase.Zero s) = s
-slot_of phase.Scan = record { 0 = 0 }
-slot_of (phase.Bare s) = s
-slot_of (phase.Blank s) = s
-slot_of (phase.Give s) = s
+abbrev pub slot_of : Phase → Option SlotId
+slot_of phase.Idle = None
+slot_of (phase.Finish s) = Some s
+slot_of (phase.Help s) = Some s
+slot_of (phase.Zero s) = Some s
+slot_of phase.Scan = None
+slot_of (phase.Bare s) = Some s
+slot_of (phase.Blank s) = Some s
+slot_of (phase.Give s) = Some s
 
 -- the slot that a note names, if it names one
-abbrev pub slot_noted : Note → SlotId
-slot_noted note.Idle = record { 0 = 0 }
-slot_noted (note.Announced k s) = s
-slot_noted (note.Valid k s) = s
+abbrev pub slot_noted : Note → Option SlotId
+slot_noted note.Idle = None
+slot_noted (note.Announced k s) = Some s
+slot_noted (note.Valid k s) = Some s
+
+-- a number that a slot has, where there is a slot
+abbrev pub of_slot : (SlotId → ℕ) → Option SlotId → ℕ
+of_slot f None = 0
+of_slot f (Some s) = f s
+
+-- a phase about a slot, where there is one
+abbrev pub about : (SlotId → Phase) → Option SlotId → Phase
+about f None = phase.Idle
+about f (Some s) = f s
+
+-- the slot alone, where there is one
+abbrev pub alone : Option SlotId → List SlotId
+alone None = []
+alone (Some s) = s ∷ []
 
 -- the list without its first s
 abbrev pub without : SlotId → List SlotId → List SlotId

@@ -1,36 +1,13 @@
 -- The words of a domain, in the order of its table: the base word, four announcement words of
 -- each seat, the strong cells, the weak cells, 21 words of each slot, the bits of the free slots, 64 in
 -- a word, and the number of the tickets drawn.
-use Rattle.std.specs.Prelude.{ℕ, zero, suc, ◌+◌, ◌-◌, ◌*◌, ◌/◌, ◌%◌, ◌^◌, min, ◌==◌, Bool, nat_lt, nat_le, List, [], ◌∷◌, ◌++◌, replicate, Option, Some, None, if◌then◌else◌}
+use Rattle.counter_word.specs.Words.{ZERO}
+use Rattle.std.specs.Prelude.{ℕ, zero, suc, ◌+◌, ◌-◌, ◌*◌, ◌/◌, ◌%◌, ◌^◌, min, ◌==◌, List, [], ◌∷◌, ◌++◌, replicate, Option, Some, None, if◌then◌else◌}
 use Rattle.std.specs.Int.{bit_at}
 use Rattle.plain_state.specs.declared.act.EventPlace.{EventPlace}
 use Rattle.plain_state.specs.declared.act.EventPlace.TheVariants.{Cell, Field, WeakCell, WeakField}
-use Rattle.plain_state.specs.declared.slot.Kind.{Kind}
-use Rattle.plain_state.specs.declared.slot.Kind.TheVariants.{Strong, Weak, Disposal}
 use Rattle.plain_state.specs.declared.slot.SlotId.{SlotId}
 use Rattle.core_events.specs.declared.shape.Shape.{Shape}
-
--- the zero flag of a strong word
-abbrev pub ZERO : ℕ
-ZERO = 2 ^ 63
-
--- the help flag of a strong word
-abbrev pub HELP : ℕ
-HELP = 2 ^ 62
-
-abbrev pub has_zero : ℕ → Bool
-has_zero w = nat_le ZERO w
-
-abbrev pub has_help : ℕ → Bool
-has_help w = nat_le HELP (w % ZERO)
-
--- the count below the flags
-abbrev pub low : ℕ → ℕ
-low w = w % HELP
-
--- what a strong word counts
-abbrev pub value : ℕ → ℕ
-value w = if nat_lt w ZERO then w else 0
 
 -- the number of all announcement words
 abbrev pub announcements : Shape → ℕ
@@ -96,12 +73,6 @@ place_at z (WeakField s) = weak_field_at z s
 -- the slot that the word of a place holds
 abbrev pub slot_in : ℕ → Option SlotId
 slot_in w = if w == 0 then None else Some (record { 0 = w - 1 })
-
--- the announcement word of a reference
-abbrev pub code : Kind → SlotId → ℕ
-code Strong s = 4 * (s.0 + 1)
-code Weak s = 4 * (s.0 + 1) + 1
-code Disposal s = 4 * (s.0 + 1) + 2
 
 -- f of the n numbers from i on
 abbrev pub each_from : {A : Type 0} → ℕ → ℕ → (ℕ → A) → List A

@@ -3,8 +3,8 @@
 //! Each event is one atomic action of one seat on one word. The definitions in `specs/` say which
 //! word, when a seat may act, what becomes of the word and of what the seat knows, and what holds
 //! of every state that events reach. The pure core, the proofs about it and the running domain
-//! all cite these. This crate promises nothing by itself: it has no code, and nothing is proved
-//! here.
+//! all cite these. Of itself this crate promises one thing, in `counters_agree`: the events of a
+//! strong word are the steps of a sticky counter. What holds of every state is proved above.
 //!
 //! ```text
 //! let event = Event { seat: 0, act: Act::Add(SlotId(3)) };
@@ -12,11 +12,13 @@
 #![tactic(auto)]
 
 mod act;
+mod laws;
 mod outcome;
 mod shape;
 mod view;
 
 pub use act::{Act, Event};
+pub use laws::counters_agree;
 pub use outcome::Outcome;
 pub use plain_state::{EventPlace, Kind, SlotId};
 pub use shape::{Quota, Shape, ShapeField};

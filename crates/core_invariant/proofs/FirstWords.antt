@@ -11,7 +11,8 @@ use Rattle.plain_state.specs.declared.slot.Kind.{Kind}
 use Rattle.plain_state.specs.declared.slot.Kind.TheVariants.{Strong, Weak, Disposal}
 use Rattle.plain_state.specs.declared.slot.SlotId.{SlotId}
 use Rattle.core_events.specs.declared.shape.Shape.{Shape}
-use Rattle.core_events.specs.Words.{ZERO, slot_at, cell_at, weak_cell_at, field_at, weak_field_at, strong_at, weak_at, bits_at, bit_in, bitmaps, ticket_at, word_count, each_from, full_bits, free_words, all_free, first_words}
+use Rattle.core_events.specs.Words.{slot_at, cell_at, weak_cell_at, field_at, weak_field_at, strong_at, weak_at, bits_at, bit_in, bitmaps, ticket_at, word_count, each_from, full_bits, free_words, all_free, first_words}
+use Rattle.counter_word.specs.Words.{ZERO}
 use Rattle.core_events.specs.Counts.{in_word, places, fields_holding}
 use Rattle.core_invariant.proofs.Each.{length_each, get_each}
 use Rattle.core_invariant.proofs.Kit.{below_none, in_word_null}

@@ -3,9 +3,9 @@ use Rattle.std.proofs.Common.{◌≡◌, ℕ, ◌+◌, ◌-◌, ◌*◌, ◌/◌
 use Rattle.std.proofs.lemmas.Bool.Decides.{nat_tests}
 use Rattle.std.proofs.lemmas.Nat.{and_comm, and-not}
 use Rattle.std.proofs.lemmas.Nat.Bits.{and_pow}
-use Rattle.core_events.specs.Words.{ZERO, HELP, has_help}
+use Rattle.counter_word.specs.Words.{ZERO, HELP, has_help}
 use Rattle.core_events.specs.Counts.{is_live_word}
-use Rattle.core_invariant.specs.Slots.{Numbers, SlotLaw, free, bare, blank, counted, asked, over, husk}
+use Rattle.core_invariant.specs.Slots.{Numbers, SlotLaw}
 
 help_is : (w : ℕ) → bit_and w 4611686018427387904 ≡ w / 4611686018427387904 % 2 *
     4611686018427387904
@@ -28,72 +28,25 @@ pub record Flags (w : ℕ) : Type 0 where
   pub help : has_help w ≡ true → ZERO + HELP ≤ w
   pub no_help : has_help w ≡ false → w < ZERO + HELP
 
--- a word below either flag's range, or above
-flags_low : (w : ℕ) → w < 2 ^ 60 → Flags w
-flags_low w h = record {
-  fits = omega arith;
-  help = λ e. grind
-      (arith, nat_tests);
-  no_help = λ e. omega arith;
-}
-
-flags_dead : (w : ℕ) → ZERO ≤ w → w < ZERO + 2 ^ 60 → Flags w
-flags_dead w a b = record {
-  fits = omega arith;
-  help = λ e. grind
-      (arith, nat_tests);
-  no_help = λ e. omega arith;
-}
-
-flags_asked : (w : ℕ) → ZERO + HELP ≤ w → w < ZERO + HELP + 2 ^ 60 → Flags w
-flags_asked w a b = record {
-  fits = omega arith;
-  help = λ e. a;
-  no_help = λ e. grind
-      (arith, nat_tests);
-}
-
 pub flags : (a : ℕ) (m : Numbers) → SlotLaw a m → a < 2 ^ 60 → Flags m.strong
-flags a m (free h) fit = flags_dead m.strong (omega arith) (omega arith)
-flags a m (bare h) fit = flags_dead m.strong (omega arith) (omega arith)
-flags a m (blank h) fit = flags_dead m.strong (omega arith) (omega arith)
-flags a m (counted h) fit = flags_low m.strong (omega arith)
-flags a m (asked h) fit = flags_asked m.strong (omega arith) (omega arith)
-flags a m (over h) fit = flags_dead m.strong (omega arith) (omega arith)
-flags a m (husk h) fit = flags_dead m.strong (omega arith) (omega arith)
+flags a m law fit = grind (arith, nat_tests)
 
 -- a slot that something refers to, or whose object waits to be destroyed, or lives, is claimed and started, and
 -- nobody is to give it back
 pub refs_taken : (a : ℕ) (m : Numbers) → SlotLaw a m → 0 < m.strong_refs + m.weak_refs + m.dying
     → m.bit + m.baring + m.filling + m.giving ≡ 0
-refs_taken a m (free h) some' = absurd (omega arith)
-refs_taken a m (bare h) some' = absurd (omega arith)
-refs_taken a m (blank h) some' = absurd (omega arith)
-refs_taken a m (counted h) some' = omega arith
-refs_taken a m (asked h) some' = omega arith
-refs_taken a m (over h) some' = omega arith
-refs_taken a m (husk h) some' = grind arith
+refs_taken a m law some' = grind arith
 
 -- whether the word is that of an object that lives
 pub live_low : (w : ℕ) → w < ZERO → is_live_word w ≡ true
 live_low w h = grind (arith, nat_tests)
 
 pub live_asked : (w : ℕ) → ZERO + HELP ≤ w → w < ZERO + HELP + 2 ^ 61 → is_live_word w ≡ true
-live_asked w a b = let h : has_help w ≡ true = grind (arith, nat_tests) in grind (arith, nat_tests)
+live_asked w a b = grind (arith, nat_tests)
 
 pub dead_word : (w : ℕ) → ZERO ≤ w → w < ZERO + 2 ^ 60 → is_live_word w ≡ false
-dead_word w a b =
-    let h : has_help w ≡ false = grind (arith, nat_tests) in grind (arith, nat_tests)
-
-dead_absurd : (w : ℕ) → ZERO ≤ w → w < ZERO + 2 ^ 60 → is_live_word w ≡ true → ⊥
-dead_absurd w a b live = let d = dead_word w a b in absurd (cc (live, d))
+dead_word w a b = grind (arith, nat_tests)
 
 pub live_taken : (a : ℕ) (m : Numbers) → SlotLaw a m → a < 2 ^ 60 → is_live_word m.strong ≡ true
     → (m.bit + m.baring + m.filling + m.giving ≡ 0) × (m.dying ≡ 0)
-live_taken a m (free h) fit live = absurd (dead_absurd m.strong (omega arith) (omega arith) live)
-live_taken a m (bare h) fit live = absurd (dead_absurd m.strong (omega arith) (omega arith) live)
-live_taken a m (blank h) fit live = absurd (dead_absurd m.strong (omega arith) (omega arith) live)
-live_taken a m (counted h) fit live = (omega arith, omega arith)
-live_taken a m (asked h) fit live = (omega arith, omega arith)
-live_taken a m (over h) fit live = absurd (dead_absurd m.strong (omega arith) (omega arith) live)
-live_taken a m (husk h) fit live = absurd (dead_absurd m.strong (omega arith) (omega arith) live)
+live_taken a m law fit live = grind (arith, nat_tests)

@@ -8,7 +8,7 @@ use Rattle.plain_state.specs.declared.slot.Kind.{Kind}
 use Rattle.plain_state.specs.declared.slot.Kind.TheVariants.{Strong, Weak, Disposal}
 use Rattle.plain_state.specs.declared.slot.SlotId.{SlotId}
 use Rattle.core_events.specs.declared.view.CoreView.{CoreView}
-use Rattle.core_events.specs.Words.{code}
+use Rattle.announce_slots.specs.Words.{code}
 use Rattle.core_events.specs.Counts.{guarding, has_passed, waiting}
 
 -- what is read past a is not passed

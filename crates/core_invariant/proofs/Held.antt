@@ -1,6 +1,6 @@
 -- What a seat holds is referred to: an owned entry counts, and what is under a snapshot is
 -- protected.
-use Rattle.std.proofs.Common.{◌≡◌, ◌≢◌, ◌⊎◌, inl, inr, ⊎_elim, ℕ, zero, suc, ◌+◌, ◌*◌, ◌<◌, ◌≤◌, Bool, true, false, List, [], ◌∷◌, length, get_or, refl, arith}
+use Rattle.std.proofs.Common.{◌≡◌, ◌≢◌, ◌⊎◌, ⊎_elim, ℕ, zero, suc, ◌+◌, ◌*◌, ◌<◌, ◌≤◌, Bool, true, false, List, [], ◌∷◌, length, get_or, refl, arith}
 use Rattle.std.specs.Prelude.{if◌then◌else◌}
 use Rattle.std.proofs.lemmas.List.Sums.{sum_by-le-sum_by}
 use Rattle.std.proofs.lemmas.Bool.{cases_lt}
@@ -12,7 +12,7 @@ use Rattle.core_events.specs.declared.shape.Shape.{Shape}
 use Rattle.core_events.specs.declared.view.CoreView.{CoreView}
 use Rattle.core_events.specs.declared.view.Note.{Note}
 use Rattle.core_events.specs.declared.view.Note.TheVariants as note
-use Rattle.core_events.specs.Words.{code}
+use Rattle.announce_slots.specs.Words.{code}
 use Rattle.core_events.specs.Views.{valid_of, snapshots, Holds, HoldsStrongly}
 use Rattle.core_events.specs.Runs.{Core, view_at}
 use Rattle.core_events.specs.Counts.{one, total, listed, naming, refs, guarding, waiting, has_passed, is_live_word, strong, free_bit, barers, fillers, givers, dying_times, adds_used}
@@ -23,15 +23,7 @@ use Rattle.core_invariant.proofs.Put.{at_seat, adds_fit}
 use Rattle.core_invariant.proofs.Flags.{refs_taken, live_taken}
 
 kind_is : (k k' : Kind) (m : ℕ) → 0 < kind_one k k' m → (k' ≡ k) × (0 < m)
-kind_is Strong Strong m h = (refl, h)
-kind_is Strong Weak m h = absurd (omega arith)
-kind_is Strong Disposal m h = absurd (omega arith)
-kind_is Weak Strong m h = absurd (omega arith)
-kind_is Weak Weak m h = (refl, h)
-kind_is Weak Disposal m h = absurd (omega arith)
-kind_is Disposal Strong m h = absurd (omega arith)
-kind_is Disposal Weak m h = absurd (omega arith)
-kind_is Disposal Disposal m h = (refl, h)
+kind_is k k' m h = grind arith
 
 -- a note that counts for (k, s) is valid for it
 pub valid_is : (k : Kind) (s : SlotId) (n : Note) → 0 < valid_one k s n → n ≡ note.Valid k s
@@ -104,51 +96,28 @@ snapshot_refs z c n Disposal s so hn ne h = absurd (ne refl)
 pub disposal_stands : (z : Shape) (c : Core) (n : ℕ) (s : SlotId) → Sound z c → n < z.seats
     → 0 < entry_times Disposal s (snapshots (view_at c n))
     → (is_live_word (strong z c s) ≡ true) ⊎ (0 < dying_times c s)
-disposal_stands z c n s so hn h = go (is_live_word (strong z c s)) refl
-  where
-    go : (b : Bool) → is_live_word (strong z c s) ≡ b
-        → (is_live_word (strong z c s) ≡ true) ⊎ (0 < dying_times c s)
-    go true is = inl is
-    go false is =
-        let g = snapshot_guard z c n Disposal s so hn h in
-        let none : covering Disposal z c.words s ≡ 0 = rw is refl in inr (omega arith)
+disposal_stands z c n s so hn h =
+    let g = snapshot_guard z c n Disposal s so hn h in grind arith
 
 -- what a seat holds is claimed and started, and nobody is to give it back
 pub held_taken : (z : Shape) (c : Core) (n : ℕ) (s : SlotId) → Sound z c → n < z.seats
     → s.0 < z.slots → Holds (view_at c n) s → free_bit z c s + barers c s + fillers c s + givers c s ≡ 0
 held_taken z c n s so hn hs h =
     let law = so.slots s hs in
-    let referred : 0 < refs Strong z c s + refs Weak z c s + dying_times c s
-    → free_bit z c s + barers c s + fillers c s + givers c s ≡ 0 =
-    refs_taken (adds_used c) (numbers z c s) law in
+    let taken = refs_taken (adds_used c) (numbers z c s) law in
+    let live = live_taken (adds_used c) (numbers z c s) law (adds_fit z c so) in
     let a = total_at (listed Strong s) c.views n (at_seat z c n so hn) in
     let b = total_at (listed Weak s) c.views n (at_seat z c n so hn) in
-    ⊎_elim
-    (λ (p : 0 < entry_times Strong s (snapshots (view_at c n))).
-    let r = snapshot_refs z c n Strong s so hn (λ e. cc) p in referred (omega arith))
-    (λ (p : entry_times Strong s (snapshots (view_at c n)) ≤ 0). ⊎_elim
-    (λ (q : 0 < entry_times Weak s (snapshots (view_at c n))).
-    let r = snapshot_refs z c n Weak s so hn (λ e. cc) q in referred (omega arith))
-    (λ (q : entry_times Weak s (snapshots (view_at c n)) ≤ 0). ⊎_elim
-    (λ (d : 0 < entry_times Disposal s (snapshots (view_at c n))). ⊎_elim
-    (λ live. (live_taken (adds_used c) (numbers z c s) law (adds_fit z c so) live).0)
-    (λ dies. referred (omega arith))
-    (disposal_stands z c n s so hn d))
-    (λ (d : entry_times Disposal s (snapshots (view_at c n)) ≤ 0). referred (omega arith))
-    (cases_lt 0 (entry_times Disposal s (snapshots (view_at c n)))))
-    (cases_lt 0 (entry_times Weak s (snapshots (view_at c n)))))
-    (cases_lt 0 (entry_times Strong s (snapshots (view_at c n))))
+    let p = snapshot_refs z c n Strong s so hn (λ e. cc) in
+    let q = snapshot_refs z c n Weak s so hn (λ e. cc) in
+    let d = disposal_stands z c n s so hn in grind arith
 
 pub strongly_refs : (z : Shape) (c : Core) (n : ℕ) (s : SlotId) → Sound z c → n < z.seats
     → HoldsStrongly (view_at c n) s
     → 0 < refs Strong z c s
 strongly_refs z c n s so hn h =
     let a = total_at (listed Strong s) c.views n (at_seat z c n so hn) in
-    ⊎_elim
-    (λ (p : 0 < entry_times Strong s (snapshots (view_at c n))).
-    snapshot_refs z c n Strong s so hn (λ e. cc) p)
-    (λ (p : entry_times Strong s (snapshots (view_at c n)) ≤ 0). omega arith)
-    (cases_lt 0 (entry_times Strong s (snapshots (view_at c n))))
+    let r = snapshot_refs z c n Strong s so hn (λ e. cc) in grind arith
 
 -- what a seat holds it names
 pub held_named : (s : SlotId) (v : CoreView) → Holds v s → 0 < naming s v

@@ -1,12 +1,11 @@
 -- What a seat names is there by what holds of the seat itself: the places that are open to it, and
 -- the word that its act is on. And a place that is there holds null or a slot that is there.
-use Rattle.std.proofs.Common.{◌≡◌, ◌∙◌, ◌⊎◌, ⊎_elim, ℕ, ◌-◌, ◌<◌, ◌≤◌, List, [], ◌∷◌, refl, ap, sym, subst, arith}
-use Rattle.std.specs.Prelude.{slice_index, Option}
+use Rattle.std.proofs.Common.{◌≡◌, ◌⊎◌, ⊎_elim, ℕ, ◌-◌, ◌<◌, ◌≤◌, List, [], ◌∷◌, refl, ap, sym, subst, arith}
+use Rattle.std.specs.Prelude.{slice_index, Option, Some}
 use Rattle.std.proofs.lemmas.Bool.{cases_lt}
 use Rattle.plain_state.specs.declared.act.EventPlace.{EventPlace}
 use Rattle.plain_state.specs.declared.act.EventPlace.TheVariants.{Cell, Field, WeakCell, WeakField}
 use Rattle.plain_state.specs.declared.slot.Kind.{Kind}
-use Rattle.plain_state.specs.declared.slot.Kind.TheVariants.{Strong, Weak, Disposal}
 use Rattle.plain_state.specs.declared.slot.SlotId.{SlotId}
 use Rattle.plain_state.specs.Lists.{Entry, times, entry_times}
 use Rattle.plain_state.specs.Places.{place_kind}
@@ -15,9 +14,9 @@ use Rattle.core_events.specs.declared.act.Act.TheVariants as act
 use Rattle.core_events.specs.declared.shape.Shape.{Shape}
 use Rattle.core_events.specs.declared.view.CoreView.{CoreView}
 use Rattle.core_events.specs.declared.view.Note.{Note}
-use Rattle.core_events.specs.declared.view.Phase.TheVariants as phase
-use Rattle.core_events.specs.Words.{note_at, strong_at, payload_at, place_at, word_count}
-use Rattle.core_events.specs.Views.{Holds, HoldsStrongly, CanReadFields, IsReadable, IsRipeField, IsOpen, slot_of, slot_noted}
+use Rattle.core_events.specs.declared.view.Phase.{Phase}
+use Rattle.core_events.specs.Words.{bits_at, note_at, strong_at, weak_at, payload_at, place_at, word_count}
+use Rattle.core_events.specs.Views.{Holds, HoldsStrongly, CanReadFields, IsReadable, IsRipeField, IsOpen, slot_of, slot_noted, of_slot}
 use Rattle.core_events.specs.Steps.{May, place, owed_at, counter_at}
 use Rattle.core_events.specs.Runs.{Core}
 use Rattle.core_events.specs.Counts.{naming, in_phase}
@@ -27,8 +26,11 @@ use Rattle.core_invariant.proofs.Kit.{one_same, in_word_same, entry_cons}
 use Rattle.core_invariant.proofs.Held.{held_named}
 use Rattle.core_invariant.proofs.Writes.{IsPlace, place_bound, places_at}
 use Rattle.core_invariant.proofs.Steady.{named_in_range}
-use Rattle.core_invariant.proofs.Phases.{in_finish, in_help, in_zero, in_bare, in_blank, in_give}
 use Rattle.core_invariant.proofs.Bits.{bits_bound}
+
+-- a phase that has a slot names it
+names_slot : (p : Phase) (s : SlotId) → slot_of p ≡ Some s → in_phase s p ≡ 1
+names_slot p s is = grind (arith, one_same)
 
 module _ (z : Shape) (n : ℕ) (v : CoreView) (law : SeatLaw z n v) where
   named : (s : SlotId) → 0 < naming s v → s.0 < z.slots
@@ -66,57 +68,28 @@ module _ (z : Shape) (n : ℕ) (v : CoreView) (law : SeatLaw z n v) where
   put_in_range q new may =
       ⊎_elim (λ o. open_in_range q o.0) (λ d. ripe_in_range q d.0) may.2
 
-  in_phase_there : (s : SlotId) → slot_of v.phase ≡ s → in_phase s v.phase ≡ 1
-      → (slot_of v.phase).0 < z.slots
-  in_phase_there s is one = let P : SlotId → Type 0 = λ x. x.0 < z.slots in
-      subst P (sym is) (named s (omega arith))
+  -- the slot of the phase is there
+  pub phase_there : (s : SlotId) → slot_of v.phase ≡ Some s → s.0 < z.slots
+  phase_there s is = let one = names_slot v.phase s is in named s (omega arith)
+
+  -- and so is a word that it has
+  at_phase : (f : SlotId → ℕ) (s : SlotId) → slot_of v.phase ≡ Some s
+      → (s.0 < z.slots → f s < word_count z) → of_slot f (slot_of v.phase) < word_count z
+  at_phase f s is below = subst (λ (o : Option SlotId). of_slot f o < word_count z) (sym is)
+      (below (phase_there s is))
 
   pub owed_named : (k : Kind) (s : SlotId) (es : List Entry) → v.owed ≡ (k, s) ∷ es → 0 < naming s v
-  owed_named Strong s es e =
-      let a = ap (entry_times Strong s) e in
-      let b = entry_cons Strong s (Strong, s) es in
-      let o = one_same s s refl in omega arith
-  owed_named Weak s es e =
-      let a = ap (entry_times Weak s) e in
-      let b = entry_cons Weak s (Weak, s) es in
-      let o = one_same s s refl in omega arith
-  owed_named Disposal s es e =
-      let a = ap (entry_times Disposal s) e in
-      let b = entry_cons Disposal s (Disposal, s) es in
-      let o = one_same s s refl in omega arith
+  owed_named k s es e =
+      let a = ap (entry_times k s) e in
+      let b = entry_cons k s (k, s) es in
+      let o = one_same s s refl in grind arith
 
   counter_there : (k : Kind) (s : SlotId) → s.0 < z.slots → counter_at z k s < word_count z
-  counter_there Strong s h = omega arith
-  counter_there Weak s h = omega arith
-  counter_there Disposal s h = omega arith
+  counter_there k s h = grind arith
 
   owed_there : (es : List Entry) → v.owed ≡ es → owed_at z es < word_count z
   owed_there [] e = omega arith
   owed_there (x ∷ es) e = counter_there x.0 x.1 (named x.1 (owed_named x.0 x.1 es e))
-
-  finish_there : (s : SlotId) → v.phase ≡ phase.Finish s → (slot_of v.phase).0 < z.slots
-  finish_there s e = in_phase_there s (ap slot_of e)
-      ((in_finish v.phase s s e).names ∙ one_same s s refl)
-
-  help_there : (s : SlotId) → v.phase ≡ phase.Help s → (slot_of v.phase).0 < z.slots
-  help_there s e = in_phase_there s (ap slot_of e)
-      ((in_help v.phase s s e).names ∙ one_same s s refl)
-
-  zero_there : (s : SlotId) → v.phase ≡ phase.Zero s → (slot_of v.phase).0 < z.slots
-  zero_there s e = in_phase_there s (ap slot_of e)
-      ((in_zero v.phase s s e).names ∙ one_same s s refl)
-
-  bare_there : (s : SlotId) → v.phase ≡ phase.Bare s → (slot_of v.phase).0 < z.slots
-  bare_there s e = in_phase_there s (ap slot_of e)
-      ((in_bare v.phase s s e).names ∙ one_same s s refl)
-
-  pub blank_there : (s : SlotId) → v.phase ≡ phase.Blank s → (slot_of v.phase).0 < z.slots
-  blank_there s e = in_phase_there s (ap slot_of e)
-      ((in_blank v.phase s s e).names ∙ one_same s s refl)
-
-  give_there : (s : SlotId) → v.phase ≡ phase.Give s → (slot_of v.phase).0 < z.slots
-  give_there s e = in_phase_there s (ap slot_of e)
-      ((in_give v.phase s s e).names ∙ one_same s s refl)
 
   note_there : n < z.seats → (j : ℕ) → j < 4 → note_at v.seat j < word_count z
   note_there hn j h = let number = law.number in omega arith
@@ -132,28 +105,30 @@ module _ (z : Shape) (n : ℕ) (v : CoreView) (law : SeatLaw z n v) where
   place_in hn (act.Add s) may = let h = held s may.2 in omega arith
   place_in hn (act.Drop s) may = let p = may.1 in let h = named s (omega arith) in omega arith
   place_in hn act.Pay may = owed_there v.owed refl
-  place_in hn act.Finish may = let h = finish_there may.0 may.1 in omega arith
-  place_in hn act.Take may = let h = help_there may.0 may.1 in omega arith
+  place_in hn act.Finish may = at_phase (strong_at z) may.0 (ap slot_of may.1) (λ h. omega arith)
+  place_in hn act.Take may = at_phase (strong_at z) may.0 (ap slot_of may.1) (λ h. omega arith)
   place_in hn (act.Count s) may = let h = held s may.1 in omega arith
-  place_in hn act.Mark may = let h = zero_there may.0 may.1 in omega arith
+  place_in hn act.Mark may = at_phase (strong_at z) may.0 (ap slot_of may.1) (λ h. omega arith)
   place_in hn (act.Announce j k s) may = note_there hn j may.1
   place_in hn (act.Release j) may = note_there hn j may.1
   place_in hn (act.Look q) may = place_bound z q (readable_in_range q may.1)
   place_in hn (act.Check j q) may = place_bound z q (readable_in_range q may.3)
   place_in hn (act.Alive j) may =
-      let P : Note → Type 0 = λ x. strong_at z (slot_noted x) < word_count z in
+      let P : Note → Type 0 = λ x. of_slot (strong_at z) (slot_noted x) < word_count z in
       let h = held may.2.0 may.2.2 in subst P (sym may.2.1) (omega arith)
   place_in hn act.Scan may = let r = law.reads in omega arith
   place_in hn (act.Swap q new) may = place_bound z q (put_in_range q new may)
   place_in hn (act.Cas q old new) may = place_bound z q (open_in_range q may.2)
   place_in hn (act.Claim s) may = let h = may.1 in let b = bits_bound z s h in omega arith
-  place_in hn act.Arm may = let h = bare_there may.0 may.1 in omega arith
+  place_in hn act.Arm may = at_phase (weak_at z) may.0 (ap slot_of may.1) (λ h. omega arith)
   place_in hn (act.Fill i x) may =
-      let h = blank_there may.0.0 may.0.1 in let i16 = may.1 in omega arith
-  place_in hn act.Start may = let h = blank_there may.0 may.1 in omega arith
+      at_phase (λ s. payload_at z s i) may.0.0 (ap slot_of may.0.1)
+      (λ h. let i16 = may.1 in omega arith)
+  place_in hn act.Start may = at_phase (strong_at z) may.0 (ap slot_of may.1) (λ h. omega arith)
   place_in hn (act.See s i) may = seen_there s i may.2 may.1
   place_in hn act.Free may =
-      let h = give_there may.0 may.1 in let b = bits_bound z (slot_of v.phase) h in omega arith
+      at_phase (bits_at z) may.0 (ap slot_of may.1)
+      (λ h. let b = bits_bound z may.0 h in omega arith)
   place_in hn act.Ticket may = omega arith
   place_in hn (act.Wadd s) may = let h = held s may.2 in omega arith
   place_in hn (act.Wdrop s) may = let p = may.1 in let h = named s (omega arith) in omega arith

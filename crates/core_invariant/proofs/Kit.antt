@@ -21,6 +21,15 @@ slot_eq x s e = ap (λ (n : ℕ). record { 0 = n }) e
 pub slot_cases : (x s : SlotId) → (x ≡ s) ⊎ (x.0 ≢ s.0)
 slot_cases x s = ⊎_elim (λ e. inl (slot_eq x s e)) (λ ne. inr ne) (cases_eq x.0 s.0)
 
+-- by what a test tells
+pub by_test : {P : Type 0} (b : Bool) → (b ≡ true → P) → (b ≡ false → P) → P
+by_test true holds fails = holds refl
+by_test false holds fails = fails refl
+
+-- a slot is s, or another one
+pub by_slot : (s x : SlotId) (P : SlotId → Type 0) → P s → (x.0 ≢ s.0 → P x) → P x
+by_slot s x P here there = ⊎_elim (λ (e : x ≡ s). rw e here) there (slot_cases x s)
+
 pub one_same : (s x : SlotId) → x.0 ≡ s.0 → one s x ≡ 1
 unfolding one
 one_same s x e = grind (arith, nat_tests)
@@ -79,15 +88,7 @@ entry_one k s e = kind_one k e.0 (one s e.1)
 entry_is : (k : Kind) (s : SlotId) (k' : Kind) (x : SlotId)
     → (if is_entry k s (k', x) then 1 else 0) ≡ entry_one k s (k', x)
 unfolding one
-entry_is Strong s Strong x = refl
-entry_is Strong s Weak x = refl
-entry_is Strong s Disposal x = refl
-entry_is Weak s Strong x = refl
-entry_is Weak s Weak x = refl
-entry_is Weak s Disposal x = refl
-entry_is Disposal s Strong x = refl
-entry_is Disposal s Weak x = refl
-entry_is Disposal s Disposal x = refl
+entry_is k s k' x = grind arith
 
 pub entry_none : (k : Kind) (s : SlotId) → entry_times k s [] ≡ 0
 unfolding entry_times
@@ -202,21 +203,8 @@ noting_cons : (s : SlotId) (n : Note) (ns : List Note) → noting s (n ∷ ns) �
 unfolding noting
 noting_cons s n ns = sum_by-cons (in_note s) n ns
 
-kind_one_le : (k k' : Kind) (n : ℕ) → kind_one k k' n ≤ n
-kind_one_le Strong Strong n = omega arith
-kind_one_le Strong Weak n = omega arith
-kind_one_le Strong Disposal n = omega arith
-kind_one_le Weak Strong n = omega arith
-kind_one_le Weak Weak n = omega arith
-kind_one_le Weak Disposal n = omega arith
-kind_one_le Disposal Strong n = omega arith
-kind_one_le Disposal Weak n = omega arith
-kind_one_le Disposal Disposal n = omega arith
-
 all_kinds : (k : Kind) (n : ℕ) → kind_one Strong k n + kind_one Weak k n + kind_one Disposal k n ≡ n
-all_kinds Strong n = omega arith
-all_kinds Weak n = omega arith
-all_kinds Disposal n = omega arith
+all_kinds k n = grind arith
 
 -- what is under a snapshot is named by a note
 pub valid_noted : (s : SlotId) (ns : List Note)

@@ -10,7 +10,7 @@ pub mod Put
 pub mod Steady
 pub mod Wrote
 pub mod Phases
-pub mod Splits
+pub mod Ripening
 pub mod Parts
 pub mod Joined
 pub mod Each

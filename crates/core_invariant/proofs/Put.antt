@@ -1,7 +1,7 @@
 -- A step of one seat that writes one word: what is enough for the invariant to stay.
-use Rattle.std.proofs.Common.{◌≡◌, ◌≢◌, ◌⊎◌, ⊎_elim, ℕ, ◌+◌, ◌*◌, ◌^◌, ◌<◌, ◌≤◌, List, [], length, get_or, set, refl, ap, sym, ◌∙◌, subst, arith}
+use Rattle.std.proofs.Common.{◌≡◌, ◌≢◌, ◌⊎◌, ⊎_elim, ℕ, ◌+◌, ◌*◌, ◌^◌, ◌<◌, ◌≤◌, List, length, get_or, set, refl, ap, sym, ◌∙◌, subst, arith}
 use Rattle.std.specs.Prelude.{slice_index, nat_lt, if◌then◌else◌}
-use Rattle.std.proofs.lemmas.List.{length-set, get_or-set_same, get_or-set_other, get_or_default, set_past}
+use Rattle.std.proofs.lemmas.List.{length-set, get_or-set_same, get_or-set_other, get_or_default, set_past, set-get_or}
 use Rattle.std.proofs.lemmas.List.Elements.{All-set}
 use Rattle.std.proofs.lemmas.List.Sums.{sum_by-le}
 use Rattle.std.proofs.lemmas.Bool.{cases_eq, cases_lt}
@@ -12,20 +12,30 @@ use Rattle.plain_state.specs.Lists.{times}
 use Rattle.core_events.specs.declared.shape.Shape.{Shape}
 use Rattle.core_events.specs.declared.view.CoreView.{CoreView}
 use Rattle.core_events.specs.declared.view.Note.TheVariants as note
-use Rattle.core_events.specs.Words.{note_at, code, bit_in, bits_at, bitmaps, ticket_at}
-use Rattle.core_events.specs.Views.{no_view, note_of}
+use Rattle.core_events.specs.Words.{note_at, strong_at, weak_at, bit_in, bits_at, bitmaps, ticket_at}
+use Rattle.announce_slots.specs.Words.{code}
+use Rattle.core_events.specs.Views.{no_view, note_of, room_of}
 use Rattle.core_events.specs.Runs.{Core, view_at}
 use Rattle.core_events.specs.declared.view.Phase.{Phase}
-use Rattle.core_events.specs.Counts.{total, listed, finishing, helping, baring, filling, giving, in_phase, places, adds_used, guarding, ticket_times, strong, weak}
+use Rattle.core_events.specs.Counts.{total, listed, finishing, helping, baring, filling, giving, in_phase, places, adds_used, guarding, ticket_times}
 use Rattle.core_events.specs.Good.{SeatLaw, AreAnnounced, Room, ArePlacesInRange, TicketLaw, WordsFit, word_of_note, staying_room}
-use Rattle.core_invariant.specs.Slots.{numbers, SlotLaw, field_words}
+use Rattle.core_invariant.specs.Slots.{numbers, SlotLaw}
 use Rattle.core_invariant.specs.Sound.{Sound, covering, AreGuarded, AreUnripe}
-use Rattle.core_invariant.proofs.Kit.{total_set, total_at, slot_cases}
+use Rattle.core_invariant.proofs.Kit.{total_set, total_at, by_slot}
+use Rattle.core_invariant.proofs.Writes.{fields_sum}
 use Rattle.core_invariant.proofs.SlotSame.{slot_same}
 
 -- the view of seat n, and one word, given anew
 abbrev pub put : Core → ℕ → CoreView → ℕ → ℕ → Core
 put c n v p w = record { words = set c.words p w; views = set c.views n v }
+
+-- the view of seat n, and all words, given anew
+abbrev pub stepped : Core → ℕ → CoreView → List ℕ → Core
+stepped c n v ws = record { words = ws; views = set c.views n v }
+
+-- the law of slot x holds
+abbrev pub HasLaw : Shape → Core → SlotId → Type 0
+HasLaw z c x = SlotLaw (adds_used c) (numbers z c x)
 
 pub at_seat : (z : Shape) (c : Core) (n : ℕ) → Sound z c → n < z.seats → n < length c.views
 at_seat z c n so hn = let e = so.views in omega arith
@@ -37,6 +47,21 @@ view_same z c n v so hn = get_or-set_same c.views n v no_view (at_seat z c n so 
 pub view_other : (c : Core) (n m : ℕ) (v : CoreView) → m ≢ n
     → get_or (set c.views n v) m no_view ≡ view_at c m
 view_other c n m v ne = get_or-set_other c.views n m v no_view ne
+
+-- a seat of the new state is seat n, or as before
+by_put : (z : Shape) (c : Core) (n : ℕ) (v : CoreView) → Sound z c → n < z.seats
+    → (P : ℕ → CoreView → Type 0) → P n v → ((m : ℕ) → m ≢ n → P m (view_at c m))
+    → (m : ℕ) → P m (get_or (set c.views n v) m no_view)
+by_put z c n v so hn P here there m = ⊎_elim
+    (λ (e : m ≡ n). rw (e, view_same z c n v so hn) here)
+    (λ (ne : m ≢ n). rw (view_other c n m v ne) (there m ne))
+    (cases_eq m n)
+
+-- the seats are as many
+seats_stay : (z : Shape) (c : Core) (n m : ℕ) (v : CoreView) → Sound z c
+    → m < length (set c.views n v) → m < z.seats
+seats_stay z c n m v so hm =
+    let l = length-set c.views n v in let e = so.views in omega arith
 
 -- the adds that all seats have used are few
 pub adds_fit : (z : Shape) (c : Core) → Sound z c → adds_used c < 2 ^ 60
@@ -53,67 +78,44 @@ adds_fit z c so =
     arith) in
     omega arith
 
--- how the sums over all seats move at slot x, where seat n's view becomes v
+-- how the sum of f over all seats moves, where seat n's view becomes v
+abbrev pub Moves : (CoreView → ℕ) → Core → ℕ → CoreView → Type 0
+Moves f c n v =
+    (total f (set c.views n v) + f (view_at c n) ≡ total f c.views + f v)
+    × (f (view_at c n) ≤ total f c.views)
+
+moves : (z : Shape) (c : Core) (n : ℕ) (v : CoreView) (f : CoreView → ℕ) → Sound z c → n < z.seats
+    → Moves f c n v
+moves z c n v f so hn =
+    let h = at_seat z c n so hn in (total_set f c.views n v h, total_at f c.views n h)
+
+-- how the sums over all seats move at slot x
 pub record Totals (c : Core) (n : ℕ) (v : CoreView) (x : SlotId) : Type 0 where
-  pub strong : total (listed Strong x) (set c.views n v) + listed Strong x (view_at c n)
-      ≡ total (listed Strong x) c.views + listed Strong x v
-  pub weak : total (listed Weak x) (set c.views n v) + listed Weak x (view_at c n)
-      ≡ total (listed Weak x) c.views + listed Weak x v
-  pub fin : total (λ (u : CoreView). finishing x u.phase) (set c.views n v)
-      + finishing x (view_at c n).phase ≡ total (λ (u : CoreView). finishing x u.phase) c.views
-      + finishing x v.phase
-  pub hlp : total (λ (u : CoreView). helping x u.phase) (set c.views n v)
-      + helping x (view_at c n).phase ≡ total (λ (u : CoreView). helping x u.phase) c.views
-      + helping x v.phase
-  pub bar : total (λ (u : CoreView). baring x u.phase) (set c.views n v)
-      + baring x (view_at c n).phase ≡ total (λ (u : CoreView). baring x u.phase) c.views
-      + baring x v.phase
-  pub fill : total (λ (u : CoreView). filling x u.phase) (set c.views n v)
-      + filling x (view_at c n).phase ≡ total (λ (u : CoreView). filling x u.phase) c.views
-      + filling x v.phase
-  pub giv : total (λ (u : CoreView). giving x u.phase) (set c.views n v)
-      + giving x (view_at c n).phase ≡ total (λ (u : CoreView). giving x u.phase) c.views
-      + giving x v.phase
-  pub dyi : total (λ (u : CoreView). times x u.dying) (set c.views n v)
-      + times x (view_at c n).dying ≡ total (λ (u : CoreView). times x u.dying) c.views
-      + times x v.dying
-  pub add : total (λ (u : CoreView). u.adds) (set c.views n v) + (view_at c n).adds
-      ≡ total (λ (u : CoreView). u.adds) c.views + v.adds
-  pub strong_in : listed Strong x (view_at c n) ≤ total (listed Strong x) c.views
-  pub weak_in : listed Weak x (view_at c n) ≤ total (listed Weak x) c.views
-  pub fin_in : finishing x (view_at c n).phase ≤ total (λ (u : CoreView). finishing x u.phase)
-      c.views
-  pub hlp_in : helping x (view_at c n).phase ≤ total (λ (u : CoreView). helping x u.phase) c.views
-  pub bar_in : baring x (view_at c n).phase ≤ total (λ (u : CoreView). baring x u.phase) c.views
-  pub fill_in : filling x (view_at c n).phase ≤ total (λ (u : CoreView). filling x u.phase) c.views
-  pub giv_in : giving x (view_at c n).phase ≤ total (λ (u : CoreView). giving x u.phase) c.views
-  pub dyi_in : times x (view_at c n).dying ≤ total (λ (u : CoreView). times x u.dying) c.views
-  pub fit : total (λ (u : CoreView). u.adds) c.views < 2 ^ 60
+  pub strong : Moves (listed Strong x) c n v
+  pub weak : Moves (listed Weak x) c n v
+  pub fin : Moves (λ u. finishing x u.phase) c n v
+  pub hlp : Moves (λ u. helping x u.phase) c n v
+  pub bar : Moves (λ u. baring x u.phase) c n v
+  pub fill : Moves (λ u. filling x u.phase) c n v
+  pub giv : Moves (λ u. giving x u.phase) c n v
+  pub dyi : Moves (λ u. times x u.dying) c n v
+  pub add : Moves (λ u. u.adds) c n v
+  pub fit : adds_used c < 2 ^ 60
 
 pub totals : (z : Shape) (c : Core) (n : ℕ) (v : CoreView) (x : SlotId) → Sound z c → n < z.seats
     → Totals c n v x
-totals z c n v x so hn =
-    let h = at_seat z c n so hn in
-    record {
-      strong = total_set (listed Strong x) c.views n v h;
-      weak = total_set (listed Weak x) c.views n v h;
-      fin = total_set (λ (u : CoreView). finishing x u.phase) c.views n v h;
-      hlp = total_set (λ (u : CoreView). helping x u.phase) c.views n v h;
-      bar = total_set (λ (u : CoreView). baring x u.phase) c.views n v h;
-      fill = total_set (λ (u : CoreView). filling x u.phase) c.views n v h;
-      giv = total_set (λ (u : CoreView). giving x u.phase) c.views n v h;
-      dyi = total_set (λ (u : CoreView). times x u.dying) c.views n v h;
-      add = total_set (λ (u : CoreView). u.adds) c.views n v h;
-      strong_in = total_at (listed Strong x) c.views n h;
-      weak_in = total_at (listed Weak x) c.views n h;
-      fin_in = total_at (λ (u : CoreView). finishing x u.phase) c.views n h;
-      hlp_in = total_at (λ (u : CoreView). helping x u.phase) c.views n h;
-      bar_in = total_at (λ (u : CoreView). baring x u.phase) c.views n h;
-      fill_in = total_at (λ (u : CoreView). filling x u.phase) c.views n h;
-      giv_in = total_at (λ (u : CoreView). giving x u.phase) c.views n h;
-      dyi_in = total_at (λ (u : CoreView). times x u.dying) c.views n h;
-      fit = adds_fit z c so;
-    }
+totals z c n v x so hn = record {
+  strong = moves z c n v (listed Strong x) so hn;
+  weak = moves z c n v (listed Weak x) so hn;
+  fin = moves z c n v (λ u. finishing x u.phase) so hn;
+  hlp = moves z c n v (λ u. helping x u.phase) so hn;
+  bar = moves z c n v (λ u. baring x u.phase) so hn;
+  fill = moves z c n v (λ u. filling x u.phase) so hn;
+  giv = moves z c n v (λ u. giving x u.phase) so hn;
+  dyi = moves z c n v (λ u. times x u.dying) so hn;
+  add = moves z c n v (λ u. u.adds) so hn;
+  fit = adds_fit z c so;
+}
 
 -- the two views stand alike to slot x
 pub record Alike (x : SlotId) (old new : CoreView) : Type 0 where
@@ -149,88 +151,55 @@ alike a b p d = record {
   dyi = d;
 }
 
--- the two rows of words say the same of slot x
-pub record SameWords (z : Shape) (ws ws' : List ℕ) (x : SlotId) : Type 0 where
-  pub strong : strong z (record { words = ws'; views = [] }) x
-      ≡ strong z (record { words = ws; views = [] }) x
-  pub weak : weak z (record { words = ws'; views = [] }) x
-      ≡ weak z (record { words = ws; views = [] }) x
-  pub bit : bit_in x (slice_index ws' (bits_at z x)) ≡ bit_in x (slice_index ws (bits_at z x))
+-- what the words ws' tell of slot x: its strong word, its weak word and its bit, and else the same as ws
+pub record SlotWords (z : Shape) (ws ws' : List ℕ) (x : SlotId) (st wk bt : ℕ) : Type 0 where
+  pub strong : slice_index ws' (strong_at z x) ≡ st
+  pub weak : slice_index ws' (weak_at z x) ≡ wk
+  pub bit : bit_in x (slice_index ws' (bits_at z x)) ≡ bt
   pub strong_places : places Strong z ws' x ≡ places Strong z ws x
   pub weak_places : places Weak z ws' x ≡ places Weak z ws x
-  pub fields : field_words z (record { words = ws'; views = [] }) x
-      ≡ field_words z (record { words = ws; views = [] }) x
+  pub fields : fields_sum z ws' x ≡ fields_sum z ws x
+
+-- the two rows of words say the same of slot x
+abbrev pub SameWords : Shape → List ℕ → List ℕ → SlotId → Type 0
+SameWords z ws ws' x = SlotWords z ws ws' x (slice_index ws (strong_at z x))
+    (slice_index ws (weak_at z x)) (bit_in x (slice_index ws (bits_at z x)))
 
 -- a slot that the step doesn't touch keeps its law
 pub law_alike : (z : Shape) (c : Core) (n : ℕ) (v : CoreView) (ws : List ℕ) (x : SlotId) → Sound z c
-    → n < z.seats
-    → (view_at c n).adds ≤ v.adds → Alike x (view_at c n) v → SameWords z c.words ws x
-    → x.0 < z.slots
-    → SlotLaw (adds_used (record { words = ws; views = set c.views n v }))
-    (numbers z (record { words = ws; views = set c.views n v }) x)
+    → n < z.seats → (view_at c n).adds ≤ v.adds → Alike x (view_at c n) v
+    → SameWords z c.words ws x → x.0 < z.slots → HasLaw z (stepped c n v ws) x
 law_alike z c n v ws x so hn more alike words hx =
     let t = totals z c n v x so hn in
-    slot_same _ _ _ _ (so.slots x hx) (omega arith) (record {
-      strong = words.strong;
-      weak = words.weak;
-      bit = words.bit;
-      strong_refs = omega arith;
-      weak_refs = omega arith;
-      finishing = omega arith;
-      helping = omega arith;
-      baring = omega arith;
-      filling = omega arith;
-      giving = omega arith;
-      dying = omega arith;
-      fields = words.fields;
-    })
+    slot_same _ _ _ _ (so.slots x hx) (omega arith) (omega arith)
 
 -- where one slot is touched, and its law is shown, all laws stay
 pub laws_but : (z : Shape) (c : Core) (n : ℕ) (v : CoreView) (ws : List ℕ) (s : SlotId) → Sound z c
-    → n < z.seats
-    → (view_at c n).adds ≤ v.adds
+    → n < z.seats → (view_at c n).adds ≤ v.adds
     → ((x : SlotId) → x.0 < z.slots → x.0 ≢ s.0
     → Alike x (view_at c n) v × SameWords z c.words ws x)
-    → SlotLaw (adds_used (record { words = ws; views = set c.views n v }))
-    (numbers z (record { words = ws; views = set c.views n v }) s)
-    → (x : SlotId) → x.0 < z.slots
-    → SlotLaw (adds_used (record { words = ws; views = set c.views n v }))
-    (numbers z (record { words = ws; views = set c.views n v }) x)
-laws_but z c n v ws s so hn more others here x hx = ⊎_elim
-    (λ e. subst (λ (y : SlotId). SlotLaw (adds_used (record {
-      words = ws;
-      views = set c.views n
-          v;
-    })) (numbers z (record { words = ws; views = set c.views n v }) y)) (sym e) here)
+    → HasLaw z (stepped c n v ws) s → (x : SlotId) → x.0 < z.slots → HasLaw z (stepped c n v ws) x
+laws_but z c n v ws s so hn more others here x hx =
+    by_slot s x (HasLaw z (stepped c n v ws)) here
     (λ ne. let o = others x hx ne in law_alike z c n v ws x so hn more o.0 o.1 hx)
-    (slot_cases x s)
 
 -- what holds of each seat by itself
 pub seats_put : (z : Shape) (c : Core) (n : ℕ) (v : CoreView) → Sound z c → n < z.seats
     → SeatLaw z n v
     → (m : ℕ) → m < z.seats → SeatLaw z m (get_or (set c.views n v) m no_view)
-seats_put z c n v so hn law m hm = ⊎_elim
-    (λ e. subst (λ (k : ℕ). SeatLaw z k (get_or (set c.views n v) k no_view)) (sym e)
-    (subst (SeatLaw z n) (sym (view_same z c n v so hn)) law))
-    (λ ne. subst (SeatLaw z m) (sym (view_other c n m v ne)) (so.seats m hm))
-    (cases_eq m n)
+seats_put z c n v so hn law =
+    by_put z c n v so hn (λ m u. m < z.seats → SeatLaw z m u) (λ _. law) (λ m ne hm. so.seats m hm)
 
 pub room_put : (z : Shape) (c : Core) (n : ℕ) (v : CoreView) (ws : List ℕ) → Sound z c → n < z.seats
     → v.room ≡ (view_at c n).room → v.left ≡ (view_at c n).left → length v.retired
     + length v.owed ≤ v.room
-    → Room z (record { words = ws; views = set c.views n v })
+    → Room z (stepped c n v ws)
 room_put z c n v ws so hn room' left' fits = record {
   each = All-set (λ (u : CoreView). length u.retired + length u.owed ≤ u.room) c.views n v fits
       so.room.each;
-  others = λ m pos hm. ⊎_elim
-      (λ (e : m ≡ n).
-      let i : get_or (set c.views n v) m no_view ≡ v = rw e (view_same z c n v so hn) in
-      let r = so.room.others n (omega arith) (at_seat z c n so hn) in
-      ap (λ (u : CoreView). u.room) i ∙ (room' ∙ r))
-      (λ (ne : m ≢ n).
-      let l = length-set c.views n v in
-      ap (λ (u : CoreView). u.room) (view_other c n m v ne) ∙ so.room.others m pos (omega arith))
-      (cases_eq m n);
+  others = λ m pos hm. by_put z c n v so hn (λ k u. 0 < k → k < z.seats → u.room ≡ room_of z)
+      (λ q hk. room' ∙ so.room.others n q (at_seat z c n so hk))
+      (λ k ne q hk. so.room.others k q (at_seat z c k so hk)) m pos (seats_stay z c n m v so hm);
   sum =
       let t = total_set staying_room c.views n v (at_seat z c n so hn) in
       let e : staying_room v ≡ staying_room (view_at c n) = rw (room', left') refl in
@@ -243,41 +212,37 @@ pub announced_put : (z : Shape) (c : Core) (n : ℕ) (v : CoreView) (ws : List �
     → ((m j : ℕ) → m < z.seats → m ≢ n → j < 4 → slice_index ws (note_at m j)
     ≡ slice_index c.words (note_at m j))
     → ((j : ℕ) → j < 4 → slice_index ws (note_at n j) ≡ word_of_note (note_of v j))
-    → AreAnnounced (record { words = ws; views = set c.views n v })
-announced_put z c n v ws so hn others mine m j hm hj = ⊎_elim
-    (λ e. subst (λ (k : ℕ). slice_index ws (note_at k j)
-    ≡ word_of_note (note_of (get_or (set c.views n v) k no_view) j)) (sym e)
-    (mine j hj ∙ ap (λ (u : CoreView). word_of_note (note_of u j)) (sym (view_same z c n v so hn))))
-    (λ ne.
-    let l = length-set c.views n v in
-    let sv = so.views in
-    let h : m < length c.views = omega arith in
-    others m j (omega arith) ne hj ∙ (so.announced m j h hj
-    ∙ ap (λ (u : CoreView). word_of_note (note_of u j)) (sym (view_other c n m v ne))))
-    (cases_eq m n)
+    → AreAnnounced (stepped c n v ws)
+announced_put z c n v ws so hn others mine m j hm hj =
+    by_put z c n v so hn (λ k u. k < z.seats → slice_index ws (note_at k j)
+    ≡ word_of_note (note_of u j))
+    (λ _. mine j hj)
+    (λ k ne hk. others k j hk ne hj ∙ so.announced k j (at_seat z c k so hk) hj)
+    m (seats_stay z c n m v so hm)
 
--- It is enough that where this seat loses its guard, or the words no longer cover the slot, the other one or the
--- new view does
-pub guarded_put : (z : Shape) (c : Core) (n : ℕ) (v : CoreView) (ws : List ℕ) → Sound z c
-    → n < z.seats
-    → ((j : ℕ) (k : Kind) (s : SlotId) → j < 4 → note_of v j ≡ note.Valid k s
-    → (note_of (view_at c n) j ≡ note.Valid k s) ⊎ (0 < covering k z ws s))
-    → ((m j : ℕ) (k : Kind) (s : SlotId) → m < z.seats → j < 4
+-- a note that is valid anew is covered by the words
+abbrev pub CoversNew : Shape → Core → ℕ → CoreView → List ℕ → Type 0
+CoversNew z c n v ws =
+    (j : ℕ) (k : Kind) (s : SlotId) → j < 4 → note_of v j ≡ note.Valid k s
+    → (note_of (view_at c n) j ≡ note.Valid k s) ⊎ (0 < covering k z ws s)
+
+-- where this seat loses its guard, or the words no longer cover the slot, the other one or the new view does
+abbrev pub KeepsGuards : Shape → Core → ℕ → CoreView → List ℕ → Type 0
+KeepsGuards z c n v ws =
+    (m j : ℕ) (k : Kind) (s : SlotId) → m < z.seats → j < 4
     → note_of (view_at c m) j ≡ note.Valid k s → slice_index c.words (1 + (4 * m + j)) ≡ code k s
     → (0 < guarding (4 * m + j) k s (view_at c n)
     → 0 < covering k z ws s + guarding (4 * m + j) k s v)
-    × (0 < covering k z c.words s → 0 < covering k z ws s + guarding (4 * m + j) k s v))
-    → AreGuarded z (record { words = ws; views = set c.views n v })
-guarded_put z c n v ws so hn new_notes stays m j k s hm hj valid = ⊎_elim
-    (λ e. subst (λ (i : ℕ). 0 < covering k z ws s + total (guarding (4 * i + j) k s)
-    (set c.views n v)) (sym e)
-    (⊎_elim (λ was. old n hn was) (λ pos. omega arith)
-    (new_notes j k s hj (ap (λ (u : CoreView). note_of u j) (sym (view_same z c n v so hn))
-    ∙ subst (λ (i : ℕ). note_of (get_or (set c.views n v) i no_view) j ≡ note.Valid k s) e
-    valid))))
-    (λ ne. old m (let l = length-set c.views n v in let sv = so.views in omega arith)
-    (ap (λ (u : CoreView). note_of u j) (sym (view_other c n m v ne)) ∙ valid))
-    (cases_eq m n)
+    × (0 < covering k z c.words s → 0 < covering k z ws s + guarding (4 * m + j) k s v)
+
+pub guarded_put : (z : Shape) (c : Core) (n : ℕ) (v : CoreView) (ws : List ℕ) → Sound z c
+    → n < z.seats → CoversNew z c n v ws → KeepsGuards z c n v ws → AreGuarded z (stepped c n v ws)
+guarded_put z c n v ws so hn new_notes stays m j k s hm hj valid =
+    by_put z c n v so hn (λ i u. i < z.seats → note_of u j ≡ note.Valid k s
+    → 0 < covering k z ws s + total (guarding (4 * i + j) k s) (set c.views n v))
+    (λ hi is. ⊎_elim (λ was. old n hn was) (λ pos. omega arith) (new_notes j k s hj is))
+    (λ i ne hi was. old i hi was)
+    m (seats_stay z c n m v so hm) valid
   where
     sum_stays : (P T P' T' x y : ℕ) → 0 < P + T → T' + x ≡ T + y → x ≤ T → (0 < x → 0 < P' + y)
         → (0 < P → 0 < P' + y) → 0 < P' + T'
@@ -303,24 +268,28 @@ guarded_put z c n v ws so hn new_notes stays m j k s hm hj valid = ⊎_elim
 abbrev pub ripe_times : Core → SlotId → ℕ
 ripe_times c s = total (λ v. times s v.ripe) c.views
 
--- it is enough that no slot under a weak snapshot becomes ripe, and that a new snapshot is of one that isn't
-pub unripe_put : (z : Shape) (c : Core) (n : ℕ) (v : CoreView) (ws : List ℕ) → Sound z c
-    → n < z.seats
-    → ((j : ℕ) (s : SlotId) → j < 4 → note_of v j ≡ note.Valid Disposal s
+-- a new weak snapshot is of a slot that isn't ripe
+abbrev pub UnripeNew : Core → ℕ → CoreView → Type 0
+UnripeNew c n v =
+    (j : ℕ) (s : SlotId) → j < 4 → note_of v j ≡ note.Valid Disposal s
     → (note_of (view_at c n) j ≡ note.Valid Disposal s)
-    ⊎ ((ripe_times c s ≡ 0) × (times s v.ripe ≤ times s (view_at c n).ripe)))
-    → ((m j : ℕ) (s : SlotId) → m < z.seats → j < 4
+    ⊎ ((ripe_times c s ≡ 0) × (times s v.ripe ≤ times s (view_at c n).ripe))
+
+-- no slot under a weak snapshot becomes ripe
+abbrev pub KeepsUnripe : Shape → Core → ℕ → CoreView → Type 0
+KeepsUnripe z c n v =
+    (m j : ℕ) (s : SlotId) → m < z.seats → j < 4
     → note_of (view_at c m) j ≡ note.Valid Disposal s
-    → times s v.ripe ≤ times s (view_at c n).ripe)
-    → AreUnripe (record { words = ws; views = set c.views n v })
-unripe_put z c n v ws so hn new_notes stays m j s hm hj valid = ⊎_elim
-    (λ (e : m ≡ n). ⊎_elim (λ was. old n hn was) (λ is. none is.0 is.1)
-    (new_notes j s hj (ap (λ (u : CoreView). note_of u j) (sym (view_same z c n v so hn))
-    ∙ subst (λ (i : ℕ). note_of (get_or (set c.views n v) i no_view) j ≡ note.Valid Disposal s) e
-    valid)))
-    (λ (ne : m ≢ n). old m (let l = length-set c.views n v in let sv = so.views in omega arith)
-    (ap (λ (u : CoreView). note_of u j) (sym (view_other c n m v ne)) ∙ valid))
-    (cases_eq m n)
+    → times s v.ripe ≤ times s (view_at c n).ripe
+
+pub unripe_put : (z : Shape) (c : Core) (n : ℕ) (v : CoreView) (ws : List ℕ) → Sound z c
+    → n < z.seats → UnripeNew c n v → KeepsUnripe z c n v → AreUnripe (stepped c n v ws)
+unripe_put z c n v ws so hn new_notes stays m j s hm hj valid =
+    by_put z c n v so hn (λ i u. i < z.seats → note_of u j ≡ note.Valid Disposal s
+    → total (λ (w : CoreView). times s w.ripe) (set c.views n v) ≡ 0)
+    (λ hi is. ⊎_elim (λ was. old n hn was) (λ e. none e.0 e.1) (new_notes j s hj is))
+    (λ i ne hi was. old i hi was)
+    m (seats_stay z c n m v so hm) valid
   where
     none : ripe_times c s ≡ 0 → times s v.ripe ≤ times s (view_at c n).ripe
         → total (λ (u : CoreView). times s u.ripe) (set c.views n v) ≡ 0
@@ -337,7 +306,7 @@ pub tickets_put : (z : Shape) (c : Core) (n : ℕ) (v : CoreView) (ws : List ℕ
     → n < z.seats → v.tickets ≡ (view_at c n).tickets → v.left_seats ≡ (view_at c n).left_seats
     → (view_at c n).adds ≤ v.adds
     → slice_index ws (ticket_at z) ≡ slice_index c.words (ticket_at z)
-    → TicketLaw z (record { words = ws; views = set c.views n v })
+    → TicketLaw z (stepped c n v ws)
 tickets_put z c n v ws so hn tickets' left' more same = record {
   each = λ t.
       let h = at_seat z c n so hn in
@@ -375,23 +344,20 @@ fit_put z c n v p w so fits spare = record {
 -- what a step has to show, but for the room
 pub record Shown (z : Shape) (c : Core) (n : ℕ) (v : CoreView) (ws : List ℕ) : Type 0 where
   pub law : SeatLaw z n v
-  pub slots :
-      (x : SlotId) → x.0 < z.slots
-      → SlotLaw (adds_used (record { words = ws; views = set c.views n v }))
-      (numbers z (record { words = ws; views = set c.views n v }) x)
-  pub announced : AreAnnounced (record { words = ws; views = set c.views n v })
-  pub guarded : AreGuarded z (record { words = ws; views = set c.views n v })
-  pub unripe : AreUnripe (record { words = ws; views = set c.views n v })
-  pub range : ArePlacesInRange z (record { words = ws; views = set c.views n v })
-  pub tickets : TicketLaw z (record { words = ws; views = set c.views n v })
-  pub fit : WordsFit z (record { words = ws; views = set c.views n v })
+  pub slots : (x : SlotId) → x.0 < z.slots → HasLaw z (stepped c n v ws) x
+  pub announced : AreAnnounced (stepped c n v ws)
+  pub guarded : AreGuarded z (stepped c n v ws)
+  pub unripe : AreUnripe (stepped c n v ws)
+  pub range : ArePlacesInRange z (stepped c n v ws)
+  pub tickets : TicketLaw z (stepped c n v ws)
+  pub fit : WordsFit z (stepped c n v ws)
 
 -- where all is given for the new view and the new words
 pub step_sound : (z : Shape) (c : Core) (n : ℕ) (v : CoreView) (ws : List ℕ) → Sound z c
     → n < z.seats → length ws ≡ length c.words → Shown z c n v ws
     → v.room ≡ (view_at c n).room → v.left ≡ (view_at c n).left
     → length v.retired + length v.owed ≤ v.room
-    → Sound z (record { words = ws; views = set c.views n v })
+    → Sound z (stepped c n v ws)
 step_sound z c n v ws so hn len shown room' left' fits = record {
   shape = so.shape;
   words = len ∙ so.words;
@@ -412,3 +378,33 @@ pub put_sound : (z : Shape) (c : Core) (n : ℕ) (v : CoreView) (p w : ℕ) → 
     → v.left ≡ (view_at c n).left → length v.retired + length v.owed ≤ v.room
     → Sound z (put c n v p w)
 put_sound z c n v p w so hn = step_sound z c n v (set c.words p w) so hn (length-set c.words p w)
+
+-- what no step but a leave, a draw of a ticket and an add changes
+pub record SameMarks (v u : CoreView) : Type 0 where
+  pub tickets : u.tickets ≡ v.tickets
+  pub left_seats : u.left_seats ≡ v.left_seats
+  pub adds : u.adds ≡ v.adds
+  pub room : u.room ≡ v.room
+  pub left : u.left ≡ v.left
+
+-- a step that writes no word
+pub still_sound : (z : Shape) (c : Core) (n : ℕ) (u : CoreView) (p : ℕ) → Sound z c → n < z.seats
+    → SeatLaw z n u → SameMarks (view_at c n) u → ((x : SlotId) → Alike x (view_at c n) u)
+    → ((j : ℕ) → word_of_note (note_of (view_at c n) j) ≡ word_of_note (note_of u j))
+    → CoversNew z c n u c.words → KeepsGuards z c n u c.words → UnripeNew c n u → KeepsUnripe z c n u
+    → length u.retired + length u.owed ≤ u.room → Sound z (put c n u p (slice_index c.words p))
+still_sound z c n u p so hn law same alike notes new_notes guards new_ripe ripe fits =
+    let a = same.adds in
+    rw (set-get_or c.words p 0)
+    (step_sound z c n u c.words so hn refl (record {
+      law = law;
+      slots = λ x hx. law_alike z c n u c.words x so hn (omega arith) (alike x) (omega arith) hx;
+      announced = announced_put z c n u c.words so hn (λ m j hm ne hj. refl)
+          (λ j hj. so.announced n j (at_seat z c n so hn) hj ∙ notes j);
+      guarded = guarded_put z c n u c.words so hn new_notes guards;
+      unripe = unripe_put z c n u c.words so hn new_ripe ripe;
+      range = so.range;
+      tickets = tickets_put z c n u c.words so hn same.tickets same.left_seats (omega arith) refl;
+      fit = assumption so.fit;
+    })
+    same.room same.left fits)

@@ -17,10 +17,4 @@ pub record SameNumbers (m n : Numbers) : Type 0 where
   pub fields : n.fields ≡ m.fields
 
 pub slot_same : (a b : ℕ) (m n : Numbers) → SlotLaw a m → a ≤ b → SameNumbers m n → SlotLaw b n
-slot_same a b m n (free h) le same = free (grind arith)
-slot_same a b m n (bare h) le same = bare (grind arith)
-slot_same a b m n (blank h) le same = blank (grind arith)
-slot_same a b m n (counted h) le same = counted (grind arith)
-slot_same a b m n (asked h) le same = asked (grind arith)
-slot_same a b m n (over h) le same = over (grind arith)
-slot_same a b m n (husk h) le same = husk (grind arith)
+slot_same a b m n law le same = grind (arith, free, bare, blank, counted, asked, over, husk)

@@ -35,58 +35,21 @@ abbrev pub OffBits : Shape → ℕ → Type 0
 OffBits z p = p < slot_at z z.slots
 
 pub strong_off : (z : Shape) (s : SlotId) → OffPlaces z (strong_at z s) × OffNotes z (strong_at z s)
-strong_off z s = (
-  record {
-    cells = λ i h. omega arith;
-    weak_cells = λ i h. omega arith;
-    fields = λ x i l h. omega arith;
-    weak_fields = λ x l. omega arith;
-  },
-  λ n j hn hj. omega arith,
-)
+strong_off z s = omega arith
 
 pub weak_off : (z : Shape) (s : SlotId) → OffPlaces z (weak_at z s) × OffNotes z (weak_at z s)
-weak_off z s = (
-  record {
-    cells = λ i h. omega arith;
-    weak_cells = λ i h. omega arith;
-    fields = λ x i l h. omega arith;
-    weak_fields = λ x l. omega arith;
-  },
-  λ n j hn hj. omega arith,
-)
+weak_off z s = omega arith
 
 pub payload_off : (z : Shape) (s : SlotId) (k : ℕ) → k < 16
     → OffPlaces z (payload_at z s k) × OffNotes z (payload_at z s k)
-payload_off z s k hk = (
-  record {
-    cells = λ i h. omega arith;
-    weak_cells = λ i h. omega arith;
-    fields = λ x i l h. omega arith;
-    weak_fields = λ x l. omega arith;
-  },
-  λ n j hn hj. omega arith,
-)
+payload_off z s k hk = omega arith
 
 -- a word behind those of the slots
 pub past_off : (z : Shape) (p : ℕ) → slot_at z z.slots ≤ p → OffPlaces z p × OffNotes z p
-past_off z p le = (
-  record {
-    cells = λ i h. omega arith;
-    weak_cells = λ i h. omega arith;
-    fields = λ x i l h. omega arith;
-    weak_fields = λ x l. omega arith;
-  },
-  λ n j hn hj. omega arith,
-)
+past_off z p le = omega arith
 
 pub note_off : (z : Shape) (n j : ℕ) → n < z.seats → j < 4 → OffPlaces z (note_at n j)
-note_off z n j hn hj = record {
-  cells = λ i h. omega arith;
-  weak_cells = λ i h. omega arith;
-  fields = λ x i l h. omega arith;
-  weak_fields = λ x l. omega arith;
-}
+note_off z n j hn hj = omega arith
 
 -- the four kinds of place, each added up
 abbrev pub in_cells : Shape → List ℕ → SlotId → ℕ
@@ -170,36 +133,21 @@ IsPlace z (WeakCell i) = i < z.weak_cells
 IsPlace z (WeakField s) = s.0 < z.slots
 
 pub place_bound : (z : Shape) (q : EventPlace) → IsPlace z q → place_at z q < word_count z
-place_bound z (Cell i) h = omega arith
-place_bound z (Field s i) h = omega arith
-place_bound z (WeakCell i) h = omega arith
-place_bound z (WeakField s) h = omega arith
+place_bound z q h = grind arith
 
 pub place_off_bits : (z : Shape) (q : EventPlace) → IsPlace z q → OffBits z (place_at z q)
-place_off_bits z (Cell i) h = omega arith
-place_off_bits z (Field s i) h = omega arith
-place_off_bits z (WeakCell i) h = omega arith
-place_off_bits z (WeakField s) h = omega arith
+place_off_bits z q h = grind arith
 
 pub place_off_notes : (z : Shape) (q : EventPlace) → IsPlace z q → OffNotes z (place_at z q)
-place_off_notes z (Cell i) h = λ n j hn hj. omega arith
-place_off_notes z (Field s i) h = λ n j hn hj. omega arith
-place_off_notes z (WeakCell i) h = λ n j hn hj. omega arith
-place_off_notes z (WeakField s) h = λ n j hn hj. omega arith
+place_off_notes z q h = grind arith
 
 pub place_off_strong : (z : Shape) (q : EventPlace) (s : SlotId) → IsPlace z q
     → strong_at z s ≢ place_at z q
-place_off_strong z (Cell i) s h = omega arith
-place_off_strong z (Field x i) s h = omega arith
-place_off_strong z (WeakCell i) s h = omega arith
-place_off_strong z (WeakField x) s h = omega arith
+place_off_strong z q s h = grind arith
 
 pub place_off_weak : (z : Shape) (q : EventPlace) (s : SlotId) → IsPlace z q
     → weak_at z s ≢ place_at z q
-place_off_weak z (Cell i) s h = omega arith
-place_off_weak z (Field x i) s h = omega arith
-place_off_weak z (WeakCell i) s h = omega arith
-place_off_weak z (WeakField x) s h = omega arith
+place_off_weak z q s h = grind arith
 
 -- the strong fields of slot x, one of which is written
 holding_put : (z : Shape) (ws : List ℕ) (w : ℕ) (s x : SlotId) (i : ℕ) → i < 2
@@ -266,10 +214,7 @@ places_put z ws (WeakField x) w Weak s h len =
     (weak_field_off z ws (weak_field_at z x) w (record { 0 = y }) (omega arith))) in
     let e = ap (in_word s) (get_or-set_same ws (weak_field_at z x) w 0 (omega arith)) in
     let a = weak_cells_off z ws (weak_field_at z x) w s (λ j l. omega arith) in omega arith
-places_put z ws (Cell i) w Disposal s h len = omega arith
-places_put z ws (Field x i) w Disposal s h len = omega arith
-places_put z ws (WeakCell i) w Disposal s h len = omega arith
-places_put z ws (WeakField x) w Disposal s h len = omega arith
+places_put z ws q w Disposal s h len = grind arith
 
 -- a place that is there holds what places hold
 pub places_at : (z : Shape) (ws : List ℕ) (q : EventPlace) (s : SlotId) → IsPlace z q

@@ -3,7 +3,8 @@ use Rattle.std.specs.Prelude.{ℕ, ◌≡◌, ◌+◌, ◌<◌, ◌≤◌, slice
 use Rattle.plain_state.specs.declared.slot.Kind.TheVariants.{Strong, Weak}
 use Rattle.plain_state.specs.declared.slot.SlotId.{SlotId}
 use Rattle.core_events.specs.declared.shape.Shape.{Shape}
-use Rattle.core_events.specs.Words.{ZERO, HELP, field_at, weak_field_at}
+use Rattle.core_events.specs.Words.{field_at, weak_field_at}
+use Rattle.counter_word.specs.Words.{ZERO, HELP}
 use Rattle.core_events.specs.Runs.{Core}
 use Rattle.core_events.specs.Counts.{refs, finishers, helpers, barers, fillers, givers, dying_times, free_bit, strong as strong_word, weak as weak_word}
 

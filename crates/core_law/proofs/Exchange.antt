@@ -51,26 +51,7 @@ pub given_listed : (k kind : Kind) (new : Option SlotId) (x : SlotId) (v : CoreV
     → CanGive kind new v
     → listed k x (without_given kind new v) + kind_one k kind (in_word x (word_of new))
     ≡ listed k x v
-given_listed Strong Strong None x v can = let z = in_word_null x in omega arith
-given_listed Strong Weak None x v can = omega arith
-given_listed Strong Disposal None x v can = omega arith
-given_listed Weak Strong None x v can = omega arith
-given_listed Weak Weak None x v can = let z = in_word_null x in omega arith
-given_listed Weak Disposal None x v can = omega arith
-given_listed Disposal Strong None x v can = omega arith
-given_listed Disposal Weak None x v can = omega arith
-given_listed Disposal Disposal None x v can = let z = in_word_null x in omega arith
-given_listed Strong Strong (Some s) x v can =
-    let t = times_without x s v.owned can in let i = in_word_slot x s in omega arith
-given_listed Strong Weak (Some s) x v can = omega arith
-given_listed Strong Disposal (Some s) x v can = absurd can
-given_listed Weak Strong (Some s) x v can = omega arith
-given_listed Weak Weak (Some s) x v can =
-    let t = times_without x s v.weaks can in let i = in_word_slot x s in omega arith
-given_listed Weak Disposal (Some s) x v can = absurd can
-given_listed Disposal Strong (Some s) x v can = omega arith
-given_listed Disposal Weak (Some s) x v can = omega arith
-given_listed Disposal Disposal (Some s) x v can = absurd can
+given_listed k kind new x v can = grind (arith, times_without, in_word_slot, in_word_null)
 
 -- what an exchange leaves of a view
 pub record SameBut (v u : CoreView) : Type 0 where
@@ -94,82 +75,10 @@ pub record SameBut (v u : CoreView) : Type 0 where
 
 pub same_but : (kind : Kind) (new : Option SlotId) (w : ℕ) (v : CoreView) (t : List Move)
     → SameBut v (record (exchanged kind new w v) { trail = t })
-same_but kind None w v t = record {
-  seat = refl;
-  shape = refl;
-  quota = refl;
-  grants = refl;
-  tickets = refl;
-  left_seats = refl;
-  ripe = refl;
-  made = refl;
-  notes = refl;
-  owed = refl;
-  dying = refl;
-  phase = refl;
-  seen = refl;
-  adds = refl;
-  makes = refl;
-  room = refl;
-  left = refl;
-}
-same_but Strong (Some s) w v t = record {
-  seat = refl;
-  shape = refl;
-  quota = refl;
-  grants = refl;
-  tickets = refl;
-  left_seats = refl;
-  ripe = refl;
-  made = refl;
-  notes = refl;
-  owed = refl;
-  dying = refl;
-  phase = refl;
-  seen = refl;
-  adds = refl;
-  makes = refl;
-  room = refl;
-  left = refl;
-}
-same_but Weak (Some s) w v t = record {
-  seat = refl;
-  shape = refl;
-  quota = refl;
-  grants = refl;
-  tickets = refl;
-  left_seats = refl;
-  ripe = refl;
-  made = refl;
-  notes = refl;
-  owed = refl;
-  dying = refl;
-  phase = refl;
-  seen = refl;
-  adds = refl;
-  makes = refl;
-  room = refl;
-  left = refl;
-}
-same_but Disposal (Some s) w v t = record {
-  seat = refl;
-  shape = refl;
-  quota = refl;
-  grants = refl;
-  tickets = refl;
-  left_seats = refl;
-  ripe = refl;
-  made = refl;
-  notes = refl;
-  owed = refl;
-  dying = refl;
-  phase = refl;
-  seen = refl;
-  adds = refl;
-  makes = refl;
-  room = refl;
-  left = refl;
-}
+same_but kind None w v t = assumption
+same_but Strong (Some s) w v t = assumption
+same_but Weak (Some s) w v t = assumption
+same_but Disposal (Some s) w v t = assumption
 
 -- what an exchange does to the references that the seat has listed
 pub exchanged_listed : (k kind : Kind) (new : Option SlotId) (w : ℕ) (x : SlotId) (v : CoreView)
@@ -178,36 +87,9 @@ pub exchanged_listed : (k kind : Kind) (new : Option SlotId) (w : ℕ) (x : Slot
     → listed k x (record (exchanged kind new w v) { trail = t })
     + kind_one k kind (in_word x (word_of new))
     ≡ listed k x v + kind_one k kind (in_word x w)
-exchanged_listed Strong kind None w x v t can =
-    let g = given_listed Strong kind None x v can in
-    let j = joined_times Strong kind x w v.retired in omega arith
-exchanged_listed Weak kind None w x v t can =
-    let g = given_listed Weak kind None x v can in
-    let j = joined_times Weak kind x w v.retired in omega arith
-exchanged_listed Disposal kind None w x v t can =
-    let g = given_listed Disposal kind None x v can in
-    let j = joined_times Disposal kind x w v.retired in omega arith
-exchanged_listed Strong Strong (Some s) w x v t can =
-    let g = given_listed Strong Strong (Some s) x v can in
-    let j = joined_times Strong Strong x w v.retired in omega arith
-exchanged_listed Strong Weak (Some s) w x v t can =
-    let g = given_listed Strong Weak (Some s) x v can in
-    let j = joined_times Strong Weak x w v.retired in omega arith
-exchanged_listed Strong Disposal (Some s) w x v t can = absurd can
-exchanged_listed Weak Strong (Some s) w x v t can =
-    let g = given_listed Weak Strong (Some s) x v can in
-    let j = joined_times Weak Strong x w v.retired in omega arith
-exchanged_listed Weak Weak (Some s) w x v t can =
-    let g = given_listed Weak Weak (Some s) x v can in
-    let j = joined_times Weak Weak x w v.retired in omega arith
-exchanged_listed Weak Disposal (Some s) w x v t can = absurd can
-exchanged_listed Disposal Strong (Some s) w x v t can =
-    let g = given_listed Disposal Strong (Some s) x v can in
-    let j = joined_times Disposal Strong x w v.retired in omega arith
-exchanged_listed Disposal Weak (Some s) w x v t can =
-    let g = given_listed Disposal Weak (Some s) x v can in
-    let j = joined_times Disposal Weak x w v.retired in omega arith
-exchanged_listed Disposal Disposal (Some s) w x v t can = absurd can
+exchanged_listed k kind new w x v t can =
+    let g = given_listed k kind new x v can in
+    let j = joined_times k kind x w v.retired in grind arith
 
 pub exchanged_retired : (kind : Kind) (new : Option SlotId) (w : ℕ) (v : CoreView) (t : List Move)
     → (record (exchanged kind new w v) { trail = t }).retired ≡ joined kind (slot_in w) v.retired

@@ -1,5 +1,5 @@
 -- An exchange of a place keeps the invariant.
-use Rattle.std.proofs.Common.{◌≡◌, ◌≢◌, ◌⊎◌, inl, inr, ⊎_elim, ℕ, ◌+◌, ◌*◌, ◌^◌, ◌<◌, ◌≤◌, List, [], length, get_or, set, refl, ap, sym, ◌∙◌, subst, arith}
+use Rattle.std.proofs.Common.{◌≡◌, ◌⊎◌, inl, inr, ⊎_elim, ℕ, ◌+◌, ◌*◌, ◌^◌, ◌<◌, ◌≤◌, List, [], length, get_or, set, ap, sym, ◌∙◌, arith}
 use Rattle.std.specs.Prelude.{slice_index, if◌then◌else◌, Option, Some, None}
 use Rattle.std.proofs.lemmas.List.{get_or-set_other}
 use Rattle.plain_state.specs.declared.act.EventPlace.{EventPlace}
@@ -16,18 +16,18 @@ use Rattle.core_events.specs.declared.view.Move.{Move}
 use Rattle.core_events.specs.declared.view.Note.{Note}
 use Rattle.core_events.specs.declared.view.Note.TheVariants as note
 use Rattle.core_events.specs.Views.{note_of}
-use Rattle.core_events.specs.Words.{slot_in, strong_at, weak_at, place_at, note_at}
+use Rattle.core_events.specs.Words.{slot_in, strong_at, weak_at, place_at, note_at, cell_at, weak_cell_at, field_at, weak_field_at}
 use Rattle.core_events.specs.Steps.{IsIdle, HasRoom, CanGive, exchanged}
 use Rattle.core_events.specs.Runs.{Core, view_at}
 use Rattle.core_events.specs.Counts.{in_word, listed, naming, noting, in_phase, finishing, helping, baring, filling, giving, dying_times, refs, adds_used, guarding, is_live_word}
 use Rattle.core_events.specs.Good.{SeatLaw}
 use Rattle.core_invariant.specs.Slots.{numbers, SlotLaw}
 use Rattle.core_invariant.specs.Sound.{Sound, covering}
-use Rattle.core_invariant.proofs.Kit.{kind_one, in_word_null, slot_cases}
+use Rattle.core_invariant.proofs.Kit.{kind_one, in_word_null, by_slot}
 use Rattle.core_invariant.proofs.SlotSame.{slot_same}
 use Rattle.core_invariant.proofs.Bits.{bits_off, ticket_off}
 use Rattle.core_law.proofs.Counters.{kind_none}
-use Rattle.core_law.proofs.StrongSteps as slot
+use Rattle.core_law.proofs.SlotSteps as slot
 use Rattle.core_invariant.proofs.Writes.{IsPlace, place_off_notes, place_off_bits, place_off_strong, place_off_weak, places_put, places_at, fields_sum, fields_sum_off}
 use Rattle.core_invariant.proofs.Put.{put, put_sound, announced_put, guarded_put, unripe_put, tickets_put, fit_put, at_seat, totals}
 use Rattle.core_invariant.proofs.Steady.{nothing_seen, named_in_range}
@@ -46,28 +46,19 @@ module _ (z : Shape) (c : Core) (n : ℕ) (so : Sound z c) (hn : n < z.seats) wh
   IsAlive (WeakField s) = 0 < refs Strong z c s + dying_times c s
 
   -- a slot of which the place is no field, or which is live or dying
-  alive_or : (q : EventPlace) (w : ℕ) (x : SlotId) → IsPlace z q → IsAlive q
-      → (fields_sum z (set c.words (place_at z q) w) x ≡ fields_sum z c.words x)
+  abbrev IsSpared : ℕ → ℕ → SlotId → Type 0
+  IsSpared p w x = (fields_sum z (set c.words p w) x ≡ fields_sum z c.words x)
       ⊎ (0 < refs Strong z c x + dying_times c x)
+
+  alive_or : (q : EventPlace) (w : ℕ) (x : SlotId) → IsPlace z q → IsAlive q → IsSpared (place_at z q) w x
   alive_or (Cell i) w x there alive =
-      inl (fields_sum_off z c.words (place_at z (Cell i)) w x (λ j l. omega arith) (omega arith))
-  alive_or (Field s i) w x there alive = ⊎_elim
-      (λ (e : x ≡ s). inr (subst (λ (y : SlotId). 0 < refs Strong z c y + dying_times c y)
-      (sym e) alive))
-      (λ (ne : x.0 ≢ s.0).
-      inl (fields_sum_off z c.words (place_at z (Field s i)) w x (λ j l. omega arith)
-      (omega arith)))
-      (slot_cases x s)
+      inl (fields_sum_off z c.words (cell_at z i) w x (omega arith) (omega arith))
+  alive_or (Field s i) w x there alive = by_slot s x (IsSpared (field_at z s i) w) (inr alive)
+      (λ ne. inl (fields_sum_off z c.words (field_at z s i) w x (omega arith) (omega arith)))
   alive_or (WeakCell i) w x there alive =
-      inl (fields_sum_off z c.words (place_at z (WeakCell i)) w x (λ j l. omega arith)
-      (omega arith))
-  alive_or (WeakField s) w x there alive = ⊎_elim
-      (λ (e : x ≡ s). inr (subst (λ (y : SlotId). 0 < refs Strong z c y + dying_times c y)
-      (sym e) alive))
-      (λ (ne : x.0 ≢ s.0).
-      inl (fields_sum_off z c.words (place_at z (WeakField s)) w x (λ j l. omega arith)
-      (omega arith)))
-      (slot_cases x s)
+      inl (fields_sum_off z c.words (weak_cell_at z i) w x (omega arith) (omega arith))
+  alive_or (WeakField s) w x there alive = by_slot s x (IsSpared (weak_field_at z s) w) (inr alive)
+      (λ ne. inl (fields_sum_off z c.words (weak_field_at z s) w x (omega arith) (omega arith)))
 
   given_in_range : (kind : Kind) (new : Option SlotId) (k : Kind) (x : SlotId) → CanGive kind new v
       → z.slots ≤ x.0 → kind_one k kind (in_word x (word_of new)) ≡ 0
@@ -148,31 +139,13 @@ module _ (z : Shape) (c : Core) (n : ℕ) (so : Sound z c) (hn : n < z.seats) wh
         let add = same.adds in
         ⊎_elim
         (λ (f : fields_sum z (set c.words (place_at z q) (word_of new)) x ≡ fields_sum z c.words x).
-        slot_same _ _ (numbers z c x) _ (so.slots x hx) (omega arith) (record {
-          strong = i;
-          weak = i';
-          bit = bt;
-          strong_refs = omega arith;
-          weak_refs = omega arith;
-          finishing = omega arith;
-          helping = omega arith;
-          baring = omega arith;
-          filling = omega arith;
-          giving = omega arith;
-          dying = omega arith;
-          fields = f;
-        }))
+        slot_same _ _ (numbers z c x) _ (so.slots x hx) (omega arith) (omega arith))
         (λ (live : 0 < refs Strong z c x + dying_times c x).
-        slot.field_write _ _ (numbers z c x) _ (so.slots x hx) (omega arith) i (omega arith) i' bt
-        (omega arith) (omega arith)
-        (omega arith) (omega arith) live (omega arith) (omega arith) (omega arith))
+        slot.field_write _ _ (numbers z c x) _ (so.slots x hx) (omega arith) live (omega arith))
         (alive_or q (word_of new) x there alive)
 
     no_disposal : (r : EventPlace) (m : ℕ) → kind_one Disposal (place_kind r) m ≡ 0
-    no_disposal (Cell i) m = refl
-    no_disposal (Field s i) m = refl
-    no_disposal (WeakCell i) m = refl
-    no_disposal (WeakField s) m = refl
+    no_disposal r m = grind arith
 
     -- what a place or a retired entry guarded, the other or this entry guards
     guards : (a : ℕ) (k : Kind) (s : SlotId) → v.seen ≡ []

@@ -1,5 +1,4 @@
-pub mod StrongSteps
-pub mod WeakSteps
+pub mod SlotSteps
 pub mod OneWord
 pub mod Live
 pub mod Counters
@@ -16,3 +15,4 @@ pub mod KeepsCounts
 pub mod Keeps
 pub mod Always
 pub mod Trails
+pub mod Grants

@@ -1,7 +1,7 @@
 -- Announcements, releases, checks and weak snapshots keep the invariant.
 use Rattle.std.proofs.Common.{◌≡◌, ◌≢◌, ◌⊎◌, inl, inr, ⊎_elim, ℕ, ◌+◌, ◌*◌, ◌^◌, ◌<◌, ◌≤◌, true, false, List, get_or, set, refl, ap, sym, ◌∙◌, subst, arith}
 use Rattle.std.specs.Prelude.{slice_index, if◌then◌else◌}
-use Rattle.std.proofs.lemmas.List.{length-set, get_or-set_same, get_or-set_other, set-get_or, get_or_default}
+use Rattle.std.proofs.lemmas.List.{length-set, get_or-set_same, get_or-set_other, get_or_default}
 use Rattle.std.proofs.lemmas.List.Sums.{sum_by-le}
 use Rattle.std.proofs.lemmas.Bool.{cases_eq}
 use Rattle.std.proofs.lemmas.Bool.Decides.{nat_tests}
@@ -17,7 +17,8 @@ use Rattle.core_events.specs.declared.view.CoreView.{CoreView}
 use Rattle.core_events.specs.declared.view.Move.{Move}
 use Rattle.core_events.specs.declared.view.Note.{Note}
 use Rattle.core_events.specs.declared.view.Note.TheVariants as note
-use Rattle.core_events.specs.Words.{ZERO, value, note_at, strong_at, weak_at, place_at}
+use Rattle.core_events.specs.Words.{note_at, strong_at, place_at}
+use Rattle.counter_word.specs.Words.{ZERO, value}
 use Rattle.core_events.specs.Views.{no_view, note_of}
 use Rattle.core_events.specs.Steps.{IsIdle}
 use Rattle.core_events.specs.Runs.{Core, view_at}
@@ -27,10 +28,11 @@ use Rattle.core_invariant.specs.Slots.{numbers}
 use Rattle.core_invariant.specs.Sound.{Sound, covering}
 use Rattle.core_invariant.proofs.Kit.{noting_set, noting_at, in_word_same, total_at}
 use Rattle.core_invariant.proofs.Flags.{live_low, live_taken}
-use Rattle.core_invariant.proofs.Writes.{OffBits, note_off, places_off, fields_sum_off, IsPlace, places_at}
+use Rattle.core_invariant.proofs.Writes.{OffBits, note_off, places_off, IsPlace, places_at}
 use Rattle.core_invariant.proofs.Bits.{bits_off, ticket_off}
 use Rattle.core_invariant.proofs.Guards.{guards_same}
-use Rattle.core_invariant.proofs.Put.{put, put_sound, step_sound, announced_put, guarded_put, unripe_put, tickets_put, fit_put, ripe_times, at_seat, adds_fit, law_alike, Alike}
+use Rattle.core_invariant.proofs.Wrote.{wrote_off}
+use Rattle.core_invariant.proofs.Put.{put, put_sound, still_sound, announced_put, guarded_put, unripe_put, tickets_put, fit_put, ripe_times, at_seat, adds_fit, law_alike, Alike}
 
 module _ (z : Shape) (c : Core) (n : ℕ) (so : Sound z c) (hn : n < z.seats) where
   abbrev v : CoreView
@@ -39,16 +41,7 @@ module _ (z : Shape) (c : Core) (n : ℕ) (so : Sound z c) (hn : n < z.seats) wh
   -- the seat's notes change, and nothing else that is counted
   noted_alike : (ns : List Note) (t : List Move) (x : SlotId)
       → Alike x v (record v { notes = ns; trail = t })
-  noted_alike ns t x = record {
-    strong = refl;
-    weak = refl;
-    fin = refl;
-    hlp = refl;
-    bar = refl;
-    fill = refl;
-    giv = refl;
-    dyi = refl;
-  }
+  noted_alike ns t x = omega arith
 
   noted_seat : (j : ℕ) (y : Note) (t : List Move) → v.left ≡ false
       → ((s : SlotId) → z.slots ≤ s.0 → in_note s y ≡ 0)
@@ -93,12 +86,12 @@ module _ (z : Shape) (c : Core) (n : ℕ) (so : Sound z c) (hn : n < z.seats) wh
       (cases_eq i j)
 
   -- a note is announced or released
-  pub note_step : (j : ℕ) (y : Note) (t : List Move) → IsIdle v → j < 4 → word_of_note y < 2 ^ 64
+  pub note_step : (j : ℕ) (y : Note) (t : List Move) (p : ℕ) → p ≡ note_at n j → IsIdle v → j < 4
+      → word_of_note y < 2 ^ 64
       → ((k : Kind) (s : SlotId) → y ≡ note.Valid k s → ⊥)
       → ((s : SlotId) → z.slots ≤ s.0 → in_note s y ≡ 0)
-      → Sound z (put c n (record v { notes = set v.notes j y; trail = t }) (note_at n j)
-      (word_of_note y))
-  note_step j y t idle hj fits not_valid there =
+      → Sound z (put c n (record v { notes = set v.notes j y; trail = t }) p (word_of_note y))
+  note_step j y t p here idle hj fits not_valid there = rw here (
       let u : CoreView = record v { notes = set v.notes j y; trail = t } in
       let p : ℕ = note_at n j in
       let w : ℕ = word_of_note y in
@@ -109,14 +102,7 @@ module _ (z : Shape) (c : Core) (n : ℕ) (so : Sound z c) (hn : n < z.seats) wh
         law = noted_seat j y t idle.1 there;
         slots = λ x hx. law_alike z c n u (set c.words p w) x so hn (omega arith)
             (noted_alike (set v.notes j y) t x)
-            (record {
-              strong = get_or-set_other c.words p (strong_at z x) w 0 (omega arith);
-              weak = get_or-set_other c.words p (weak_at z x) w 0 (omega arith);
-              bit = bits_off z c.words p w x before;
-              strong_places = places_off z c.words p w off Strong x;
-              weak_places = places_off z c.words p w off Weak x;
-              fields = fields_sum_off z c.words p w x (λ i l. omega arith) (omega arith);
-            }) hx;
+            (wrote_off z c.words p w x off hx (omega arith) (omega arith) (omega arith)) hx;
         announced = announced_put z c n u (set c.words p w) so hn
             (λ m i hm ne hi. get_or-set_other c.words p (note_at m i) w 0 (omega arith))
             (λ i hi. ⊎_elim
@@ -138,7 +124,7 @@ module _ (z : Shape) (c : Core) (n : ℕ) (so : Sound z c) (hn : n < z.seats) wh
         fit = fit_put z c n u p w so fits (λ x a b. bits_off z c.words p w x before);
       })
       refl refl
-      (so.room.each n no_view h)
+      (so.room.each n no_view h))
     where
       was_valid : (i : ℕ) (k : Kind) (s : SlotId)
           → note_of (record v { notes = set v.notes j y }) i ≡ note.Valid k s
@@ -171,40 +157,16 @@ module _ (z : Shape) (c : Core) (n : ℕ) (so : Sound z c) (hn : n < z.seats) wh
       (slice_index c.words p))
   valid_step j k s t p idle hj was covers unripe =
       let u : CoreView = record v { notes = set v.notes j (note.Valid k s); trail = t } in
-      let h = at_seat z c n so hn in
-      subst (λ (ws : List ℕ). Sound z (record { words = ws; views = set c.views n u }))
-      (sym (set-get_or c.words p 0))
-      (step_sound z c n u c.words so hn refl (record {
-        law = noted_seat j (note.Valid k s) t idle.1 in_range;
-        slots = λ x hx. law_alike z c n u c.words x so hn (omega arith)
-            (noted_alike (set v.notes j (note.Valid k s)) t x)
-            (record {
-              strong = refl;
-              weak = refl;
-              bit = refl;
-              strong_places = refl;
-              weak_places = refl;
-              fields = refl;
-            }) hx;
-        announced = announced_put z c n u c.words so hn
-            (λ m i hm ne hi. refl)
-            (λ i hi. so.announced n i h hi ∙ word_same i);
-        guarded = guarded_put z c n u c.words so hn
-            (λ i k' x hi valid. ⊎_elim (λ e. inr (covered k' x e)) (λ e. inl e)
-            (noted_or j i (note.Valid k s) (note.Valid k' x) hj valid))
-            (λ m i k' x hm hi valid is.
-            let g = guards_same (4 * m + i) k' x v u refl refl refl in
-            ((λ pos. omega arith), (λ pos. omega arith)));
-        unripe = unripe_put z c n u c.words so hn
-            (λ i x hi valid. ⊎_elim (λ e. inr (ripe_none x e, omega arith)) (λ e. inl e)
-            (noted_or j i (note.Valid k s) (note.Valid Disposal x) hj valid))
-            (λ m i x hm hi valid. omega arith);
-        range = so.range;
-        tickets = tickets_put z c n u c.words so hn refl refl (omega arith) refl;
-        fit = record { fit = so.fit.fit; spare = so.fit.spare };
-      })
-      refl refl
-      (so.room.each n no_view h))
+      still_sound z c n u p so hn (noted_seat j (note.Valid k s) t idle.1 in_range) (assumption)
+      (noted_alike (set v.notes j (note.Valid k s)) t) word_same
+      (λ i k' x hi valid. ⊎_elim (λ e. inr (covered k' x e)) (λ e. inl e)
+      (noted_or j i (note.Valid k s) (note.Valid k' x) hj valid))
+      (λ m i k' x hm hi valid is.
+      let g = guards_same (4 * m + i) k' x v u refl refl refl in omega arith)
+      (λ i x hi valid. ⊎_elim (λ e. inr (ripe_none x e, omega arith)) (λ e. inl e)
+      (noted_or j i (note.Valid k s) (note.Valid Disposal x) hj valid))
+      (λ m i x hm hi valid. omega arith)
+      (so.room.each n no_view (at_seat z c n so hn))
     where
       covered : (k' : Kind) (x : SlotId) → note.Valid k s ≡ note.Valid k' x
           → 0 < covering k' z c.words x

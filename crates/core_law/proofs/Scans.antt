@@ -1,7 +1,6 @@
 -- The reads of a scan, and what its last one makes, keep the invariant.
 use Rattle.std.proofs.Common.{◌≡◌, ◌≢◌, ◌⊎◌, inl, inr, ⊎_elim, ℕ, ◌+◌, ◌*◌, ◌<◌, ◌≤◌, Bool, true, false, List, [], ◌∷◌, ◌++◌, length, set, refl, ap, sym, ◌∙◌, subst, arith, length-append}
 use Rattle.std.specs.Prelude.{slice_index, if◌then◌else◌}
-use Rattle.std.proofs.lemmas.List.{set-get_or}
 use Rattle.std.proofs.lemmas.Bool.{cases_lt}
 use Rattle.plain_state.specs.declared.slot.Kind.{Kind}
 use Rattle.plain_state.specs.declared.slot.Kind.TheVariants.{Strong, Weak, Disposal}
@@ -12,10 +11,11 @@ use Rattle.core_events.specs.declared.view.CoreView.{CoreView}
 use Rattle.core_events.specs.declared.view.Move.{Move}
 use Rattle.core_events.specs.declared.view.Note.TheVariants as note
 use Rattle.core_events.specs.declared.view.Phase.TheVariants as phase
-use Rattle.core_events.specs.Words.{code}
-use Rattle.core_events.specs.Ejection.{seen_times, kept, ejected}
+use Rattle.announce_slots.specs.Words.{code}
+use Rattle.announce_slots.specs.Seen.{announced_in, seen_times}
+use Rattle.plain_state.specs.Ejection.{kept, ejected, ripens, ripened}
 use Rattle.core_events.specs.Views.{no_view, note_of}
-use Rattle.core_events.specs.Steps.{IsIdle, ripens, ripened}
+use Rattle.core_events.specs.Steps.{IsIdle}
 use Rattle.core_events.specs.Runs.{Core, view_at}
 use Rattle.core_events.specs.Counts.{guarding, waiting, has_passed, total, strong, dying_times, adds_used, is_live_word}
 use Rattle.core_invariant.specs.Slots.{numbers}
@@ -24,8 +24,10 @@ use Rattle.core_events.specs.Good.{word_of_note}
 use Rattle.core_invariant.proofs.Kit.{entry_none, total_set, total_at, times_none}
 use Rattle.core_invariant.proofs.Flags.{live_taken}
 use Rattle.core_invariant.proofs.Held.{guard_le, total_le}
-use Rattle.core_invariant.proofs.Splits.{seen_at, kept_times, split_times, split_length, ripened_times, ripens_not}
-use Rattle.core_invariant.proofs.Put.{put, step_sound, announced_put, guarded_put, unripe_put, tickets_put, at_seat, adds_fit, law_alike}
+use Rattle.core_invariant.proofs.Ripening.{ripened_times, ripens_not}
+use Rattle.announce_slots.proofs.Counting.{seen_at}
+use Rattle.plain_state.proofs.Ejections.{kept_times, split_times, split_length}
+use Rattle.core_invariant.proofs.Put.{put, still_sound, at_seat, adds_fit}
 use Rattle.core_invariant.proofs.Phases.{Counted, in_idle, in_scan}
 use Rattle.core_invariant.proofs.Steady.{noted_in_range}
 use Rattle.core_law.proofs.Live.{dying_once}
@@ -57,69 +59,35 @@ module _ (z : Shape) (c : Core) (n : ℕ) (so : Sound z c) (hn : n < z.seats) wh
       (slice_index c.words p))
   scan_step w t at more reads p =
       let u : CoreView = record v { phase = phase.Scan; seen = v.seen ++ w ∷ []; trail = t } in
-      let h = at_seat z c n so hn in
       let law = so.seats n hn in
       let l = length-append v.seen (w ∷ []) in
-      subst (λ (ws : List ℕ). Sound z (record { words = ws; views = set c.views n u }))
-      (sym (set-get_or c.words p 0))
-      (step_sound z c n u c.words so hn refl (record {
-        law = record {
-          number = law.number;
-          same_shape = law.same_shape;
-          quota = law.quota;
-          adds = law.adds;
-          makes = law.makes;
-          can_start = λ s e. ⊎_elim (λ f. absurd (cc (f))) (λ f. absurd (cc (f))) e;
-          four = law.four;
-          scans = inr refl;
-          reads = let r = law.reads in omega arith;
-          owes_nothing = λ e. owes_none at;
-          ripe = law.ripe;
-          kinds = law.kinds;
-          range = λ s le. let r = law.range s le in let q = quiet at s in omega arith;
-          gone = λ e. absurd (stays_here at e);
-        };
-        slots = λ x hx. law_alike z c n u c.words x so hn (omega arith)
-            (let q = quiet at x in record {
-              strong = refl;
-              weak = refl;
-              fin = omega arith;
-              hlp = omega arith;
-              bar = omega arith;
-              fill = omega arith;
-              giv = omega arith;
-              dyi = refl;
-            })
-            (record {
-              strong = refl;
-              weak = refl;
-              bit = refl;
-              strong_places = refl;
-              weak_places = refl;
-              fields = refl;
-            }) hx;
-        announced = announced_put z c n u c.words so hn (λ m i hm ne hi. refl)
-            (λ i hi. so.announced n i h hi);
-        guarded = guarded_put z c n u c.words so hn
-            (λ i k s hi valid. inl valid)
-            (λ m i k s hm hi valid is.
-            let g = goes_on (4 * m + i) k s is in
-            ((λ pos. omega arith), (λ pos. omega arith)));
-        unripe = unripe_put z c n u c.words so hn (λ i s hi valid. inl valid)
-            (λ m i s hm hi valid. omega arith);
-        range = so.range;
-        tickets = tickets_put z c n u c.words so hn refl refl (omega arith) refl;
-        fit = record { fit = so.fit.fit; spare = so.fit.spare };
+      still_sound z c n u p so hn
+      (record {
+        number = law.number;
+        same_shape = law.same_shape;
+        quota = law.quota;
+        adds = law.adds;
+        makes = law.makes;
+        can_start = λ s e. ⊎_elim (λ f. absurd (cc (f))) (λ f. absurd (cc (f))) e;
+        four = law.four;
+        scans = inr refl;
+        reads = let r = law.reads in omega arith;
+        owes_nothing = λ e. owes_none at;
+        ripe = law.ripe;
+        kinds = law.kinds;
+        range = λ s le. let r = law.range s le in let q = quiet at s in omega arith;
+        gone = λ e. absurd (stays_here at e);
       })
-      refl refl
-      (so.room.each n no_view h))
+      (assumption) (λ x. let q = quiet at x in omega arith) (λ j. refl)
+      (λ i k s hi valid. inl valid)
+      (λ m i k s hm hi valid is. let g = goes_on (4 * m + i) k s is in omega arith)
+      (λ i s hi valid. inl valid) (λ m i s hm hi valid. omega arith)
+      (so.room.each n no_view (at_seat z c n so hn))
     where
       same_waiting : (k : Kind) (s : SlotId)
           → waiting k s (record v { phase = phase.Scan; seen = v.seen ++ w ∷ []; trail = t })
           ≡ waiting k s v
-      same_waiting Strong s = refl
-      same_waiting Weak s = refl
-      same_waiting Disposal s = refl
+      same_waiting k s = grind arith
 
       -- the word read is that of the note, so it passes none
       goes_on : (a : ℕ) (k : Kind) (s : SlotId) → slice_index c.words (1 + a) ≡ code k s
@@ -143,9 +111,9 @@ module _ (z : Shape) (c : Core) (n : ℕ) (so : Sound z c) (hn : n < z.seats) wh
     u = record v {
       phase = phase.Idle;
       seen = [];
-      retired = kept v.retired (v.seen ++ w ∷ []);
-      owed = ejected v.retired (v.seen ++ w ∷ []);
-      ripe = ripened v.ripe v.dying (v.seen ++ w ∷ []);
+      retired = kept v.retired (announced_in (v.seen ++ w ∷ []));
+      owed = ejected v.retired (announced_in (v.seen ++ w ∷ []));
+      ripe = ripened v.ripe v.dying (announced_in (v.seen ++ w ∷ []));
       trail = t;
     }
 
@@ -179,12 +147,12 @@ module _ (z : Shape) (c : Core) (n : ℕ) (so : Sound z c) (hn : n < z.seats) wh
     guards_on a Strong s ha is pos =
         let r = guard_read a Strong s ha is pos in
         let new = guards_all a Strong s u refl in
-        let m = kept_times Strong s v.retired all in
+        let m = kept_times Strong s v.retired (announced_in all) in
         let q = r.0 in let y = r.1 in omega arith
     guards_on a Weak s ha is pos =
         let r = guard_read a Weak s ha is pos in
         let new = guards_all a Weak s u refl in
-        let m = kept_times Weak s v.retired all in
+        let m = kept_times Weak s v.retired (announced_in all) in
         let q = r.0 in let y = r.1 in omega arith
     guards_on a Disposal s ha is pos =
         let r = guard_read a Disposal s ha is pos in
@@ -221,9 +189,9 @@ module _ (z : Shape) (c : Core) (n : ℕ) (so : Sound z c) (hn : n < z.seats) wh
         subst (λ (q : ℕ). slice_index c.words q ≡ code Disposal s) same
         (so.announced m i hm' hi ∙ ap word_of_note valid) in
         let r = guard_read (4 * m + i) Disposal s (omega arith) is mine in
-        let no' = ripens_not s v.ripe all (inr r.0) in
+        let no' = ripens_not s v.ripe (announced_in all) (inr r.0) in
         let e : times s u.ripe ≡ times s v.ripe + (if false then times s v.dying else 0) =
-        ripened_times s v.ripe v.dying all
+        ripened_times s v.ripe v.dying (announced_in all)
         ∙ ap (λ (b : Bool). times s v.ripe + (if b then times s v.dying else 0)) no' in
         omega arith)
         (λ (none : times s v.dying ≤ 0). let b = ripened_most s in omega arith)
@@ -246,8 +214,8 @@ module _ (z : Shape) (c : Core) (n : ℕ) (so : Sound z c) (hn : n < z.seats) wh
 
         ripened_most : (x : SlotId) → times x u.ripe ≤ times x v.ripe + times x v.dying
         ripened_most x =
-            let e = ripened_times x v.ripe v.dying all in
-            let l = at_most (ripens v.ripe all x) in omega arith
+            let e = ripened_times x v.ripe v.dying (announced_in all) in
+            let l = at_most (ripens v.ripe (announced_in all) x) in omega arith
           where
             at_most : (b : Bool) → (if b then times x v.dying else 0) ≤ times x v.dying
             at_most true = omega arith
@@ -255,18 +223,18 @@ module _ (z : Shape) (c : Core) (n : ℕ) (so : Sound z c) (hn : n < z.seats) wh
 
     -- what is ripe waits to be destroyed
     ripe_dies : (s : SlotId) → times s u.ripe ≤ times s u.dying
-    ripe_dies s = go (ripens v.ripe all s) refl
+    ripe_dies s = go (ripens v.ripe (announced_in all) s) refl
       where
         law : times s v.ripe ≤ times s v.dying
         law = (so.seats n hn).ripe s
 
-        e : times s u.ripe ≡ times s v.ripe + (if ripens v.ripe all s then times s v.dying else 0)
-        e = ripened_times s v.ripe v.dying all
+        e : times s u.ripe ≡ times s v.ripe + (if ripens v.ripe (announced_in all) s then times s v.dying else 0)
+        e = ripened_times s v.ripe v.dying (announced_in all)
 
-        go : (b : Bool) → ripens v.ripe all s ≡ b → times s u.ripe ≤ times s v.dying
+        go : (b : Bool) → ripens v.ripe (announced_in all) s ≡ b → times s u.ripe ≤ times s v.dying
         go true is = ⊎_elim
             (λ (has : 0 < times s v.ripe).
-            let f = ripens_not s v.ripe all (inl has) in absurd (cc (f, is)))
+            let f = ripens_not s v.ripe (announced_in all) (inl has) in absurd (cc (f, is)))
             (λ (none : times s v.ripe ≤ 0).
             let f : times s u.ripe ≡ times s v.ripe + times s v.dying =
             e ∙ ap (λ (b : Bool). times s v.ripe + (if b then times s v.dying else 0)) is in
@@ -279,70 +247,44 @@ module _ (z : Shape) (c : Core) (n : ℕ) (so : Sound z c) (hn : n < z.seats) wh
 
     pub split_step : (p : ℕ) → Sound z (put c n u p (slice_index c.words p))
     split_step p =
-        let h = at_seat z c n so hn in
         let law = so.seats n hn in
-        subst (λ (ws : List ℕ). Sound z (record { words = ws; views = set c.views n u }))
-        (sym (set-get_or c.words p 0))
-        (step_sound z c n u c.words so hn refl (record {
-          law = record {
-            number = law.number;
-            same_shape = law.same_shape;
-            quota = law.quota;
-            adds = law.adds;
-            makes = law.makes;
-            can_start = λ s e. ⊎_elim (λ f. absurd (cc (f))) (λ f. absurd (cc (f))) e;
-            four = law.four;
-            scans = inl refl;
-            reads = let r = law.reads in omega arith;
-            owes_nothing = λ e. absurd (cc (e));
-            ripe = ripe_dies;
-            kinds = λ s.
-                let d = law.kinds s in let a = split_times Disposal s v.retired all in omega arith;
-            range = λ s le.
-                let r = law.range s le in
-                let q = quiet at s in
-                let d = ripe_dies s in
-                let a = split_times Strong s v.retired all in
-                let b = split_times Weak s v.retired all in
-                let e = split_times Disposal s v.retired all in omega arith;
-            gone = λ e. absurd (stays_here at e);
-          };
-          slots = λ x hx. law_alike z c n u c.words x so hn (omega arith)
-              (let q = quiet at x in
-              let a = split_times Strong x v.retired all in
-              let b = split_times Weak x v.retired all in
-              let e = owed_none Strong x in
-              let f = owed_none Weak x in record {
-                strong = omega arith;
-                weak = omega arith;
-                fin = omega arith;
-                hlp = omega arith;
-                bar = omega arith;
-                fill = omega arith;
-                giv = omega arith;
-                dyi = refl;
-              })
-              (record {
-                strong = refl;
-                weak = refl;
-                bit = refl;
-                strong_places = refl;
-                weak_places = refl;
-                fields = refl;
-              }) hx;
-          announced = announced_put z c n u c.words so hn (λ m i hm ne hi. refl)
-              (λ i hi. so.announced n i h hi);
-          guarded = guarded_put z c n u c.words so hn
-              (λ i k s hi valid. inl valid)
-              (λ m i k s hm hi valid is. (
-                (λ pos. let g = guards_on (4 * m + i) k s (omega arith) is pos in omega arith),
-                (λ pos. omega arith),
-              ));
-          unripe = unripe_put z c n u c.words so hn (λ i s hi valid. inl valid) ripens_none;
-          range = so.range;
-          tickets = tickets_put z c n u c.words so hn refl refl (omega arith) refl;
-          fit = record { fit = so.fit.fit; spare = so.fit.spare };
+        let splits = λ (k : Kind) (s : SlotId). split_times k s v.retired (announced_in all) in
+        still_sound z c n u p so hn
+        (record {
+          number = law.number;
+          same_shape = law.same_shape;
+          quota = law.quota;
+          adds = law.adds;
+          makes = law.makes;
+          can_start = λ s e. ⊎_elim (λ f. absurd (cc (f))) (λ f. absurd (cc (f))) e;
+          four = law.four;
+          scans = inl refl;
+          reads = let r = law.reads in omega arith;
+          owes_nothing = λ e. absurd (cc (e));
+          ripe = ripe_dies;
+          kinds = λ s. let d = law.kinds s in let a = splits Disposal s in omega arith;
+          range = λ s le.
+              let r = law.range s le in
+              let q = quiet at s in
+              let d = ripe_dies s in
+              let a = splits Strong s in
+              let b = splits Weak s in
+              let e = splits Disposal s in omega arith;
+          gone = λ e. absurd (stays_here at e);
         })
-        refl refl
-        (let f = so.room.each n no_view h in let g = split_length v.retired all in
-        let o = ap length (owes_none at) in omega arith))
+        (assumption)
+        (λ x.
+        let q = quiet at x in
+        let a = splits Strong x in
+        let b = splits Weak x in
+        let e = owed_none Strong x in
+        let f = owed_none Weak x in omega arith)
+        (λ j. refl) (λ i k s hi valid. inl valid)
+        (λ m i k s hm hi valid is. (
+          (λ pos. let g = guards_on (4 * m + i) k s (omega arith) is pos in omega arith),
+          (λ pos. omega arith),
+        ))
+        (λ i s hi valid. inl valid) ripens_none
+        (let f = so.room.each n no_view (at_seat z c n so hn) in
+        let g = split_length v.retired (announced_in all) in
+        let o = ap length (owes_none at) in omega arith)

@@ -1,25 +1,25 @@
 -- A seat that draws a ticket keeps the invariant.
-use Rattle.std.proofs.Common.{◌≡◌, ◌≢◌, ⊎_elim, ℕ, ◌+◌, ◌<◌, ◌≤◌, List, [], ◌∷◌, ◌++◌, set, refl, ap, sym, ◌∙◌, arith}
+use Rattle.std.proofs.Common.{◌≡◌, ⊎_elim, ℕ, ◌+◌, ◌<◌, ◌≤◌, List, [], ◌∷◌, ◌++◌, set, refl, ap, sym, ◌∙◌, arith}
 use Rattle.std.specs.Prelude.{slice_index, nat_lt, ◌==◌, cond, if◌then◌else◌}
 use Rattle.std.proofs.lemmas.List.{get_or-set_same, get_or-set_other}
 use Rattle.std.proofs.lemmas.List.Sums.{sum_by_push}
-use Rattle.std.proofs.lemmas.Bool.{cases_eq}
 use Rattle.std.proofs.lemmas.Bool.Decides.{nat_tests}
-use Rattle.plain_state.specs.declared.slot.Kind.TheVariants.{Strong, Weak, Disposal}
+use Rattle.plain_state.specs.declared.slot.Kind.TheVariants.{Disposal}
 use Rattle.core_events.specs.declared.shape.Shape.{Shape}
 use Rattle.core_events.specs.declared.view.CoreView.{CoreView}
 use Rattle.core_events.specs.declared.view.Move.{Move}
-use Rattle.core_events.specs.Words.{strong_at, weak_at, bits_at, bit_in, ticket_at}
+use Rattle.core_events.specs.Words.{strong_at, bits_at, bit_in, ticket_at}
 use Rattle.core_events.specs.Views.{granted}
 use Rattle.core_events.specs.Steps.{plus_one, IsIdle, HasAdd}
 use Rattle.core_events.specs.Runs.{Core, view_at}
 use Rattle.core_events.specs.Counts.{total, ticket_times, number_times, is_live_word}
 use Rattle.core_invariant.specs.Sound.{Sound, covering}
 use Rattle.core_invariant.proofs.Kit.{total_set}
-use Rattle.core_invariant.proofs.Writes.{past_off, places_off, fields_sum_off}
+use Rattle.core_invariant.proofs.Writes.{past_off}
 use Rattle.core_invariant.proofs.Guards.{guards_same}
 use Rattle.core_invariant.proofs.Put.{put, at_seat, adds_fit, law_alike}
 use Rattle.core_invariant.proofs.Steady.{steady_put}
+use Rattle.core_invariant.proofs.Wrote.{wrote_off}
 
 -- one number more in a list
 number_push : (t w : ℕ) (ts : List ℕ) → number_times t (ts ++ w ∷ []) ≡ number_times t ts
@@ -30,10 +30,7 @@ number_push t w ts = sum_by_push (λ (x : ℕ). cond (x == t) 1 0) ts w
 -- the numbers below w and w itself are those below w + 1
 one_more : (t w : ℕ) → (if nat_lt t w then 1 else 0) + (if w == t then 1 else 0)
     ≡ (if nat_lt t (w + 1) then 1 else 0)
-one_more t w = ⊎_elim
-    (λ (e : w ≡ t). grind (arith, nat_tests))
-    (λ (ne : w ≢ t). grind (arith, nat_tests))
-    (cases_eq w t)
+one_more t w = grind (arith, nat_tests)
 
 -- a ticket more grants no fewer makes
 granted_push : (grants ts : List ℕ) (w : ℕ) → granted grants ts ≤ granted grants (ts ++ w ∷ [])
@@ -91,27 +88,10 @@ module _ (z : Shape) (c : Core) (n : ℕ) (so : Sound z c) (hn : n < z.seats) wh
         gone = λ e. absurd (cc (idle.1, e));
       })
       (λ x hx. law_alike z c n u (set c.words (ticket_at z) (plus_one drawn)) x so hn (omega arith)
-      (record {
-        strong = refl;
-        weak = refl;
-        fin = refl;
-        hlp = refl;
-        bar = refl;
-        fill = refl;
-        giv = refl;
-        dyi = refl;
-      })
-      (record {
-        strong = get_or-set_other c.words (ticket_at z) (strong_at z x) (plus_one drawn) 0 (omega arith);
-        weak = get_or-set_other c.words (ticket_at z) (weak_at z x) (plus_one drawn) 0 (omega arith);
-        bit = ap (bit_in x)
-            (get_or-set_other c.words (ticket_at z) (bits_at z x) (plus_one drawn) 0 (omega arith));
-        strong_places = places_off z c.words (ticket_at z) (plus_one drawn) off.0 Strong x;
-        weak_places = places_off z c.words (ticket_at z) (plus_one drawn) off.0 Weak x;
-        fields = fields_sum_off z c.words (ticket_at z) (plus_one drawn) x (λ k l. omega arith)
-            (omega arith);
-      }) hx)
-      (record { notes = refl; retired = refl; seen = refl; room = refl; left = refl })
+      (omega arith)
+      (wrote_off z c.words (ticket_at z) (plus_one drawn) x off.0 hx (omega arith) (omega arith)
+      (omega arith)) hx)
+      (assumption)
       (record {
         each = λ t'.
             let s = total_set (ticket_times t') c.views n u h in

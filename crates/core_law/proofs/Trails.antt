@@ -1,26 +1,18 @@
 -- The trail of a seat is its events with their answers.
 use Rattle.std.proofs.Common.{◌≡◌, ◌≢◌, ⊎_elim, ℕ, ◌<◌, Bool, true, false, List, [], ◌∷◌, ◌++◌, get_or, set, refl, ap, sym, ◌∙◌, subst, arith, append_assoc}
-use Rattle.std.specs.Prelude.{◌==◌, nat_lt, if◌then◌else◌, Option, Some, None}
+use Rattle.std.specs.Prelude.{◌==◌, if◌then◌else◌}
 use Rattle.std.proofs.lemmas.List.{append-nil, length-set, get_or-set_same, get_or-set_other}
 use Rattle.std.proofs.lemmas.Bool.{cases_eq}
 use Rattle.std.proofs.lemmas.Bool.Decides.{nat_tests}
-use Rattle.plain_state.specs.declared.slot.Kind.{Kind}
-use Rattle.plain_state.specs.declared.slot.Kind.TheVariants.{Strong, Weak, Disposal}
-use Rattle.plain_state.specs.declared.slot.SlotId.{SlotId}
-use Rattle.plain_state.specs.Lists.{Entry}
-use Rattle.plain_state.specs.Places.{place_kind}
-use Rattle.plain_state.specs.Steps.{word_of}
 use Rattle.core_events.specs.declared.act.Act.{Act}
 use Rattle.core_events.specs.declared.act.Act.TheVariants as act
 use Rattle.core_events.specs.declared.act.Event.{Event}
 use Rattle.core_events.specs.declared.outcome.Outcome.TheVariants as outcome
 use Rattle.core_events.specs.declared.shape.Shape.{Shape}
-use Rattle.core_events.specs.Views.{Terms}
+use Rattle.core_events.specs.Views.{Terms, no_view}
 use Rattle.core_events.specs.declared.view.CoreView.{CoreView}
 use Rattle.core_events.specs.declared.view.Move.{Move}
-use Rattle.core_events.specs.Words.{ZERO, has_help, value, bit_in}
-use Rattle.core_events.specs.Views.{no_view, note_of, without}
-use Rattle.core_events.specs.Steps.{May, changed, moved, noted, given_up, paid, exchanged, is_valid, is_last}
+use Rattle.core_events.specs.Steps.{May, changed, moved, noted}
 use Rattle.core_events.specs.Runs.{Core, view_at, found, Enabled, after, views_after, run, AreEnabled, outcome_of, moves_of, start, taken_over, left_behind, IsShape, AreTerms}
 use Rattle.core_invariant.specs.Sound.{Sound}
 use Rattle.core_law.proofs.Always.{step_keeps, is_leave}
@@ -33,103 +25,15 @@ pub record SameTrail (v u : CoreView) : Type 0 where
   pub left : u.left ≡ v.left
   pub left_seats : u.left_seats ≡ v.left_seats
 
-pick : (b : Bool) (x y v : CoreView) → SameTrail v x → SameTrail v y
-    → SameTrail v (if b then x else y)
-pick true x y v a b = a
-pick false x y v a b = b
-
-give : (k : Kind) (s : SlotId) (w : ℕ) (u v : CoreView) → SameTrail v u
-    → SameTrail v (given_up k s w u)
-give Strong s w u v a = record { trail = a.trail; left = a.left; left_seats = a.left_seats }
-give Weak s w u v a = record { trail = a.trail; left = a.left; left_seats = a.left_seats }
-give Disposal s w u v a = a
-
-exchange : (k : Kind) (new : Option SlotId) (w : ℕ) (v : CoreView)
-    → SameTrail v (exchanged k new w v)
-exchange k None w v = record { trail = refl; left = refl; left_seats = refl }
-exchange Strong (Some s) w v = record { trail = refl; left = refl; left_seats = refl }
-exchange Weak (Some s) w v = record { trail = refl; left = refl; left_seats = refl }
-exchange Disposal (Some s) w v = record { trail = refl; left = refl; left_seats = refl }
-
 -- nothing but the noting changes a trail
 pub changed_trail : (z : Shape) (a : Act) (w : ℕ) (v : CoreView) → SameTrail v (changed z a w v)
-changed_trail z (act.Add s) w v = pick (nat_lt w ZERO) _ _ v (record { trail = refl; left = refl; left_seats = refl })
-    (record { trail = refl; left = refl; left_seats = refl })
-changed_trail z (act.Drop s) w v =
-    give Strong s w (record v { owned = without s v.owned }) v
-    (record { trail = refl; left = refl; left_seats = refl })
-changed_trail z act.Pay w v = pays v.owed
-  where
-    pays : (es : List Entry) → SameTrail v (paid w es v)
-    pays [] = record { trail = refl; left = refl; left_seats = refl }
-    pays (e ∷ es) = give e.0 e.1 w (record v { owed = es }) v (record { trail = refl; left = refl; left_seats = refl })
-changed_trail z act.Finish w v = pick (w == 0) _ _ v (record { trail = refl; left = refl; left_seats = refl })
-    (record { trail = refl; left = refl; left_seats = refl })
-changed_trail z act.Take w v = pick (has_help w) _ _ v (record { trail = refl; left = refl; left_seats = refl })
-    (record { trail = refl; left = refl; left_seats = refl })
-changed_trail z (act.Count s) w v = pick (w == 0) _ _ v (record { trail = refl; left = refl; left_seats = refl })
-    (record { trail = refl; left = refl; left_seats = refl })
-changed_trail z act.Mark w v = record { trail = refl; left = refl; left_seats = refl }
-changed_trail z (act.Announce j k s) w v = record { trail = refl; left = refl; left_seats = refl }
-changed_trail z (act.Release j) w v = record { trail = refl; left = refl; left_seats = refl }
-changed_trail z (act.Look p) w v = record { trail = refl; left = refl; left_seats = refl }
-changed_trail z (act.Check j p) w v = pick (is_valid w (note_of v j)) _ _ v
-    (record { trail = refl; left = refl; left_seats = refl })
-    (record { trail = refl; left = refl; left_seats = refl })
-changed_trail z (act.Alive j) w v = pick (nat_lt 0 (value w)) _ _ v
-    (record { trail = refl; left = refl; left_seats = refl })
-    (record { trail = refl; left = refl; left_seats = refl })
-changed_trail z act.Scan w v = pick (is_last z v) _ _ v (record { trail = refl; left = refl; left_seats = refl })
-    (record { trail = refl; left = refl; left_seats = refl })
-changed_trail z (act.Swap p new) w v = exchange (place_kind p) new w v
-changed_trail z (act.Cas p old new) w v = pick (w == word_of old) _ _ v
-    (exchange (place_kind p) new w v) (record { trail = refl; left = refl; left_seats = refl })
-changed_trail z (act.Claim s) w v = pick (bit_in s w == 1) _ _ v (record { trail = refl; left = refl; left_seats = refl })
-    (record { trail = refl; left = refl; left_seats = refl })
-changed_trail z act.Arm w v = record { trail = refl; left = refl; left_seats = refl }
-changed_trail z (act.Fill i x) w v = record { trail = refl; left = refl; left_seats = refl }
-changed_trail z act.Start w v = record { trail = refl; left = refl; left_seats = refl }
-changed_trail z (act.See s i) w v = record { trail = refl; left = refl; left_seats = refl }
-changed_trail z act.Free w v = record { trail = refl; left = refl; left_seats = refl }
-changed_trail z act.Ticket w v = record { trail = refl; left = refl; left_seats = refl }
-changed_trail z (act.Wadd s) w v = record { trail = refl; left = refl; left_seats = refl }
-changed_trail z (act.Wdrop s) w v =
-    give Weak s w (record v { weaks = without s v.weaks }) v (record { trail = refl; left = refl; left_seats = refl })
-changed_trail z (act.Destroy s) w v =
-    give Weak s w (record v { dying = without s v.dying; ripe = without s v.ripe }) v (record { trail = refl; left = refl; left_seats = refl })
-changed_trail z (act.Wcount s) w v = record { trail = refl; left = refl; left_seats = refl }
-changed_trail z (act.Leave j) w v = record { trail = refl; left = refl; left_seats = refl }
+changed_trail z a w v = grind arith
 
 -- an act that isn't a leave changes one view
 pub views_plain : (z : Shape) (c : Core) (n : ℕ) (a : Act) → ((j : ℕ) → a ≡ act.Leave j → ⊥)
     → views_after z c n a ≡ set c.views n (moved z a (found z c n a) (view_at c n))
-views_plain z c n (act.Add s) stays = refl
-views_plain z c n (act.Drop s) stays = refl
-views_plain z c n act.Pay stays = refl
-views_plain z c n act.Finish stays = refl
-views_plain z c n act.Take stays = refl
-views_plain z c n (act.Count s) stays = refl
-views_plain z c n act.Mark stays = refl
-views_plain z c n (act.Announce j k s) stays = refl
-views_plain z c n (act.Release j) stays = refl
-views_plain z c n (act.Look p) stays = refl
-views_plain z c n (act.Check j p) stays = refl
-views_plain z c n (act.Alive j) stays = refl
-views_plain z c n act.Scan stays = refl
-views_plain z c n (act.Swap p new) stays = refl
-views_plain z c n (act.Cas p old new) stays = refl
-views_plain z c n (act.Claim s) stays = refl
-views_plain z c n act.Arm stays = refl
-views_plain z c n (act.Fill i x) stays = refl
-views_plain z c n act.Start stays = refl
-views_plain z c n (act.See s i) stays = refl
-views_plain z c n act.Free stays = refl
-views_plain z c n act.Ticket stays = refl
-views_plain z c n (act.Wadd s) stays = refl
-views_plain z c n (act.Wdrop s) stays = refl
-views_plain z c n (act.Destroy s) stays = refl
-views_plain z c n (act.Wcount s) stays = refl
 views_plain z c n (act.Leave j) stays = absurd (stays j refl)
+views_plain z c n a stays = refl
 
 -- what one event of seat m adds to seat n's trail
 abbrev added : Shape → Core → ℕ → Event → List Move

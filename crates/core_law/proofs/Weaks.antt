@@ -1,7 +1,6 @@
 -- Each step that gains or gives up a weak reference keeps the invariant, and each destruction.
-use Rattle.std.proofs.Common.{◌≡◌, ◌≢◌, ◌⊎◌, ⊎_elim, ℕ, ◌+◌, ◌<◌, List, [], ◌∷◌, ◌++◌, refl, ap, sym, arith}
-use Rattle.plain_state.specs.declared.slot.Kind.{Kind}
-use Rattle.plain_state.specs.declared.slot.Kind.TheVariants.{Strong, Weak, Disposal}
+use Rattle.std.proofs.Common.{◌≡◌, ◌≢◌, ℕ, ◌+◌, ◌<◌, List, [], ◌∷◌, ◌++◌, refl, ap, arith}
+use Rattle.plain_state.specs.declared.slot.Kind.TheVariants.{Strong, Weak}
 use Rattle.plain_state.specs.declared.slot.SlotId.{SlotId}
 use Rattle.plain_state.specs.Lists.{times}
 use Rattle.core_events.specs.declared.shape.Shape.{Shape}
@@ -13,19 +12,18 @@ use Rattle.core_events.specs.Words.{weak_at}
 use Rattle.core_events.specs.Views.{Holds, without}
 use Rattle.core_events.specs.Steps.{plus_one, minus_one, IsIdle, HasAdd}
 use Rattle.core_events.specs.Runs.{Core, view_at, HasNullFields}
-use Rattle.core_events.specs.Counts.{weak, listed}
+use Rattle.core_events.specs.Counts.{weak}
 use Rattle.core_invariant.specs.Slots.{numbers}
 use Rattle.core_invariant.specs.Sound.{Sound}
 use Rattle.core_invariant.proofs.Kit.{one_same, one_other, times_push, times_without, total_at}
 use Rattle.core_invariant.proofs.Held.{held_taken, held_named}
 use Rattle.core_invariant.proofs.Put.{put, at_seat, ripe_times}
 use Rattle.core_invariant.proofs.Steady.{named_in_range}
-use Rattle.core_invariant.proofs.Phases.{in_idle, in_give}
-use Rattle.core_law.proofs.WeakSteps as slot
-use Rattle.core_law.proofs.StrongSteps.{same_strong}
+use Rattle.core_invariant.proofs.Phases.{in_idle, in_give, at_idle, at_give}
+use Rattle.core_law.proofs.SlotSteps as slot
 use Rattle.core_law.proofs.Live.{plus_fits, minus_fits}
-use Rattle.core_law.proofs.OneWord.{Having, having, with_having, IsAt, at_idle, at_give, same_of, Touches, weak_step}
-use Rattle.core_law.proofs.Counters.{GivesUp, gains, loses, idle_here}
+use Rattle.core_law.proofs.OneWord.{Having, having, with_having, weak_step}
+use Rattle.core_law.proofs.Counters.{GivesUp}
 
 module _ (z : Shape) (c : Core) (n : ℕ) (so : Sound z c) (hn : n < z.seats) where
   abbrev v : CoreView
@@ -37,23 +35,17 @@ module _ (z : Shape) (c : Core) (n : ℕ) (so : Sound z c) (hn : n < z.seats) wh
       → Sound z (put c n (record v { weaks = v.weaks ++ s ∷ []; adds = v.adds + 1; trail = t })
       (weak_at z s) (plus_one (weak z c s)))
   weak_add s t idle quota held =
-      let k : Having = record (having v) { weaks = v.weaks ++ s ∷ []; adds = v.adds + 1; trail = t } in
       let o = one_same s s refl in
       let p = in_idle v.phase s idle.0 in
       let e = times_push s s v.weaks in
       let hs : s.0 < z.slots = named_in_range z n v s (so.seats n hn) (held_named s v held) in
       let taken = held_taken z c n s so hn hs held in
-      weak_step z c n so hn s k (plus_one (weak z c s)) hs (plus_fits (weak z c s))
-      (gains z c n so hn s k idle idle.0 quota refl refl refl refl refl (λ x ne.
-      let other = one_other x s (λ e. ne (sym e)) in
-      let e = times_push x s v.weaks in
-      same_of refl (omega arith) (λ j. refl) refl refl refl))
-      (λ _. omega arith)
+      weak_step z c n so hn s
+      (record (having v) { weaks = v.weaks ++ s ∷ []; adds = v.adds + 1; trail = t })
+      (plus_one (weak z c s)) hs (plus_fits (weak z c s))
+      (grind (arith, at_idle, times_push, one_other)) (λ _. omega arith)
       (λ sums wrote. slot.weak_add _ _ (numbers z c s) _ (so.slots s hs) sums.fit
-      (same_strong (omega arith) (omega arith) (omega arith) (omega arith) (omega arith))
-      (omega arith) (omega arith)
-      (omega arith) (omega arith) (omega arith) (omega arith) (omega arith) (omega arith)
-      (omega arith))
+      (omega arith) (omega arith) (omega arith))
 
   -- one of several weak references goes
   pub weak_left : (s : SlotId) (k : Having) → s.0 < z.slots → IsIdle v → k.phase ≡ phase.Idle
@@ -62,19 +54,12 @@ module _ (z : Shape) (c : Core) (n : ℕ) (so : Sound z c) (hn : n < z.seats) wh
   weak_left s k hs idle to g many =
       let p = in_idle v.phase s idle.0 in
       let q = in_idle k.phase s to in
-      let lost = g.lost in
       let kept = g.rest Strong (λ e. cc) in
       let dy = ap (times s) g.dying in
-      let ad = g.adds in
       weak_step z c n so hn s k (minus_one (weak z c s)) hs (minus_fits (weak z c s))
-      (loses z c n so hn Weak s k idle (at_idle to)
-      (λ x e. ⊎_elim (λ f. absurd (cc (to, f))) (λ f. absurd (cc (to, f))) e) g)
-      (λ _. omega arith)
+      (grind (arith, at_idle)) (λ _. omega arith)
       (λ sums wrote. slot.weak_left _ _ (numbers z c s) _ (so.slots s hs) sums.fit
-      (same_strong (omega arith) (omega arith) (omega arith) (omega arith) (omega arith))
-      (omega arith) (omega arith) many
-      (omega arith) (omega arith) (omega arith) (omega arith) (omega arith) (omega arith)
-      (omega arith))
+      (omega arith) many (omega arith))
 
   -- the last one goes
   pub weak_last : (s : SlotId) (k : Having) → s.0 < z.slots → IsIdle v → k.phase ≡ phase.Give s
@@ -84,77 +69,26 @@ module _ (z : Shape) (c : Core) (n : ℕ) (so : Sound z c) (hn : n < z.seats) wh
       let o = one_same s s refl in
       let p = in_idle v.phase s idle.0 in
       let q = in_give k.phase s s to in
-      let lost = g.lost in
       let kept = g.rest Strong (λ e. cc) in
       let dy = ap (times s) g.dying in
-      let ad = g.adds in
       weak_step z c n so hn s k (minus_one (weak z c s)) hs (minus_fits (weak z c s))
-      (loses z c n so hn Weak s k idle (at_give to)
-      (λ x e. ⊎_elim (λ f. absurd (cc (to, f))) (λ f. absurd (cc (to, f))) e) g)
-      (λ _. omega arith)
+      (grind (arith, at_idle, at_give)) (λ _. omega arith)
       (λ sums wrote. slot.weak_last _ _ (numbers z c s) _ (so.slots s hs) sums.fit
-      (same_strong (omega arith) (omega arith) (omega arith) (omega arith) (omega arith))
-      (omega arith) (omega arith) last
-      (omega arith) (omega arith) (omega arith) (omega arith) (omega arith) (omega arith)
-      (omega arith))
+      (omega arith) last (omega arith))
 
   -- what a weak drop gives up
   pub weak_drops : (s : SlotId) (p : Phase) (t : List Move) → 0 < times s v.weaks
       → GivesUp Weak v s (record (having v) { weaks = without s v.weaks; phase = p; trail = t })
-  weak_drops s p t own = record {
-    lost = let o = one_same s s refl in let e = times_without s s v.weaks own in omega arith;
-    rest = other_kinds;
-    others = λ x ne.
-        let other = one_other x s (λ e. ne (sym e)) in
-        let e = times_without x s v.weaks own in
-        same_of refl (omega arith) (λ j. refl) refl refl refl;
-    dying = refl;
-    ripe = refl;
-    kinds = refl;
-    owed = omega arith;
-    adds = refl;
-    makes = refl;
-  }
-    where
-      other_kinds : (j : Kind) → j ≢ Weak
-          → listed j s (record v { weaks = without s v.weaks; phase = p; trail = t }) ≡ listed j s v
-      other_kinds Strong ne = refl
-      other_kinds Weak ne = absurd (ne refl)
-      other_kinds Disposal ne = refl
+  weak_drops s p t own = grind (arith, times_without, one_other, one_same)
 
-  -- a slot is destroyed: it leaves the dying list and the ripe one
-  destroys : (s : SlotId) (p : Phase) (t : List Move) → IsIdle v → 0 < times s v.ripe → IsAt s p
-      → ((x : SlotId) → (p ≡ phase.Bare x) ⊎ (p ≡ phase.Blank x) → ⊥)
-      → Touches z v s (record (having v) {
-        dying = without s v.dying;
-        ripe = without s v.ripe;
-        phase = p;
-        trail = t;
-      })
-  destroys s p t idle is_ripe to unclaimed =
-      let law = so.seats n hn in
-      let o = one_same s s refl in
-      let r = law.ripe s in
-      let re = times_without s s v.ripe is_ripe in
-      let dy = times_without s s v.dying (omega arith) in
-      record {
-        here = idle_here z c n so hn idle;
-        from = at_idle idle.0;
-        to = to;
-        adds = omega arith;
-        adds_most = law.adds;
-        makes = law.makes;
-        starts = λ x e. absurd (unclaimed x e);
-        owed = omega arith;
-        others = λ x ne.
-            let other = one_other x s (λ e. ne (sym e)) in
-            let e = times_without x s v.dying (omega arith) in
-            let f = times_without x s v.ripe is_ripe in
-            same_of refl refl (λ j. refl) (omega arith) (omega arith) refl;
-        ripe = omega arith;
-        ripe_most = omega arith;
-        kinds = refl;
-      }
+  -- what a seat has that destroyed s: it leaves the dying list and the ripe one
+  abbrev destroyed : SlotId → Phase → List Move → Having
+  destroyed s p t = record (having (view_at c n)) {
+    dying = without s (view_at c n).dying;
+    ripe = without s (view_at c n).ripe;
+    phase = p;
+    trail = t;
+  }
 
   -- a ripe slot is under no weak snapshot
   ripe_here : (s : SlotId) → 0 < times s v.ripe → ripe_times c s ≡ 0 → ⊥
@@ -165,69 +99,37 @@ module _ (z : Shape) (c : Core) (n : ℕ) (so : Sound z c) (hn : n < z.seats) wh
   -- a slot is destroyed that weak references name
   pub destroy_left : (s : SlotId) (t : List Move)
       → IsIdle v → 0 < times s v.ripe → HasNullFields z c.words s → weak z c s ≢ 1
-      → Sound z (put c n (record v {
-        dying = without s v.dying;
-        ripe = without s v.ripe;
-        phase = phase.Idle;
-        trail = t;
-      }) (weak_at z s) (minus_one (weak z c s)))
+      → Sound z (put c n (with_having v (destroyed s phase.Idle t)) (weak_at z s)
+      (minus_one (weak z c s)))
   destroy_left s t idle is_ripe nulls many =
-      let k : Having = record (having v) {
-        dying = without s v.dying;
-        ripe = without s v.ripe;
-        phase = phase.Idle;
-        trail = t;
-      } in
       let o = one_same s s refl in
       let p = in_idle v.phase s idle.0 in
       let r = (so.seats n hn).ripe s in
       let e = times_without s s v.dying (omega arith) in
+      let f = times_without s s v.ripe is_ripe in
       let hs : s.0 < z.slots = named_in_range z n v s (so.seats n hn) (omega arith) in
-      weak_step z c n so hn s k (minus_one (weak z c s)) hs (minus_fits (weak z c s))
-      (destroys s phase.Idle t idle is_ripe (at_idle refl)
-      (λ x e. ⊎_elim (λ f. absurd (cc (f))) (λ f. absurd (cc (f))) e))
+      weak_step z c n so hn s (destroyed s phase.Idle t) (minus_one (weak z c s)) hs
+      (minus_fits (weak z c s))
+      (grind (arith, at_idle, times_without, one_other))
       (λ none. absurd (ripe_here s is_ripe none))
-      (λ sums wrote.
-      let n0 = nulls.0 in
-      let n1 = nulls.1 in
-      let n2 = nulls.2 in
-      slot.destroy_left _ _ (numbers z c s) _ (so.slots s hs) sums.fit
-      (same_strong (omega arith) (omega arith) (omega arith) (omega arith) (omega arith))
-      (omega arith) (omega arith) (omega arith) many
-      (omega arith) (omega arith) (omega arith) (omega arith) (omega arith) (omega arith)
-      (omega arith))
+      (λ sums wrote. slot.destroy_left _ _ (numbers z c s) _ (so.slots s hs) sums.fit
+      (omega arith) (omega arith) many (omega arith))
 
   -- a slot is destroyed that nothing names
   pub destroy_last : (s : SlotId) (t : List Move)
       → IsIdle v → 0 < times s v.ripe → HasNullFields z c.words s → weak z c s ≡ 1
-      → Sound z (put c n (record v {
-        dying = without s v.dying;
-        ripe = without s v.ripe;
-        phase = phase.Give s;
-        trail = t;
-      }) (weak_at z s) (minus_one (weak z c s)))
+      → Sound z (put c n (with_having v (destroyed s (phase.Give s) t)) (weak_at z s)
+      (minus_one (weak z c s)))
   destroy_last s t idle is_ripe nulls last =
-      let k : Having = record (having v) {
-        dying = without s v.dying;
-        ripe = without s v.ripe;
-        phase = phase.Give s;
-        trail = t;
-      } in
       let o = one_same s s refl in
       let p = in_idle v.phase s idle.0 in
       let r = (so.seats n hn).ripe s in
       let e = times_without s s v.dying (omega arith) in
+      let f = times_without s s v.ripe is_ripe in
       let hs : s.0 < z.slots = named_in_range z n v s (so.seats n hn) (omega arith) in
-      weak_step z c n so hn s k (minus_one (weak z c s)) hs (minus_fits (weak z c s))
-      (destroys s (phase.Give s) t idle is_ripe (at_give refl)
-      (λ x e. ⊎_elim (λ f. absurd (cc (f))) (λ f. absurd (cc (f))) e))
+      weak_step z c n so hn s (destroyed s (phase.Give s) t) (minus_one (weak z c s)) hs
+      (minus_fits (weak z c s))
+      (grind (arith, at_idle, at_give, times_without, one_other))
       (λ none. absurd (ripe_here s is_ripe none))
-      (λ sums wrote.
-      let n0 = nulls.0 in
-      let n1 = nulls.1 in
-      let n2 = nulls.2 in
-      slot.destroy_last _ _ (numbers z c s) _ (so.slots s hs) sums.fit
-      (same_strong (omega arith) (omega arith) (omega arith) (omega arith) (omega arith))
-      (omega arith) (omega arith) (omega arith) last
-      (omega arith) (omega arith) (omega arith) (omega arith) (omega arith) (omega arith)
-      (omega arith))
+      (λ sums wrote. slot.destroy_last _ _ (numbers z c s) _ (so.slots s hs) sums.fit
+      (omega arith) (omega arith) last (omega arith))

@@ -1,7 +1,8 @@
 -- Over every history each object is destroyed at most once.
 use Rattle.std.proofs.Common.{◌≡◌, ℕ, ◌<◌, Bool, true, false, List, [], ◌∷◌, refl, ap, sym, subst, arith}
-use Rattle.std.specs.Prelude.{◌==◌, if◌then◌else◌}
+use Rattle.std.specs.Prelude.{◌==◌, Option, Some, None, if◌then◌else◌}
 use Rattle.plain_state.specs.declared.act.PlainAct.{PlainAct}
+use Rattle.plain_state.specs.declared.act.PlainAct.TheVariants as plain
 use Rattle.plain_state.specs.declared.slot.PlainSlot.{PlainSlot}
 use Rattle.plain_state.specs.declared.slot.SlotId.{SlotId}
 use Rattle.plain_state.specs.declared.slot.Stage.TheVariants.{Free}
@@ -16,10 +17,11 @@ use Rattle.core_events.specs.declared.view.Note.TheVariants as note
 use Rattle.core_events.specs.Counts.{Signs, signs, stage, stage_of}
 use Rattle.core_events.specs.Runs.{AreTerms, Core, Enabled, History, IsShape, after, found, start, view_at}
 use Rattle.core_events.specs.Shows.{show_slot, shows}
-use Rattle.core_events.specs.ShownSteps.{shown_act, ejects, releases, is_ripe_field}
+use Rattle.core_events.specs.ShownSteps.{shown_act, ejects, on_slot, releases, is_ripe_field}
 use Rattle.core_events.specs.Steps.{is_last}
-use Rattle.core_events.specs.Views.{Terms, note_of}
-use Rattle.core_events.specs.Words.{has_help, bit_in}
+use Rattle.core_events.specs.Views.{Terms, note_of, slot_of}
+use Rattle.core_events.specs.Words.{bit_in}
+use Rattle.counter_word.specs.Words.{has_help}
 use Rattle.core_invariant.specs.Sound.{Sound}
 use Rattle.core_invariant.proofs.Each.{length_each}
 use Rattle.core_invariant.proofs.FirstWords.{bit_first}
@@ -39,6 +41,11 @@ module _ (s : SlotId) where
   either_none true x y left right = left
   either_none false x y left right = right
 
+  on_none : (f : SlotId → PlainAct) (o : Option SlotId) → ((x : SlotId) → falls s (f x) ≡ 0)
+      → falls s (on_slot f o) ≡ 0
+  on_none f None none = refl
+  on_none f (Some x) none = none x
+
   ejects_none : (es : List Entry) → falls s (ejects es) ≡ 0
   ejects_none [] = refl
   ejects_none (e ∷ es) = refl
@@ -53,10 +60,10 @@ module _ (s : SlotId) where
   falls_as z (act.Add x) w v = refl
   falls_as z (act.Drop x) w v = refl
   falls_as z act.Pay w v = ejects_none v.owed
-  falls_as z act.Finish w v = either_none (w == 0) _ _ refl refl
-  falls_as z act.Take w v = either_none (has_help w) _ _ refl refl
+  falls_as z act.Finish w v = either_none (w == 0) _ _ (on_none plain.End (slot_of v.phase) (λ x. refl)) refl
+  falls_as z act.Take w v = either_none (has_help w) _ _ (on_none plain.End (slot_of v.phase) (λ x. refl)) refl
   falls_as z (act.Count x) w v = refl
-  falls_as z act.Mark w v = refl
+  falls_as z act.Mark w v = on_none plain.Mark (slot_of v.phase) (λ x. refl)
   falls_as z (act.Announce j k x) w v = refl
   falls_as z (act.Release j) w v = releases_none (note_of v j)
   falls_as z (act.Look p) w v = refl
@@ -67,10 +74,10 @@ module _ (s : SlotId) where
   falls_as z (act.Cas p old new) w v = refl
   falls_as z (act.Claim x) w v = either_none (bit_in x w == 1) _ _ refl refl
   falls_as z act.Arm w v = refl
-  falls_as z (act.Fill i x) w v = refl
-  falls_as z act.Start w v = refl
+  falls_as z (act.Fill i x) w v = on_none (λ y. plain.Fill y i x) (slot_of v.phase) (λ y. refl)
+  falls_as z act.Start w v = on_none plain.Make (slot_of v.phase) (λ x. refl)
   falls_as z (act.See x i) w v = refl
-  falls_as z act.Free w v = refl
+  falls_as z act.Free w v = on_none plain.Give (slot_of v.phase) (λ x. refl)
   falls_as z act.Ticket w v = refl
   falls_as z (act.Wadd x) w v = refl
   falls_as z (act.Wdrop x) w v = refl

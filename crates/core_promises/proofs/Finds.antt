@@ -17,8 +17,8 @@ use Rattle.core_events.specs.Counts.{adds_used, in_phase, listed, naming, refs, 
 use Rattle.core_events.specs.Good.{SeatLaw}
 use Rattle.core_events.specs.Runs.{Core, Enabled, found, view_at}
 use Rattle.core_events.specs.Steps.{answer, owed_at}
-use Rattle.core_events.specs.Views.{Holds, note_of, slot_noted, slot_of}
-use Rattle.core_events.specs.Words.{ZERO, HELP, has_help, low, value}
+use Rattle.core_events.specs.Views.{Holds, slot_noted, slot_of}
+use Rattle.counter_word.specs.Words.{ZERO, HELP, has_help, low, value}
 use Rattle.core_invariant.specs.Slots.{Numbers, SlotLaw, numbers, free, bare, blank, counted, asked, over, husk}
 use Rattle.core_invariant.specs.Sound.{Sound}
 use Rattle.core_invariant.proofs.Flags.{flags}
@@ -229,16 +229,15 @@ module _ (z : Shape) (c : Core) (n : ℕ) (so : Sound z c) where
   tells_truly act.Pay on = tt
   tells_truly act.Finish on =
       let named = phase_named on.1.0 (phase.Finish on.1.0) (one_same _ _ refl) (sym on.1.1) in
-      let is = ap slot_of on.1.1 in
-      finish_ended (slot_of v.phase) (strong z c (slot_of v.phase)) (value_here on.0 (slot_of v.phase)
-      (subst (λ (s : SlotId). 0 < naming s (view_at c n)) (sym is) named))
+      let truly = finish_ended on.1.0 (strong z c on.1.0) (value_here on.0 on.1.0 named) in
+      rw (ap slot_of on.1.1)
+      (λ e s is. subst (λ (x : SlotId). refs Strong z c x ≡ 0) (cc (on.1.1, is)) (truly e))
   tells_truly act.Take on =
       let named = phase_named on.1.0 (phase.Help on.1.0) (one_same _ _ refl) (sym on.1.1) in
-      let is = ap slot_of on.1.1 in
-      let here = subst (λ (s : SlotId). 0 < naming s (view_at c n)) (sym is) named in
-      take_ended (slot_of v.phase) (strong z c (slot_of v.phase)) (value_here on.0 (slot_of v.phase) here)
-      (flags (adds_used c) (numbers z c (slot_of v.phase)) (slot on.0 (slot_of v.phase) here)
-      (fit on.0)).help
+      let truly = take_ended on.1.0 (strong z c on.1.0) (value_here on.0 on.1.0 named)
+      (flags (adds_used c) (numbers z c on.1.0) (slot on.0 on.1.0 named) (fit on.0)).help in
+      rw (ap slot_of on.1.1)
+      (λ e s is. subst (λ (x : SlotId). refs Strong z c x ≡ 0) (cc (on.1.1, is)) (truly e))
   tells_truly (act.Count s) on = tt
   tells_truly act.Mark on = tt
   tells_truly (act.Announce j k s) on = tt
@@ -247,9 +246,9 @@ module _ (z : Shape) (c : Core) (n : ℕ) (so : Sound z c) where
   tells_truly (act.Check j p) on = tt
   tells_truly (act.Alive j) on =
       let held = holds_named on.0 on.1.2.0 on.1.2.2 in
-      let is = ap slot_noted on.1.2.1 in
-      alive_counts (slot_noted (note_of v j)) (strong z c (slot_noted (note_of v j))) (value_here on.0 (slot_noted (note_of v j))
-      (subst (λ (s : SlotId). 0 < naming s (view_at c n)) (sym is) held))
+      let truly = alive_counts on.1.2.0 (strong z c on.1.2.0) (value_here on.0 on.1.2.0 held) in
+      rw (ap slot_noted on.1.2.1)
+      (λ e s is. subst (λ (x : SlotId). 0 < refs Strong z c x) (cc (on.1.2.1, is)) (truly e))
   tells_truly act.Scan on = tt
   tells_truly (act.Swap p new) on = tt
   tells_truly (act.Cas p old new) on = tt

@@ -6,3 +6,6 @@ pub mod Always
 pub mod Granted
 pub mod Records
 pub mod Trails
+pub mod Histories
+pub mod Made
+pub mod MadeAlways

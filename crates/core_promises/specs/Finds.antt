@@ -1,14 +1,17 @@
 -- What an event that is enabled finds in its word, what its answer tells, and how much may be deferred.
 use Rattle.std.specs.Prelude.{ℕ, ◌≡◌, ◌+◌, ◌*◌, ◌<◌, ◌≤◌, length}
-use Rattle.plain_state.specs.declared.slot.Kind.TheVariants.{Strong}
+use Rattle.plain_state.specs.declared.slot.Kind.TheVariants.{Strong, Disposal}
+use Rattle.plain_state.specs.declared.slot.SlotId.{SlotId}
 use Rattle.core_events.specs.declared.act.Act.{Act}
 use Rattle.core_events.specs.declared.act.Act.TheVariants as act
 use Rattle.core_events.specs.declared.outcome.Outcome.{Outcome}
 use Rattle.core_events.specs.declared.outcome.Outcome.TheVariants as outcome
 use Rattle.core_events.specs.declared.shape.Shape.{Shape}
 use Rattle.core_events.specs.declared.view.CoreView.{CoreView}
-use Rattle.core_events.specs.Words.{ZERO, HELP, low}
-use Rattle.core_events.specs.Views.{note_of, room_of, slot_noted, slot_of}
+use Rattle.counter_word.specs.Words.{ZERO, HELP, low}
+use Rattle.core_events.specs.declared.view.Note.TheVariants as note
+use Rattle.core_events.specs.declared.view.Phase.TheVariants as phase
+use Rattle.core_events.specs.Views.{note_of, room_of}
 use Rattle.core_events.specs.Counts.{refs, total}
 use Rattle.core_events.specs.Runs.{Core, found, view_at}
 
@@ -29,11 +32,12 @@ NeverWraps z c n a = Unit {0}
 abbrev pub TellsTruly : Shape → Core → ℕ → Act → Outcome → Type 0
 TellsTruly z c n (act.Add s) o = o ≡ outcome.Dead → refs Strong z c s ≡ 0
 TellsTruly z c n act.Finish o =
-    o ≡ outcome.Ended → refs Strong z c (slot_of (view_at c n).phase) ≡ 0
+    o ≡ outcome.Ended → (s : SlotId) → (view_at c n).phase ≡ phase.Finish s → refs Strong z c s ≡ 0
 TellsTruly z c n act.Take o =
-    o ≡ outcome.Ended → refs Strong z c (slot_of (view_at c n).phase) ≡ 0
+    o ≡ outcome.Ended → (s : SlotId) → (view_at c n).phase ≡ phase.Help s → refs Strong z c s ≡ 0
 TellsTruly z c n (act.Alive j) o =
-    o ≡ outcome.Alive → 0 < refs Strong z c (slot_noted (note_of (view_at c n) j))
+    o ≡ outcome.Alive → (s : SlotId) → note_of (view_at c n) j ≡ note.Announced Disposal s
+    → 0 < refs Strong z c s
 TellsTruly z c n a o = Unit {0}
 
 -- the decrements that a seat has deferred

@@ -1,3 +1,4 @@
 pub mod Finds
 pub mod Destroyed
 pub mod Trails
+pub mod Made

@@ -1,11 +1,11 @@
 //! Promises about histories, and about each event that is enabled where the invariant holds.
-ghost use Rattle.std.specs.Prelude.{ℕ, ◌≡◌, ◌<◌, ◌≤◌, List, length, sum};
+ghost use Rattle.std.specs.Prelude.{ℕ, ◌≡◌, ◌<◌, ◌≤◌, List, [], length, sum};
 ghost use Rattle.plain_state.specs.Lawful.{Lawful};
 ghost use Rattle.plain_state.specs.declared.slot.SlotId.{SlotId};
 ghost use Rattle.core_events.specs.declared.act.Act.{Act};
 ghost use Rattle.core_events.specs.declared.act.Event.{Event};
 ghost use Rattle.core_events.specs.declared.shape.Shape.{Shape};
-ghost use Rattle.core_events.specs.Runs.{AreEnabled, AreTerms, Core, Enabled, History, IsShape, found, moves_of, run, start, view_at};
+ghost use Rattle.core_events.specs.Runs.{AreEnabled, AreTerms, Core, Enabled, History, IsShape, found, moves_of, newest_first, run, start, view_at};
 ghost use Rattle.core_events.specs.Shows.{shows};
 ghost use Rattle.core_events.specs.Steps.{answer};
 ghost use Rattle.core_events.specs.Views.{Terms, granted};
@@ -13,6 +13,7 @@ ghost use Rattle.core_invariant.specs.Sound.{Sound};
 ghost use Rattle.core_shows.specs.Shown.{AllShow};
 ghost use Rattle.core_promises.specs.Finds.{DeferredFit, NeverWraps, TellsTruly};
 ghost use Rattle.core_promises.specs.Destroyed.{DestroyedOnce};
+ghost use Rattle.core_promises.specs.Made.{MadeByStarts};
 ghost use Rattle.core_promises.specs.Trails.{trail_of};
 
 /// After every list of events that are enabled in turn the core shows a lawful plain state.
@@ -52,6 +53,29 @@ pub fn trails_tell()
     ensures { (z : Shape) (ts : Terms) (es : List Event) (n : ℕ) → IsShape z → AreTerms z ts
         → AreEnabled z (start z ts) es → n < z.seats
         → trail_of (run z (start z ts) es) n ≡ moves_of z (start z ts) n es }
+{}
+
+/// The events of a history, the oldest first, are enabled in turn and lead to its state. So whatever holds after every
+/// list of events holds of every state that has a history.
+pub fn history_runs()
+    ensures { (z : Shape) (ts : Terms) (es : List Event) (c : Core) → History z ts es c
+        → AreEnabled z (start z ts) (newest_first es [])
+        × (c ≡ run z (start z ts) (newest_first es [])) }
+{}
+
+/// The trail of every seat is its events in the history, with their answers, in order, between any two steps of a
+/// running domain.
+pub fn history_trails()
+    ensures { (z : Shape) (ts : Terms) (es : List Event) (c : Core) (n : ℕ) → IsShape z
+        → AreTerms z ts → History z ts es c → n < z.seats
+        → trail_of c n ≡ moves_of z (start z ts) n (newest_first es []) }
+{}
+
+/// Over every history a seat has made each slot as often as the starts of its trail are of that slot, and those of the
+/// seats that left to it. So the lives of a slot are the starts that made it.
+pub fn made_by_starts()
+    ensures { (z : Shape) (ts : Terms) (es : List Event) (c : Core) (n : ℕ) → IsShape z
+        → AreTerms z ts → History z ts es c → n < z.seats → MadeByStarts (view_at c n) }
 {}
 
 /// What is deferred is bounded by the sizes of the domain.

@@ -13,5 +13,5 @@ mod laws;
 
 pub use laws::{
     always_lawful, always_shows, answers_tell_truly, deferred_fit, destroyed_once, grants_fit,
-    history_lawful, never_wraps, trails_tell,
+    history_lawful, history_runs, history_trails, made_by_starts, never_wraps, trails_tell,
 };

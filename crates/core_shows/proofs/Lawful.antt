@@ -1,5 +1,5 @@
 -- What a core shows is lawful.
-use Rattle.std.proofs.Common.{◌≡◌, ◌≢◌, ⊎_elim, ℕ, ◌+◌, ◌^◌, ◌<◌, ◌≤◌, true, false, refl, ap, sym, ◌∙◌, arith}
+use Rattle.std.proofs.Common.{◌≡◌, ◌≢◌, ⊎_elim, ℕ, ◌+◌, ◌^◌, ◌<◌, ◌≤◌, true, false, ap, sym, ◌∙◌, arith}
 use Rattle.std.specs.Prelude.{◌↔◌, slice_index, None}
 use Rattle.std.proofs.lemmas.Bool.{cases_lt}
 use Rattle.std.proofs.lemmas.Bool.Decides.{nat_tests}
@@ -11,11 +11,12 @@ use Rattle.plain_state.specs.Lawful.{Lawful, IsVacant, HasNullFields}
 use Rattle.plain_state.specs.References.{strong_refs, weak_refs, own_reference, dying_times as plain_dying}
 use Rattle.plain_state.specs.State.{slot_at, stage_at}
 use Rattle.core_events.specs.declared.shape.Shape.{Shape}
-use Rattle.core_events.specs.Words.{has_zero, slot_in, field_at, weak_field_at}
+use Rattle.core_events.specs.Words.{slot_in, field_at, weak_field_at}
+use Rattle.counter_word.specs.Words.{has_zero}
 use Rattle.core_events.specs.Runs.{Core}
 use Rattle.core_events.specs.Counts.{adds_used}
 use Rattle.core_events.specs.Shows.{shows}
-use Rattle.core_invariant.specs.Slots.{Numbers, numbers, SlotLaw, free, bare, blank, counted, asked, over, husk}
+use Rattle.core_invariant.specs.Slots.{Numbers, numbers, SlotLaw}
 use Rattle.core_invariant.specs.Sound.{Sound}
 use Rattle.core_invariant.proofs.Parts.{stage_in, stage_is, vacant_nulls}
 use Rattle.core_invariant.proofs.Put.{adds_fit}
@@ -25,43 +26,19 @@ use Rattle.core_shows.proofs.Bridge.{shown_stage, shown_slot, shown_past, shown_
 -- what the law of a slot tells of its stage
 strong_tells : (a : ℕ) (m : Numbers) (law : SlotLaw a m) → a < 2 ^ 60 → 0 < m.strong_refs
     → (stage_in law ≡ Live) × (has_zero m.strong ≡ false)
-strong_tells a m (free h) fit pos = absurd (omega arith)
-strong_tells a m (bare h) fit pos = absurd (omega arith)
-strong_tells a m (blank h) fit pos = absurd (omega arith)
-strong_tells a m (counted h) fit pos = (refl, grind (arith, nat_tests))
-strong_tells a m (asked h) fit pos = absurd (omega arith)
-strong_tells a m (over h) fit pos = absurd (omega arith)
-strong_tells a m (husk h) fit pos = absurd (omega arith)
+strong_tells a m law fit pos = grind (arith, nat_tests)
 
 weak_tells : (a : ℕ) (m : Numbers) (law : SlotLaw a m) → 0 < m.weak_refs
     + own_reference (stage_in law) → stage_in law ≢ Free
-weak_tells a m (free h) pos = absurd (omega arith)
-weak_tells a m (bare h) pos = λ e. absurd (cc (e))
-weak_tells a m (blank h) pos = λ e. absurd (cc (e))
-weak_tells a m (counted h) pos = λ e. absurd (cc (e))
-weak_tells a m (asked h) pos = λ e. absurd (cc (e))
-weak_tells a m (over h) pos = λ e. absurd (cc (e))
-weak_tells a m (husk h) pos = λ e. absurd (cc (e))
+weak_tells a m law pos = grind arith
 
 dying_tells : (a : ℕ) (m : Numbers) (law : SlotLaw a m) → (m.dying ≤ 1)
     × ((stage_in law ≡ Ended) ↔ (0 < m.dying))
-dying_tells a m (free h) = (omega arith, (λ e. absurd (cc (e)), λ p. absurd (omega arith)))
-dying_tells a m (bare h) = (omega arith, (λ e. absurd (cc (e)), λ p. absurd (omega arith)))
-dying_tells a m (blank h) = (omega arith, (λ e. absurd (cc (e)), λ p. absurd (omega arith)))
-dying_tells a m (counted h) = (omega arith, (λ e. absurd (cc (e)), λ p. absurd (omega arith)))
-dying_tells a m (asked h) = (omega arith, (λ e. absurd (cc (e)), λ p. absurd (omega arith)))
-dying_tells a m (over h) = (omega arith, (λ e. omega arith, λ p. refl))
-dying_tells a m (husk h) = (omega arith, (λ e. absurd (cc (e)), λ p. absurd (omega arith)))
+dying_tells a m law = grind arith
 
 marks_tell : (a : ℕ) (m : Numbers) (law : SlotLaw a m) → stage_in law ≢ Live
     → has_zero m.strong ≡ true
-marks_tell a m (free h) off = grind (arith, nat_tests)
-marks_tell a m (bare h) off = grind (arith, nat_tests)
-marks_tell a m (blank h) off = grind (arith, nat_tests)
-marks_tell a m (counted h) off = absurd (off refl)
-marks_tell a m (asked h) off = absurd (off refl)
-marks_tell a m (over h) off = grind (arith, nat_tests)
-marks_tell a m (husk h) off = grind (arith, nat_tests)
+marks_tell a m law off = grind (arith, nat_tests)
 
 null_slot : (w : ℕ) → w ≡ 0 → slot_in w ≡ None
 null_slot w e = ap slot_in e

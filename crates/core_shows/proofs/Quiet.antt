@@ -1,5 +1,5 @@
 -- Steps after which no slot shows anything else.
-use Rattle.std.proofs.Common.{◌≡◌, ◌≢◌, ⊎_elim, ℕ, ◌+◌, ◌<◌, ◌≤◌, Bool, true, false, List, length, set, refl, ap, sym, ◌∙◌, subst, arith}
+use Rattle.std.proofs.Common.{◌≡◌, ◌≢◌, ℕ, ◌+◌, ◌<◌, ◌≤◌, Bool, true, false, List, length, set, refl, ap, sym, ◌∙◌, arith}
 use Rattle.std.specs.Prelude.{slice_index, if◌then◌else◌, None}
 use Rattle.std.proofs.lemmas.List.{get_or-set_same, get_or-set_other, set-get_or}
 use Rattle.plain_state.specs.declared.slot.SlotId.{SlotId}
@@ -8,13 +8,13 @@ use Rattle.plain_state.specs.State.{Plain, PlainSeat, seat_at, with_seat, new_se
 use Rattle.core_events.specs.declared.shape.Shape.{Shape}
 use Rattle.core_events.specs.declared.view.CoreView.{CoreView}
 use Rattle.core_events.specs.declared.view.Phase.{Phase}
-use Rattle.core_events.specs.declared.view.Phase.TheVariants as phase
-use Rattle.core_events.specs.Words.{has_zero, slot_at, note_at, cell_at, weak_cell_at, field_at, weak_field_at, payload_at, strong_at, weak_at, bits_at, bit_in, ticket_at}
+use Rattle.core_events.specs.Words.{slot_at, note_at, cell_at, weak_cell_at, field_at, weak_field_at, payload_at, strong_at, weak_at, bits_at, bit_in, ticket_at}
+use Rattle.counter_word.specs.Words.{has_zero}
 use Rattle.core_events.specs.Runs.{Core, view_at}
 use Rattle.core_events.specs.Counts.{strong, signs, barers, fillers, dying_times, baring, filling, is_live_word}
 use Rattle.core_events.specs.Shows.{shows, show_seat, show_slot, lives, filled}
 use Rattle.core_invariant.specs.Sound.{Sound}
-use Rattle.core_invariant.proofs.Kit.{total_set, slot_cases}
+use Rattle.core_invariant.proofs.Kit.{total_set, by_slot}
 use Rattle.core_invariant.proofs.Put.{put, at_seat}
 use Rattle.core_shows.proofs.Frames.{SameFields, SameFrame, slot_made, shows_seat}
 use Rattle.core_shows.proofs.Ranges.{SameFlags}
@@ -30,14 +30,7 @@ same_plain p q n y e is = e ∙ (ap (with_seat p n) is ∙ back)
 
 -- a phase that fills nothing
 pub unfilled : (p : Phase) (x : SlotId) → filled p ≡ None → baring x p + filling x p ≡ 0
-unfilled phase.Idle x e = refl
-unfilled (phase.Finish s) x e = refl
-unfilled (phase.Help s) x e = refl
-unfilled (phase.Zero s) x e = refl
-unfilled phase.Scan x e = refl
-unfilled (phase.Bare s) x e = absurd (cc (e))
-unfilled (phase.Blank s) x e = absurd (cc (e))
-unfilled (phase.Give s) x e = refl
+unfilled p x e = grind arith
 
 pub unfilled_if : (b : Bool) (p q : Phase) → filled p ≡ None → filled q ≡ None
     → filled (if b then p else q) ≡ None
@@ -114,41 +107,21 @@ slot_beside z ws p w x off a b =
 
 -- the words of the slots and their bits lie between the cells and the tickets
 pub inner : (z : Shape) (p : ℕ) → slot_at z 0 ≤ p → p < ticket_at z → Outside z p
-inner z p a b = record {
-  cells = λ i h. omega arith;
-  weak_cells = λ i h. omega arith;
-  tickets = omega arith;
-}
+inner z p a b = omega arith
 
 pub strong_beside : (z : Shape) (s x : SlotId) → Beside z (strong_at z s) x
-strong_beside z s x = record {
-  fields = λ i h. omega arith;
-  weak_field = omega arith;
-  payload = λ i h. omega arith;
-}
+strong_beside z s x = omega arith
 
 pub weak_beside : (z : Shape) (s x : SlotId) → Beside z (weak_at z s) x
-weak_beside z s x = record {
-  fields = λ i h. omega arith;
-  weak_field = omega arith;
-  payload = λ i h. omega arith;
-}
+weak_beside z s x = omega arith
 
 -- a word before the slots, or past them
 pub front_beside : (z : Shape) (p : ℕ) (x : SlotId) → p < slot_at z 0 → Beside z p x
-front_beside z p x h = record {
-  fields = λ i l. omega arith;
-  weak_field = omega arith;
-  payload = λ i l. omega arith;
-}
+front_beside z p x h = omega arith
 
 pub past_beside : (z : Shape) (p : ℕ) (x : SlotId) → slot_at z z.slots ≤ p → x.0 < z.slots
     → Beside z p x
-past_beside z p x h hx = record {
-  fields = λ i l. omega arith;
-  weak_field = omega arith;
-  payload = λ i l. omega arith;
-}
+past_beside z p x h hx = omega arith
 
 -- the strong word of s is written
 pub strong_other : (z : Shape) (ws : List ℕ) (s x : SlotId) (w : ℕ) → s.0 < z.slots → x.0 ≢ s.0
@@ -212,10 +185,8 @@ module _ (z : Shape) (c : Core) (n : ℕ) (u : CoreView) (so : Sound z c) (hn : 
   strong_quiet s w hs flags quiet =
       quiet_step (set c.words (strong_at z s) w)
       (same_frame z c.words (strong_at z s) w (inner z (strong_at z s) (omega arith) (omega arith)))
-      (λ x hx. ⊎_elim
-      (λ (e : x ≡ s). subst (SlotSame z c.words (set c.words (strong_at z s) w)) (sym e) here)
-      (λ (ne : x.0 ≢ s.0). strong_other z c.words s x w hs ne)
-      (slot_cases x s)) quiet
+      (λ x hx. by_slot s x (SlotSame z c.words (set c.words (strong_at z s) w)) here
+      (λ ne. strong_other z c.words s x w hs ne)) quiet
     where
       here : SlotSame z c.words (set c.words (strong_at z s) w) s
       here =
@@ -242,11 +213,7 @@ module _ (z : Shape) (c : Core) (n : ℕ) (u : CoreView) (so : Sound z c) (hn : 
       → shows z (put c n u (note_at n j) w) ≡ with_seat (shows z c) n (show_seat u)
   note_quiet j w hj quiet =
       quiet_step (set c.words (note_at n j) w)
-      (same_frame z c.words (note_at n j) w (record {
-        cells = λ i l. omega arith;
-        weak_cells = λ i l. omega arith;
-        tickets = omega arith;
-      }))
+      (same_frame z c.words (note_at n j) w (omega arith))
       (λ x hx. slot_beside z c.words (note_at n j) w x (front_beside z (note_at n j) x (omega arith))
       (omega arith) (omega arith))
       quiet
@@ -255,15 +222,4 @@ module _ (z : Shape) (c : Core) (n : ℕ) (u : CoreView) (so : Sound z c) (hn : 
   pub still_quiet : (p : ℕ) → ((x : SlotId) → Quiet x (view_at c n) u)
       → shows z (put c n u p (slice_index c.words p)) ≡ with_seat (shows z c) n (show_seat u)
   still_quiet p quiet =
-      subst (λ (ws : List ℕ). shows z (record { words = ws; views = set c.views n u })
-      ≡ with_seat (shows z c) n (show_seat u))
-      (sym (set-get_or c.words p 0))
-      (quiet_step c.words
-      (record { cells = λ i l. refl; weak_cells = λ i l. refl; tickets = refl })
-      (λ x hx. record {
-        fields = record { fields = λ i l. refl; weak_field = refl; payload = λ i l. refl };
-        bit = refl;
-        zero = refl;
-        live = refl;
-      })
-      quiet)
+      rw (set-get_or c.words p 0) (quiet_step c.words (omega arith) (λ x hx. assumption) quiet)

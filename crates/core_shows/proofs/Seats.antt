@@ -28,34 +28,17 @@ busy_stays z n v law busy = go v.left refl
 -- no act is open to a seat that has left
 may_stays : (z : Shape) (n : ℕ) (v : CoreView) → SeatLaw z n v → (a : Act) → May z a v
     → v.left ≡ false
-may_stays z n v law (act.Add s) may = may.0.1
-may_stays z n v law (act.Drop s) may = may.0.1
-may_stays z n v law act.Pay may = may.0.1
 may_stays z n v law act.Finish may = busy_stays z n v law (λ e. absurd (cc (may.1, e)))
 may_stays z n v law act.Take may = busy_stays z n v law (λ e. absurd (cc (may.1, e)))
-may_stays z n v law (act.Count s) may = may.0.1
 may_stays z n v law act.Mark may = busy_stays z n v law (λ e. absurd (cc (may.1, e)))
-may_stays z n v law (act.Announce j k s) may = may.0.1
-may_stays z n v law (act.Release j) may = may.0.1
-may_stays z n v law (act.Look p) may = may.0.1
-may_stays z n v law (act.Check j p) may = may.0.1
-may_stays z n v law (act.Alive j) may = may.0.1
 may_stays z n v law act.Scan may = ⊎_elim (λ idle. idle.0.1)
     (λ scans. busy_stays z n v law (λ e. absurd (cc (scans, e)))) may
-may_stays z n v law (act.Swap p new) may = may.0.1
-may_stays z n v law (act.Cas p old new) may = may.0.1
-may_stays z n v law (act.Claim s) may = may.0.1
 may_stays z n v law act.Arm may = busy_stays z n v law (λ e. absurd (cc (may.1, e)))
 may_stays z n v law (act.Fill i x) may = busy_stays z n v law (λ e. absurd (cc (may.0.1, e)))
 may_stays z n v law act.Start may = busy_stays z n v law (λ e. absurd (cc (may.1, e)))
-may_stays z n v law (act.See s i) may = may.0.1
 may_stays z n v law act.Free may = busy_stays z n v law (λ e. absurd (cc (may.1, e)))
-may_stays z n v law act.Ticket may = may.0.1
-may_stays z n v law (act.Wadd s) may = may.0.1
-may_stays z n v law (act.Wdrop s) may = may.0.1
-may_stays z n v law (act.Destroy s) may = may.0.1
-may_stays z n v law (act.Wcount s) may = may.0.1
 may_stays z n v law (act.Leave j) may = may.3.0.1
+may_stays z n v law a may = may.0.1
 
 pub enabled_seat : (z : Shape) (c : Core) (n : ℕ) (a : Act) → Sound z c → Enabled z c n a
     → IsSeat (shows z c) n

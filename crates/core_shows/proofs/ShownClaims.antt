@@ -1,6 +1,6 @@
 -- A claim of a slot, and its arming, show a plain step each.
-use Rattle.std.proofs.Common.{◌≡◌, ◌≢◌, ⊎_elim, ℕ, ◌+◌, ◌-◌, ◌^◌, ◌<◌, Bool, true, false, List, length, set, bit_and, refl, ap, sym, ◌∙◌, subst, arith}
-use Rattle.std.specs.Prelude.{slice_index, ◌==◌, if◌then◌else◌, Option}
+use Rattle.std.proofs.Common.{◌≡◌, ◌≢◌, ℕ, ◌+◌, ◌-◌, ◌^◌, ◌<◌, List, length, set, bit_and, refl, ap, sym, ◌∙◌, arith}
+use Rattle.std.specs.Prelude.{slice_index, ◌==◌, Option}
 use Rattle.std.proofs.lemmas.List.{get_or-set_same}
 use Rattle.std.proofs.lemmas.Bool.Decides.{nat_tests}
 use Rattle.plain_state.specs.declared.act.PlainAct.TheVariants as plain
@@ -12,19 +12,18 @@ use Rattle.core_events.specs.declared.act.Act.TheVariants as act
 use Rattle.core_events.specs.declared.outcome.Outcome.TheVariants as outcome
 use Rattle.core_events.specs.declared.shape.Shape.{Shape}
 use Rattle.core_events.specs.declared.view.CoreView.{CoreView}
-use Rattle.core_events.specs.declared.view.Phase.{Phase}
 use Rattle.core_events.specs.declared.view.Phase.TheVariants as phase
 use Rattle.core_events.specs.Words.{bits_at, bit_in, bit_alone}
 use Rattle.core_events.specs.Views.{slot_of}
 use Rattle.core_events.specs.Steps.{noted}
 use Rattle.core_events.specs.Runs.{Core, Enabled, view_at}
-use Rattle.core_events.specs.Counts.{signs, naming, filling, baring, giving}
+use Rattle.core_events.specs.Counts.{signs}
 use Rattle.core_events.specs.Shows.{shows, show_seat, show_slot, filled}
 use Rattle.core_invariant.specs.Sound.{Sound}
+use Rattle.core_invariant.proofs.InRange.{phase_there}
 use Rattle.core_invariant.proofs.Bits.{bit_most, bits_bound, bits_other, taken_bit, taken_other}
-use Rattle.core_invariant.proofs.Kit.{slot_cases, one_same, one_other}
+use Rattle.core_invariant.proofs.Kit.{by_test, by_slot, one_same, one_other}
 use Rattle.core_invariant.proofs.Put.{put, at_seat}
-use Rattle.core_invariant.proofs.Steady.{named_in_range}
 use Rattle.core_invariant.proofs.Phases.{in_idle, in_bare}
 use Rattle.core_shows.proofs.Bridge.{shown_seat, shown_slot}
 use Rattle.core_shows.proofs.Changes.{bit_changes, bit_written, bits_there}
@@ -43,10 +42,6 @@ module _ (z : Shape) (c : Core) (n : ℕ) (so : Sound z c) (hn : n < z.seats) wh
 
   is : seat_at (shows z c) n ≡ show_seat (view_at c n)
   is = shown_seat z c n (at_seat z c n so hn)
-
-  -- the slot that the seat has claimed, or is to give back
-  abbrev mine : SlotId
-  mine = slot_of (view_at c n).phase
 
   -- after a claim of s: its bit is taken, and no other
   module _ (s : SlotId) (hs : s.0 < z.slots) (idle : v.phase ≡ phase.Idle) where
@@ -97,13 +92,9 @@ module _ (z : Shape) (c : Core) (n : ℕ) (so : Sound z c) (hn : n < z.seats) wh
         let b = bits_bound z s hs in
         quiet_step z c n u so hn ws
         (same_frame z c.words (bits_at z s) w (inner z (bits_at z s) (omega arith) (omega arith)))
-        (λ x hx. bit_written z c s x w hs hx (⊎_elim
-        (λ (e : x ≡ s).
-        subst (λ (y : SlotId). bit_in y (slice_index ws (bits_at z y))
-        ≡ bit_in y (slice_index c.words (bits_at z y))) (sym e) here)
-        (λ (ne : x.0 ≢ s.0).
-        bits_other z c.words s x w (bits_there z c s so hs) ne (λ d. taken_other s x bits d))
-        (slot_cases x s)))
+        (λ x hx. bit_written z c s x w hs hx (by_slot s x (λ y. bit_in y (slice_index ws (bits_at z y))
+        ≡ bit_in y (slice_index c.words (bits_at z y))) here
+        (λ ne. bits_other z c.words s x w (bits_there z c s so hs) ne (taken_other s x bits))))
         (calm v u ph dy md)
       where
         here : bit_in s (slice_index (set c.words (bits_at z s)
@@ -116,49 +107,25 @@ module _ (z : Shape) (c : Core) (n : ℕ) (so : Sound z c) (hn : n < z.seats) wh
             omega arith
 
   pub claim_shows : (s : SlotId) → Enabled z c n (act.Claim s) → ShowsRow z c n (act.Claim s)
-  claim_shows s on = go (bit_in s (slice_index c.words (bits_at z s)) == 1) refl
-    where
-      go : (b : Bool) → (bit_in s (slice_index c.words (bits_at z s)) == 1) ≡ b
-          → Row (shows z c) n (if b then plain.Claim s else plain.Still) 0
-          (shows z (put c n (noted (act.Claim s)
-          (if b then outcome.Claimed else outcome.Taken (slice_index c.words (bits_at z s)))
-          (if b then record v { makes = v.makes + 1; phase = phase.Bare s } else v)) (bits_at z s)
-          (bit_and (slice_index c.words (bits_at z s)) (2 ^ 64 - 1 - bit_alone s))))
-      go true test = claims s on.1.1 on.1.0.0 (grind (arith, nat_tests))
-      go false test = (
+  claim_shows s on = by_test (bit_in s (slice_index c.words (bits_at z s)) == 1)
+      (λ test. rw test (claims s on.1.1 on.1.0.0 (grind (arith, nat_tests))))
+      (λ test. rw test (
         refl,
         same_plain (shows z c) _ n _
             (missed s on.1.1 on.1.0.0 _ refl refl refl (grind (arith, nat_tests))) (sym is),
-      )
+      ))
 
   -- the slot of a phase is there
-  pub there : (s : SlotId) → 0 < baring s v.phase + filling s v.phase + giving s v.phase → s.0 < z.slots
-  there s pos = named_in_range z n v s (so.seats n hn) (in_range v.phase pos)
-    where
-      in_range : (p : Phase) → 0 < baring s p + filling s p + giving s p
-          → 0 < naming s (record v { phase = p })
-      in_range phase.Idle q = absurd (omega arith)
-      in_range (phase.Finish x) q = absurd (omega arith)
-      in_range (phase.Help x) q = absurd (omega arith)
-      in_range (phase.Zero x) q = absurd (omega arith)
-      in_range phase.Scan q = absurd (omega arith)
-      in_range (phase.Bare x) q = omega arith
-      in_range (phase.Blank x) q = omega arith
-      in_range (phase.Give x) q = omega arith
-
   pub arm_shows : Enabled z c n act.Arm → ShowsRow z c n act.Arm
   arm_shows on =
-      let at : v.phase ≡ phase.Bare mine =
-      on.1.1 ∙ sym (ap (λ (x : SlotId). phase.Bare x) (ap slot_of on.1.1)) in
-      let p = in_bare v.phase mine mine at in
-      let a = p.bares in
-      let o = one_same mine mine refl in
-      let hs = there mine (omega arith) in (
+      let at = on.1.1 in
+      let hs = phase_there z n v (so.seats n hn) on.1.0 (ap slot_of at) in
+      rw (ap slot_of at) (
         refl,
         same_plain (shows z c) _ n _
-            (weak_quiet z c n _ so hn mine 1 hs
+            (weak_quiet z c n _ so hn on.1.0 1 hs
             (λ x.
-            let q = in_bare v.phase x mine at in
+            let q = in_bare v.phase x on.1.0 at in
             let e = q.bares in
             let f = q.fills in
             record { claims = omega arith; dying = refl; made = refl }))

@@ -1,6 +1,6 @@
 -- The counters' events show a plain step each.
-use Rattle.std.proofs.Common.{◌≡◌, ℕ, ◌+◌, ◌<◌, Bool, true, false, List, [], ◌∷◌, ◌++◌, length, refl, ap, sym, ◌∙◌, subst, arith}
-use Rattle.std.specs.Prelude.{slice_index, ◌==◌, nat_lt, if◌then◌else◌, Option, None}
+use Rattle.std.proofs.Common.{◌≡◌, ℕ, ◌<◌, true, false, List, [], ◌∷◌, ◌++◌, length, refl, ap, sym, ◌∙◌, subst, arith}
+use Rattle.std.specs.Prelude.{slice_index, ◌==◌, nat_lt, Option, None}
 use Rattle.std.proofs.lemmas.Bool.Decides.{nat_tests}
 use Rattle.plain_state.specs.declared.act.PlainAct.TheVariants as plain
 use Rattle.plain_state.specs.declared.slot.Kind.{Kind}
@@ -9,16 +9,15 @@ use Rattle.plain_state.specs.declared.slot.SlotId.{SlotId}
 use Rattle.plain_state.specs.declared.slot.PlainSlot.{PlainSlot}
 use Rattle.plain_state.specs.Lawful.{IsCovered}
 use Rattle.plain_state.specs.Lists.{Entry, entry_times}
-use Rattle.plain_state.specs.References.{strong_refs}
 use Rattle.plain_state.specs.State.{seat_at, with_seat}
 use Rattle.plain_state.specs.Steps.{Row}
 use Rattle.core_events.specs.declared.act.Act.TheVariants as act
-use Rattle.core_events.specs.declared.outcome.Outcome.TheVariants as outcome
 use Rattle.core_events.specs.declared.shape.Shape.{Shape}
 use Rattle.core_events.specs.declared.view.CoreView.{CoreView}
 use Rattle.core_events.specs.declared.view.Phase.{Phase}
 use Rattle.core_events.specs.declared.view.Phase.TheVariants as phase
-use Rattle.core_events.specs.Words.{ZERO, has_zero, value, strong_at}
+use Rattle.core_events.specs.Words.{strong_at}
+use Rattle.counter_word.specs.Words.{ZERO, has_zero}
 use Rattle.core_events.specs.Views.{without}
 use Rattle.core_events.specs.Steps.{noted, plus_one, minus_one, counter_at, decremented, given_up, paid, paid_outcome, owed_at}
 use Rattle.core_events.specs.Runs.{Core, Enabled, view_at}
@@ -27,8 +26,7 @@ use Rattle.core_events.specs.Shows.{shows, show_seat, filled}
 use Rattle.core_events.specs.ShownSteps.{ejects}
 use Rattle.core_invariant.specs.Slots.{numbers}
 use Rattle.core_invariant.specs.Sound.{Sound}
-use Rattle.core_invariant.proofs.Flags.{flags}
-use Rattle.core_invariant.proofs.Kit.{total_at, entry_cons, entry_append, one_same}
+use Rattle.core_invariant.proofs.Kit.{by_test, total_at, entry_cons, entry_append, one_same}
 use Rattle.core_invariant.proofs.Held.{held_named}
 use Rattle.core_invariant.proofs.Parts.{sound_good, value_is}
 use Rattle.core_invariant.proofs.Put.{put, at_seat, adds_fit}
@@ -52,34 +50,21 @@ module _ (z : Shape) (c : Core) (n : ℕ) (so : Sound z c) (hn : n < z.seats) wh
   is = shown_seat z c n (at_seat z c n so hn)
 
   pub add_shows : (s : SlotId) → Enabled z c n (act.Add s) → ShowsRow z c n (act.Add s)
-  add_shows s on = go (nat_lt (strong z c s) ZERO) refl
-    where
-      hs : s.0 < z.slots
-      hs = named_in_range z n v s (so.seats n hn) (held_named s v on.1.2)
-
-      keeps : SameFlags (strong z c s) (plus_one (strong z c s))
-      keeps =
-          let fit = adds_fit z c so in
-          let most = ((sound_good z c so).bounds s hs).strong_most in
-          plus_flags (strong z c s)
-          (flags (adds_used c) (numbers z c s) (so.slots s hs) fit).fits (omega arith)
-
-      go : (b : Bool) → nat_lt (strong z c s) ZERO ≡ b
-          → Row (shows z c) n (plain.Add s) (if b then 0 else 1)
-          (shows z (put c n (noted (act.Add s) (if b then outcome.Up else outcome.Dead)
-          (if b then record v { owned = v.owned ++ s ∷ []; adds = v.adds + 1 } else record v
-          { adds = v.adds + 1 }))
-          (strong_at z s) (plus_one (strong z c s))))
-      go true test =
-          let unmarked : has_zero (strong z c s) ≡ false = grind (arith, nat_tests) in
-          does.does_add_up (shows z c) _ n (show_seat v) is s on.1.2
-          (ap (λ (x : PlainSlot). x.marked) (shown_slot z c s hs) ∙ unmarked)
-          (strong_quiet z c n _ so hn s (plus_one (strong z c s)) hs keeps (calm v _ refl refl refl))
-      go false test =
-          let marked : has_zero (strong z c s) ≡ true = grind (arith, nat_tests) in
-          does.does_add_dead (shows z c) _ n (show_seat v) is s on.1.2
-          (ap (λ (x : PlainSlot). x.marked) (shown_slot z c s hs) ∙ marked)
-          (strong_quiet z c n _ so hn s (plus_one (strong z c s)) hs keeps (calm v _ refl refl refl))
+  add_shows s on =
+      let hs = named_in_range z n v s (so.seats n hn) (held_named s v on.1.2) in
+      let fit = adds_fit z c so in
+      let most = ((sound_good z c so).bounds s hs).strong_most in
+      let keeps = plus_flags (strong z c s) (so.fit.fit (strong_at z s)) (omega arith) in
+      let marks = ap (λ (x : PlainSlot). x.marked) (shown_slot z c s hs) in
+      by_test (nat_lt (strong z c s) ZERO)
+      (λ test.
+      let unmarked : has_zero (strong z c s) ≡ false = grind (arith, nat_tests) in
+      rw test (does.does_add_up (shows z c) _ n (show_seat v) is s on.1.2 (marks ∙ unmarked)
+      (strong_quiet z c n _ so hn s (plus_one (strong z c s)) hs keeps (calm v _ refl refl refl))))
+      (λ test.
+      let marked : has_zero (strong z c s) ≡ true = grind (arith, nat_tests) in
+      rw test (does.does_add_dead (shows z c) _ n (show_seat v) is s on.1.2 (marks ∙ marked)
+      (strong_quiet z c n _ so hn s (plus_one (strong z c s)) hs keeps (calm v _ refl refl refl))))
 
   -- a strong word that counts a reference of this seat, after one is given up
   fewer : (s : SlotId) → s.0 < z.slots → 0 < listed Strong s v
@@ -123,18 +108,10 @@ module _ (z : Shape) (c : Core) (n : ℕ) (so : Sound z c) (hn : n < z.seats) wh
 
       -- the seat counts the reference that it owes
       counts : (k : Kind) (s : SlotId) (rest : List Entry) → v.owed ≡ (k, s) ∷ rest → 0 < listed k s v
-      counts Strong s rest owes =
-          let l = entry_cons Strong s (Strong, s) rest in
+      counts k s rest owes =
+          let l = entry_cons k s (k, s) rest in
           let o = one_same s s refl in
-          let e = ap (entry_times Strong s) owes in omega arith
-      counts Weak s rest owes =
-          let l = entry_cons Weak s (Weak, s) rest in
-          let o = one_same s s refl in
-          let e = ap (entry_times Weak s) owes in omega arith
-      counts Disposal s rest owes =
-          let l = entry_cons Disposal s (Disposal, s) rest in
-          let o = one_same s s refl in
-          let e = ap (entry_times Disposal s) owes in omega arith
+          let e = ap (entry_times k s) owes in grind arith
 
       next' : (rest : List Entry) (p : Phase) → filled p ≡ None
           → with_seat (shows z c) n
@@ -175,27 +152,16 @@ module _ (z : Shape) (c : Core) (n : ℕ) (so : Sound z c) (hn : n < z.seats) wh
       of (e ∷ rest) owes = first e.0 e.1 rest owes
 
   pub count_shows : (s : SlotId) → Enabled z c n (act.Count s) → ShowsRow z c n (act.Count s)
-  count_shows s on = go (strong z c s == 0)
-    where
-      hs : s.0 < z.slots
-      hs = named_in_range z n v s (so.seats n hn) (held_named s v on.1.1)
-
-      reads : value (strong z c s) ≡ strong_refs (shows z c) s
-      reads =
-          value_is (adds_used c) (numbers z c s) (so.slots s hs) (adds_fit z c so)
-          ∙ sym (shown_strong z c s)
-
-      go : (b : Bool) → Row (shows z c) n (plain.Count s) (value (strong z c s))
-          (shows z (put c n (noted (act.Count s) (if b then outcome.Again else outcome.Number
-          (value (strong z c s)))
-          (if b then record v { phase = phase.Zero s } else v)) (strong_at z s) (strong z c s)))
-      go true =
-          let was = ap filled on.1.0.0 in
-          does.does_count (shows z c) _ n (show_seat v) is s (value (strong z c s)) on.1.1 reads
-          (same_plain (shows z c) _ n _
-          (still_quiet z c n _ so hn (strong_at z s) (fills_nothing v _ was refl refl refl))
-          (ap (λ (f : Option SlotId). record (show_seat v) { filling = f }) (sym was) ∙ sym is))
-      go false =
-          does.does_count (shows z c) _ n (show_seat v) is s (value (strong z c s)) on.1.1 reads
-          (same_plain (shows z c) _ n _
-          (still_quiet z c n _ so hn (strong_at z s) (calm v _ refl refl refl)) (sym is))
+  count_shows s on =
+      let hs = named_in_range z n v s (so.seats n hn) (held_named s v on.1.1) in
+      let was = ap filled on.1.0.0 in
+      let reads = value_is (adds_used c) (numbers z c s) (so.slots s hs) (adds_fit z c so)
+      ∙ sym (shown_strong z c s) in
+      by_test (strong z c s == 0)
+      (λ test. rw test (does.does_count (shows z c) _ n (show_seat v) is s _ on.1.1 reads
+      (same_plain (shows z c) _ n _
+      (still_quiet z c n _ so hn (strong_at z s) (fills_nothing v _ was refl refl refl))
+      (ap (λ (f : Option SlotId). record (show_seat v) { filling = f }) (sym was) ∙ sym is))))
+      (λ test. rw test (does.does_count (shows z c) _ n (show_seat v) is s _ on.1.1 reads
+      (same_plain (shows z c) _ n _
+      (still_quiet z c n _ so hn (strong_at z s) (calm v _ refl refl refl)) (sym is))))

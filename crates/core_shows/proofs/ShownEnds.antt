@@ -1,7 +1,6 @@
 -- A finish, a take and a mark show a plain step each.
-use Rattle.std.proofs.Common.{◌≡◌, ◌≢◌, ◌⊎◌, inl, inr, ℕ, ◌+◌, ◌-◌, ◌^◌, ◌<◌, ◌≤◌, Bool, true, false, List, [], ◌∷◌, ◌++◌, set, refl, ap, sym, ◌∙◌, subst, arith}
-use Rattle.std.specs.Prelude.{slice_index, ◌==◌, bit_and, if◌then◌else◌, Option, None}
-use prog.Atomic.{either}
+use Rattle.std.proofs.Common.{◌≡◌, ◌≢◌, ◌⊎◌, inl, inr, ℕ, ◌+◌, ◌-◌, ◌<◌, ◌≤◌, true, List, [], ◌∷◌, ◌++◌, set, refl, ap, sym, ◌∙◌, arith}
+use Rattle.std.specs.Prelude.{Some, slice_index, ◌==◌, Option, None}
 use Rattle.std.proofs.lemmas.List.{get_or-set_same, get_or-set_other}
 use Rattle.std.proofs.lemmas.Bool.Decides.{nat_tests}
 use Rattle.plain_state.specs.declared.act.PlainAct.TheVariants as plain
@@ -12,26 +11,24 @@ use Rattle.plain_state.specs.References.{strong_refs}
 use Rattle.plain_state.specs.State.{Plain, seat_at, with_seat, with_slot}
 use Rattle.plain_state.specs.Steps.{Row}
 use Rattle.core_events.specs.declared.act.Act.TheVariants as act
-use Rattle.core_events.specs.declared.outcome.Outcome.TheVariants as outcome
 use Rattle.core_events.specs.declared.shape.Shape.{Shape}
 use Rattle.core_events.specs.declared.view.CoreView.{CoreView}
 use Rattle.core_events.specs.declared.view.Move.{Move}
 use Rattle.core_events.specs.declared.view.Phase.{Phase}
 use Rattle.core_events.specs.declared.view.Phase.TheVariants as phase
-use Rattle.core_events.specs.Words.{ZERO, HELP, has_zero, has_help, value, strong_at, bits_at, bit_in}
+use Rattle.core_events.specs.Words.{strong_at, bits_at, bit_in}
+use Rattle.counter_word.specs.Words.{ZERO, HELP, has_zero, has_help, value}
 use Rattle.core_events.specs.Views.{slot_of}
-use Rattle.core_events.specs.Steps.{noted, ended}
 use Rattle.core_events.specs.Runs.{Core, Enabled, view_at}
 use Rattle.core_events.specs.Counts.{strong, adds_used, stage, signs, free_bit, is_live_word}
 use Rattle.core_events.specs.Shows.{shows, show_seat, show_slot, lives, filled}
 use Rattle.core_invariant.specs.Slots.{numbers}
 use Rattle.core_invariant.specs.Sound.{Sound}
-use Rattle.core_invariant.proofs.Kit.{one_same, one_other, times_push}
-use Rattle.core_invariant.proofs.Flags.{Flags, flags, cleared, live_low}
+use Rattle.core_invariant.proofs.InRange.{phase_there}
+use Rattle.core_invariant.proofs.Kit.{by_test, one_same, one_other, times_push}
+use Rattle.core_invariant.proofs.Flags.{flags, cleared, live_low}
 use Rattle.core_invariant.proofs.Parts.{value_is}
 use Rattle.core_invariant.proofs.Put.{put, at_seat, adds_fit}
-use Rattle.core_invariant.proofs.Steady.{named_in_range}
-use Rattle.core_invariant.proofs.Phases.{in_finish, in_help, in_zero}
 use Rattle.core_shows.proofs.Bridge.{shown_seat, shown_slot, shown_strong}
 use Rattle.core_shows.proofs.Changes.{strong_changes}
 use Rattle.core_shows.proofs.Does as does
@@ -53,10 +50,6 @@ module _ (z : Shape) (c : Core) (n : ℕ) (so : Sound z c) (hn : n < z.seats) wh
 
   is : seat_at (shows z c) n ≡ show_seat (view_at c n)
   is = shown_seat z c n (at_seat z c n so hn)
-
-  -- the slot that the seat is in the middle of something with
-  abbrev mine : SlotId
-  mine = slot_of (view_at c n).phase
 
   -- the bit of s after a write of its strong word
   bit_stays : (s : SlotId) (w : ℕ) → s.0 < z.slots
@@ -119,135 +112,90 @@ module _ (z : Shape) (c : Core) (n : ℕ) (so : Sound z c) (hn : n < z.seats) wh
       ∙ (sym (value_is (adds_used c) (numbers z c s) (so.slots s hs) (adds_fit z c so))
       ∙ ap value null)
 
+  -- the slot of the seat's phase is there
+  there : (s : SlotId) → slot_of v.phase ≡ Some s → s.0 < z.slots
+  there s at = phase_there z n v (so.seats n hn) s at
+
   pub finish_shows : Enabled z c n act.Finish → ShowsRow z c n act.Finish
-  finish_shows on = go (strong z c mine == 0) refl
-    where
-      at : v.phase ≡ phase.Finish mine
-      at = on.1.1 ∙ sym (ap (λ (x : SlotId). phase.Finish x) (ap slot_of on.1.1))
-
-      hs : mine.0 < z.slots
-      hs =
-          let p = in_finish v.phase mine mine at in
-          let o = one_same mine mine refl in
-          named_in_range z n v mine (so.seats n hn) (omega arith)
-
-      go : (b : Bool) → (strong z c mine == 0) ≡ b
-          → Row (shows z c) n (if b then plain.End mine else plain.Still) 0
-          (shows z (put c n (noted act.Finish
-          (if b then outcome.Ended else if has_help (strong z c mine) then outcome.Help else
-          outcome.Lost)
-          (ended b mine (if has_help (strong z c mine) then phase.Help mine else phase.Idle) v))
-          (strong_at z mine) (either b ZERO (strong z c mine))))
-      go true test =
-          let null : strong z c mine ≡ 0 = grind (arith, nat_tests) in
-          ends mine _ ZERO hs (ap filled at) (live_low (strong z c mine) (omega arith))
-          (inr (unreferred mine hs null)) refl
-      go false test =
-          let none = unfilled_if (has_help (strong z c mine)) (phase.Help mine) phase.Idle refl refl in
-          (refl, stays _ (strong_at z mine) (ap filled at) none refl refl (refill _ (ap filled at) none))
+  finish_shows on =
+      let s : SlotId = on.1.0 in
+      let was = ap filled on.1.1 in
+      let hs = there on.1.0 (ap slot_of on.1.1) in
+      by_test (strong z c on.1.0 == 0)
+      (λ test.
+      let null : strong z c s ≡ 0 = grind (arith, nat_tests) in
+      rw (ap slot_of on.1.1, test) (ends s _ ZERO hs was (live_low (strong z c s) (omega arith))
+      (inr (unreferred s hs null)) refl))
+      (λ test.
+      let none = unfilled_if (has_help (strong z c s)) (phase.Help s) phase.Idle refl refl in
+      rw (ap slot_of on.1.1, test)
+      (refl, stays _ (strong_at z s) was none refl refl (refill _ was none)))
 
   pub take_shows : Enabled z c n act.Take → ShowsRow z c n act.Take
-  take_shows on = go (has_help (strong z c mine)) refl
-    where
-      at : v.phase ≡ phase.Help mine
-      at = on.1.1 ∙ sym (ap (λ (x : SlotId). phase.Help x) (ap slot_of on.1.1))
+  take_shows on =
+      let s : SlotId = on.1.0 in
+      let was = ap filled on.1.1 in
+      let hs = there on.1.0 (ap slot_of on.1.1) in
+      let f = flags (adds_used c) (numbers z c s) (so.slots s hs) (adds_fit z c so) in
+      let mask = cleared (strong z c on.1.0) f.fits in
+      by_test (has_help (strong z c on.1.0))
+      (λ test.
+      let big = f.help test in
+      let marked : has_zero (strong z c s) ≡ true = grind (arith, nat_tests) in
+      rw (ap slot_of on.1.1, mask, test) (ends s _ (strong z c s - HELP) hs was
+      (help_lives (strong z c s) test) (inl marked) (help_taken (strong z c s) _ refl big)))
+      (λ test. rw (ap slot_of on.1.1, mask, test)
+      (refl, stays _ (strong_at z s) was refl refl refl (refill phase.Idle was refl)))
 
-      hs : mine.0 < z.slots
-      hs =
-          let p = in_help v.phase mine mine at in
-          let o = one_same mine mine refl in
-          named_in_range z n v mine (so.seats n hn) (omega arith)
-
-      f : Flags (strong z c mine)
-      f = flags (adds_used c) (numbers z c mine) (so.slots mine hs) (adds_fit z c so)
-
-      mask : (b : Bool) → has_help (strong z c mine) ≡ b
-          → bit_and (strong z c mine) (2 ^ 64 - 1 - HELP)
-          ≡ (if b then strong z c mine - HELP else strong z c mine)
-      mask b test =
-          cleared (strong z c mine) f.fits ∙ ap (λ (x : Bool). if x then strong z c mine - HELP
-          else strong z c mine) test
-
-      go : (b : Bool) → has_help (strong z c mine) ≡ b
-          → Row (shows z c) n (if b then plain.End mine else plain.Still) 0
-          (shows z (put c n (noted act.Take (if b then outcome.Ended else outcome.NoHelp)
-          (ended b mine phase.Idle v))
-          (strong_at z mine) (bit_and (strong z c mine) (2 ^ 64 - 1 - HELP))))
-      go true test =
-          let big = f.help test in
-          let marked : has_zero (strong z c mine) ≡ true = grind (arith, nat_tests) in
-          ends mine _ (bit_and (strong z c mine) (2 ^ 64 - 1 - HELP)) hs (ap filled at)
-          (help_lives (strong z c mine) test) (inl marked)
-          (help_taken (strong z c mine) _ (mask true test) big)
-      go false test =
-          subst (λ (w : ℕ). Row (shows z c) n plain.Still 0
-          (shows z (put c n (noted act.Take outcome.NoHelp (ended false mine phase.Idle v))
-          (strong_at z mine) w)))
-          (sym (mask false test))
-          (refl, stays _ (strong_at z mine) (ap filled at) refl refl refl (refill phase.Idle (ap filled at) refl))
+  -- a mark of a word that is 0
+  marks : (s : SlotId) (t : List Move) → v.phase ≡ phase.Zero s → s.0 < z.slots → strong z c s ≡ 0
+      → shows z (put c n (record v { phase = phase.Idle; trail = t }) (strong_at z s) (ZERO + HELP))
+      ≡ with_slot (shows z c) s (record (show_slot z c s) { marked = true })
+  marks s t at hs null =
+      let u : CoreView = record v { phase = phase.Idle; trail = t } in
+      let ws : List ℕ = set c.words (strong_at z s) (ZERO + HELP) in
+      let live = live_low (strong z c s) (omega arith) in
+      let started = live_started z c so s hs live in
+      let b = started.bit in
+      let cl = started.claimers in
+      let dy = started.dying in
+      let b' = bit_stays s (ZERO + HELP) hs in
+      let m = claimers_move z c n u so hn ws s in
+      let fill = unfilled v.phase s (ap filled at) in
+      let d = dying_move z c n u so hn ws s in
+      let l = lives_move z c n u so hn ws s in
+      let len = so.words in
+      let here = ap is_live_word (get_or-set_same c.words (strong_at z s) (ZERO + HELP) 0 (omega arith)) in
+      strong_changes z c n u s so hn hs
+      (λ x ne. fills_nothing v u (ap filled at) refl refl refl x)
+      (ZERO + HELP) (stage z c s) true (lives c s)
+      (alive_stage (signs z (put c n u (strong_at z s) (ZERO + HELP)) s)
+      (omega arith) (omega arith) (omega arith) here ∙ sym (is_live z c so s hs live))
+      refl (omega arith)
+      ∙ ap (λ (P : Plain). with_slot P s (record (show_slot z c s) { marked = true }))
+      (same_plain (shows z c) _ n (show_seat u) refl (refill phase.Idle (ap filled at) refl ∙ sym is))
 
   pub mark_shows : Enabled z c n act.Mark → ShowsRow z c n act.Mark
-  mark_shows on = go (strong z c mine == 0) refl
-    where
-      at : v.phase ≡ phase.Zero mine
-      at = on.1.1 ∙ sym (ap (λ (x : SlotId). phase.Zero x) (ap slot_of on.1.1))
-
-      hs : mine.0 < z.slots
-      hs =
-          let p = in_zero v.phase mine mine at in
-          let o = one_same mine mine refl in
-          named_in_range z n v mine (so.seats n hn) (omega arith)
-
-      reads : value (strong z c mine) ≡ strong_refs (shows z c) mine
-      reads =
-          value_is (adds_used c) (numbers z c mine) (so.slots mine hs) (adds_fit z c so)
-          ∙ sym (shown_strong z c mine)
-
-      u : CoreView
-      u = noted act.Mark (outcome.Number (value (strong z c mine))) (record v { phase = phase.Idle })
-
-      marks : strong z c mine ≡ 0 → shows z (put c n u (strong_at z mine) (ZERO + HELP))
-          ≡ with_slot (shows z c) mine (record (show_slot z c mine) { marked = true })
-      marks null =
-          let ws : List ℕ = set c.words (strong_at z mine) (ZERO + HELP) in
-          let live = live_low (strong z c mine) (omega arith) in
-          let started = live_started z c so mine hs live in
-          let b = started.bit in
-          let cl = started.claimers in
-          let dy = started.dying in
-          let b' = bit_stays mine (ZERO + HELP) hs in
-          let m = claimers_move z c n u so hn ws mine in
-          let fill = unfilled v.phase mine (ap filled at) in
-          let d = dying_move z c n u so hn ws mine in
-          let l = lives_move z c n u so hn ws mine in
-          let len = so.words in
-          let there = hs in
-          let here = ap is_live_word (get_or-set_same c.words (strong_at z mine) (ZERO + HELP) 0 (omega arith)) in
-          strong_changes z c n u mine so hn hs
-          (λ x ne. fills_nothing v u (ap filled at) refl refl refl x)
-          (ZERO + HELP) (stage z c mine) true (lives c mine)
-          (alive_stage (signs z (put c n u (strong_at z mine) (ZERO + HELP)) mine)
-          (omega arith) (omega arith) (omega arith) here
-          ∙ sym (is_live z c so mine hs live))
-          refl (omega arith)
-          ∙ ap (λ (P : Plain). with_slot P mine (record (show_slot z c mine) { marked = true }))
-          (same_plain (shows z c) _ n (show_seat u) refl (refill phase.Idle (ap filled at) refl ∙ sym is))
-
-      go : (b : Bool) → (strong z c mine == 0) ≡ b
-          → Row (shows z c) n (plain.Mark mine) (value (strong z c mine))
-          (shows z (put c n u (strong_at z mine) (either b (ZERO + HELP) (strong z c mine))))
-      go true test =
-          let null : strong z c mine ≡ 0 = grind (arith, nat_tests) in
-          does.does_mark (shows z c) _ n (show_seat v) is mine (show_slot z c mine)
-          (shown_slot z c mine hs) (value (strong z c mine)) reads
-          (is_live z c so mine hs (live_low (strong z c mine) (omega arith))) (unreferred mine hs null)
-          (marks null)
-      go false test =
-          let some' : strong z c mine ≢ 0 = grind (arith, nat_tests) in (
-            reads,
-            inl (
-              stays u (strong_at z mine) (ap filled at) refl refl refl (refill phase.Idle (ap filled at) refl),
-              λ none. ap (λ (x : PlainSlot). x.marked) (shown_slot z c mine hs)
-                  ∙ zero_stands (strong z c mine) some' none,
-            ),
-          )
+  mark_shows on =
+      let s : SlotId = on.1.0 in
+      let was = ap filled on.1.1 in
+      let hs = there on.1.0 (ap slot_of on.1.1) in
+      let reads = value_is (adds_used c) (numbers z c s) (so.slots s hs) (adds_fit z c so)
+      ∙ sym (shown_strong z c s) in
+      by_test (strong z c on.1.0 == 0)
+      (λ test.
+      let null : strong z c s ≡ 0 = grind (arith, nat_tests) in
+      rw (ap slot_of on.1.1, test) (does.does_mark (shows z c) _ n (show_seat v) is s (show_slot z c s)
+      (shown_slot z c s hs) (value (strong z c s)) reads
+      (is_live z c so s hs (live_low (strong z c s) (omega arith))) (unreferred s hs null)
+      (marks s _ on.1.1 hs null)))
+      (λ test.
+      let some' : strong z c s ≢ 0 = grind (arith, nat_tests) in
+      rw (ap slot_of on.1.1, test) (
+        reads,
+        inl (
+          stays _ (strong_at z s) was refl refl refl (refill phase.Idle was refl),
+          λ none. ap (λ (x : PlainSlot). x.marked) (shown_slot z c s hs)
+              ∙ zero_stands (strong z c s) some' none,
+        ),
+      ))

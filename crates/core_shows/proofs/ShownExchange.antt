@@ -11,7 +11,8 @@ use Rattle.plain_state.specs.State.{slot_at, with_seat}
 use Rattle.plain_state.specs.Steps.{word_of}
 use Rattle.core_events.specs.declared.shape.Shape.{Shape}
 use Rattle.core_events.specs.declared.view.CoreView.{CoreView}
-use Rattle.core_events.specs.Words.{each_from, slot_in, place_at, cell_at, weak_cell_at, field_at, weak_field_at, strong_at, payload_at, bits_at, bit_in, ticket_at, has_zero}
+use Rattle.core_events.specs.Words.{each_from, slot_in, place_at, cell_at, weak_cell_at, field_at, weak_field_at, strong_at, payload_at, bits_at, bit_in, ticket_at}
+use Rattle.counter_word.specs.Words.{has_zero}
 use Rattle.core_events.specs.Runs.{Core, view_at}
 use Rattle.core_events.specs.Counts.{strong, stage, signs, is_live_word}
 use Rattle.core_events.specs.Shows.{shows, show_seat, show_slot, lives}

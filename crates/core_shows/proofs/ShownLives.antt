@@ -15,13 +15,15 @@ use Rattle.core_events.specs.declared.outcome.Outcome.TheVariants as outcome
 use Rattle.core_events.specs.declared.shape.Shape.{Shape}
 use Rattle.core_events.specs.declared.view.CoreView.{CoreView}
 use Rattle.core_events.specs.declared.view.Phase.TheVariants as phase
-use Rattle.core_events.specs.Words.{has_zero, slot_in, field_at, weak_field_at, strong_at, weak_at, bits_at, bit_in, bit_alone, payload_at}
+use Rattle.core_events.specs.Words.{slot_in, field_at, weak_field_at, strong_at, weak_at, bits_at, bit_in, bit_alone, payload_at}
+use Rattle.counter_word.specs.Words.{has_zero}
 use Rattle.core_events.specs.Views.{slot_of, without}
 use Rattle.core_events.specs.Steps.{noted, minus_one, moved}
 use Rattle.core_events.specs.Runs.{Core, Enabled, view_at}
 use Rattle.core_events.specs.Counts.{weak, stage, signs, filling, giving, is_live_word}
 use Rattle.core_events.specs.Shows.{shows, show_seat, show_slot, lives, filled}
 use Rattle.core_invariant.specs.Sound.{Sound}
+use Rattle.core_invariant.proofs.InRange.{phase_there}
 use Rattle.core_invariant.proofs.Bits.{given_bit, given_other}
 use Rattle.core_invariant.proofs.Flags.{live_low}
 use Rattle.core_invariant.proofs.Kit.{one_same, one_other, times_push, times_without, total_at}
@@ -36,7 +38,6 @@ use Rattle.core_shows.proofs.Frames.{shows_slot, slot_eq, payload_of}
 use Rattle.core_shows.proofs.Lists.{each_set}
 use Rattle.core_shows.proofs.Covered.{undisposed}
 use Rattle.core_shows.proofs.Losing.{loses_without}
-use Rattle.core_shows.proofs.ShownClaims.{there}
 use Rattle.core_shows.proofs.Quiet.{calm, fills_nothing, unfilled, unfilled_if, same_plain, same_frame, inner, slot_beside, slot_quiet, claimers_move, dying_move, lives_move}
 use Rattle.core_shows.proofs.Stages.{alive_stage, husk_stage, free_stage, stage_same, claimed_is, is_claimed, given_is, dying_is}
 
@@ -50,29 +51,24 @@ module _ (z : Shape) (c : Core) (n : ℕ) (so : Sound z c) (hn : n < z.seats) wh
   is : seat_at (shows z c) n ≡ show_seat (view_at c n)
   is = shown_seat z c n (at_seat z c n so hn)
 
-  -- the slot that the seat has claimed, or is to give back
-  abbrev mine : SlotId
-  mine = slot_of (view_at c n).phase
-
   blank_at : (s : SlotId) → v.phase ≡ phase.Blank s → (s.0 < z.slots) × (stage z c s ≡ Blank)
   blank_at s at =
       let p = in_blank v.phase s s at in
       let a = p.fills in
       let o = one_same s s refl in
       let r = total_at (λ (u : CoreView). filling s u.phase) c.views n h in
-      let hs = there z c n so hn s (omega arith) in (hs, is_claimed z c so s hs (omega arith))
+      let hs = phase_there z n v (so.seats n hn) s (ap slot_of at) in (hs, is_claimed z c so s hs (omega arith))
 
   pub fill_shows : (i x : ℕ) → Enabled z c n (act.Fill i x) → ShowsRow z c n (act.Fill i x)
   fill_shows i x on =
-      let at : v.phase ≡ phase.Blank mine =
-      on.1.0.1 ∙ sym (ap (λ (y : SlotId). phase.Blank y) (ap slot_of on.1.0.1)) in
-      let b = blank_at mine at in
-      does.does_fill (shows z c) _ n (show_seat v) is mine (show_slot z c mine)
-      (shown_slot z c mine b.0) i x b.1 (ap filled at) on.1.1
-      (filled_payload mine b.0
-      ∙ ap (λ (P : Plain). with_slot P mine (record (show_slot z c mine)
-      { payload = slice_set (payload_of z c mine) i x }))
-      (same_plain (shows z c) _ n (show_seat v) refl (sym is)))
+      let b = blank_at on.1.0.0 on.1.0.1 in
+      rw (ap slot_of on.1.0.1)
+      (does.does_fill (shows z c) _ n (show_seat v) is on.1.0.0 (show_slot z c on.1.0.0)
+      (shown_slot z c on.1.0.0 b.0) i x b.1 (ap filled on.1.0.1) on.1.1
+      (filled_payload on.1.0.0 b.0
+      ∙ ap (λ (P : Plain). with_slot P on.1.0.0 (record (show_slot z c on.1.0.0)
+      { payload = slice_set (payload_of z c on.1.0.0) i x }))
+      (same_plain (shows z c) _ n (show_seat v) refl (sym is))))
     where
       u : CoreView
       u = noted (act.Fill i x) outcome.Plain v
@@ -118,9 +114,7 @@ module _ (z : Shape) (c : Core) (n : ℕ) (so : Sound z c) (hn : n < z.seats) wh
           (omega arith) (omega arith)))
 
   pub start_shows : Enabled z c n act.Start → ShowsRow z c n act.Start
-  start_shows on =
-      let at : v.phase ≡ phase.Blank mine =
-      on.1.1 ∙ sym (ap (λ (y : SlotId). phase.Blank y) (ap slot_of on.1.1)) in go mine at
+  start_shows on = rw (ap slot_of on.1.1) (go on.1.0 on.1.1)
     where
       begun : SlotId → CoreView
       begun y = noted act.Start outcome.Plain
@@ -172,9 +166,7 @@ module _ (z : Shape) (c : Core) (n : ℕ) (so : Sound z c) (hn : n < z.seats) wh
           refl (omega arith))
 
   pub free_shows : Enabled z c n act.Free → ShowsRow z c n act.Free
-  free_shows on =
-      let at : v.phase ≡ phase.Give mine =
-      on.1.1 ∙ sym (ap (λ (y : SlotId). phase.Give y) (ap slot_of on.1.1)) in go mine at
+  free_shows on = rw (ap slot_of on.1.1) (go on.1.0 on.1.1)
     where
       u : CoreView
       u = noted act.Free outcome.Plain (record v { phase = phase.Idle })
@@ -190,7 +182,7 @@ module _ (z : Shape) (c : Core) (n : ℕ) (so : Sound z c) (hn : n < z.seats) wh
           let a = p.gives in
           let o = one_same s s refl in
           let r = total_at (λ (x : CoreView). giving s x.phase) c.views n h in
-          let hs = there z c n so hn s (omega arith) in
+          let hs = phase_there z n v (so.seats n hn) s (ap slot_of at) in
           let g = given_is z c so s hs (omega arith) in
           let l = lives_move z c n u so hn (set c.words (bits_at z s) w') s in
           let st : stage z c s ≡ Husk = husk_stage (signs z c s) g.bit g.claimers g.dying g.dead in

@@ -1,14 +1,13 @@
 -- Announcements, releases, scans, reads, and the events of weak words show a plain step each.
-use Rattle.std.proofs.Common.{◌≡◌, ◌≢◌, ⊎_elim, ℕ, ◌+◌, ◌<◌, Bool, true, false, List, [], ◌∷◌, ◌++◌, length, set, refl, ap, sym, ◌∙◌, subst, arith}
-use Rattle.std.specs.Prelude.{slice_index, ◌==◌, nat_lt, if◌then◌else◌, Option}
+use Rattle.std.proofs.Common.{◌≡◌, ◌≢◌, ⊎_elim, ℕ, ◌+◌, ◌<◌, List, ◌++◌, length, set, refl, ap, sym, ◌∙◌, subst, arith}
+use Rattle.std.specs.Prelude.{slice_index, ◌==◌, nat_lt, Option, None}
 use Rattle.std.proofs.lemmas.List.{get_or-set_same, get_or-set_other, map-set}
 use Rattle.std.proofs.lemmas.Bool.Decides.{nat_tests}
 use Rattle.plain_state.specs.declared.act.EventPlace.{EventPlace}
-use Rattle.plain_state.specs.declared.act.PlainAct.TheVariants as plain
 use Rattle.plain_state.specs.declared.slot.Kind.{Kind}
 use Rattle.plain_state.specs.declared.slot.Kind.TheVariants.{Disposal}
 use Rattle.plain_state.specs.declared.slot.SlotId.{SlotId}
-use Rattle.plain_state.specs.Lists.{Entry, entry_times, Gains}
+use Rattle.plain_state.specs.Lists.{Entry, entry_times}
 use Rattle.plain_state.specs.References.{strong_refs}
 use Rattle.plain_state.specs.State.{seat_at, with_seat}
 use Rattle.plain_state.specs.Steps.{Row}
@@ -19,23 +18,26 @@ use Rattle.core_events.specs.declared.view.CoreView.{CoreView}
 use Rattle.core_events.specs.declared.view.Note.{Note}
 use Rattle.core_events.specs.declared.view.Note.TheVariants as note
 use Rattle.core_events.specs.declared.view.Phase.TheVariants as phase
-use Rattle.core_events.specs.Words.{slot_in, value, note_at, code, cell_at, weak_cell_at, strong_at, weak_at, place_at, payload_at, ticket_at}
-use Rattle.core_events.specs.Ejection.{kept, ejected}
-use Rattle.core_events.specs.Views.{note_of, slot_noted, valid_of, without}
-use Rattle.core_events.specs.Steps.{noted, moved, with_note, validated, plus_one, minus_one, is_last, ripened}
+use Rattle.core_events.specs.Words.{slot_in, note_at, cell_at, weak_cell_at, strong_at, weak_at, place_at, payload_at, ticket_at}
+use Rattle.announce_slots.specs.Words.{code}
+use Rattle.counter_word.specs.Words.{value}
+use Rattle.plain_state.specs.Ejection.{kept, ejected}
+use Rattle.core_events.specs.Views.{note_of, valid_of, without}
+use Rattle.core_events.specs.declared.view.Move.{Move}
+use Rattle.core_events.specs.Steps.{May, noted, moved, with_note, plus_one, minus_one, is_last, all_seen}
 use Rattle.core_events.specs.Runs.{Core, Enabled, view_at}
 use Rattle.core_events.specs.Counts.{strong, weak, adds_used}
 use Rattle.core_events.specs.Shows.{shows, show_seat, filled}
 use Rattle.core_events.specs.ShownSteps.{releases}
 use Rattle.core_invariant.specs.Slots.{numbers}
 use Rattle.core_invariant.specs.Sound.{Sound}
-use Rattle.core_invariant.proofs.Kit.{entry_append, entry_none}
+use Rattle.core_invariant.proofs.Kit.{by_test, entry_append, entry_none}
 use Rattle.core_invariant.proofs.Bits.{bits_bound}
 use Rattle.core_invariant.proofs.Held.{held_named}
 use Rattle.core_invariant.proofs.InRange.{readable_in_range}
 use Rattle.core_invariant.proofs.Parts.{value_is}
 use Rattle.core_invariant.proofs.Put.{put, at_seat, adds_fit}
-use Rattle.core_invariant.proofs.Splits.{split_times}
+use Rattle.plain_state.proofs.Ejections.{split_times}
 use Rattle.core_invariant.proofs.Steady.{named_in_range}
 use Rattle.core_shows.proofs.Bridge.{shown_seat, shown_strong}
 use Rattle.core_shows.proofs.Does as does
@@ -60,58 +62,54 @@ module _ (z : Shape) (c : Core) (n : ℕ) (so : Sound z c) (hn : n < z.seats) wh
   same u p e f g seen = same_plain (shows z c) _ n (show_seat u)
       (still_quiet z c n u so hn p (calm v u e f g)) (seen ∙ sym is)
 
+  -- the word of the seat's own note
+  own_note : (j : ℕ) → note_at v.seat j ≡ note_at n j
+  own_note j = ap (λ (m : ℕ). note_at m j) (so.seats n hn).number
+
+  -- a note is written that isn't valid
+  notes : (j : ℕ) (y : Note) (t : List Move) (p w : ℕ) → p ≡ note_at n j → j < 4
+      → shows z (put c n (record v { notes = set v.notes j y; trail = t }) p w)
+      ≡ with_seat (shows z c) n (record (show_seat v) { snapshots = valid_of (set v.notes j y) })
+  notes j y t p w here hj = rw here (note_quiet z c n _ so hn j w hj (calm v _ refl refl refl))
+
+  -- and none was: the seat shows the same snapshots
+  unseen : (j : ℕ) (y : Note) → j < 4 → ((k : Kind) (s : SlotId) → y ≡ note.Valid k s → ⊥)
+      → ((k : Kind) (s : SlotId) → note_of v j ≡ note.Valid k s → ⊥)
+      → record (show_seat v) { snapshots = valid_of (set v.notes j y) } ≡ seat_at (shows z c) n
+  unseen j y hj new old =
+      let four = (so.seats n hn).four in
+      ap (λ (es : List Entry). record (show_seat v) { snapshots = es })
+      (valid_same v.notes j y (omega arith) new old) ∙ sym is
+
   pub announce_shows : (j : ℕ) (k : Kind) (s : SlotId) → Enabled z c n (act.Announce j k s)
       → ShowsRow z c n (act.Announce j k s)
-  announce_shows j k s on = subst
-      (λ (m : ℕ). Row (shows z c) n plain.Still 0
-      (shows z (put c n (noted (act.Announce j k s) outcome.Plain
-      (with_note j (note.Announced k s) v)) (note_at m j) (code k s))))
-      (sym (so.seats n hn).number) (
+  announce_shows j k s on =
+      let idle = on.1.2 in (
         refl,
         same_plain (shows z c) _ n _
-            (note_quiet z c n _ so hn j (code k s) on.1.1 (calm v _ refl refl refl))
-            (ap (λ (es : List Entry). record (show_seat v) { snapshots = es }) unseen ∙ sym is),
+            (notes j (note.Announced k s) _ _ (code k s) (own_note j) on.1.1)
+            (unseen j (note.Announced k s) on.1.1 (λ k' x e. absurd (cc (e)))
+            (λ k' x e. absurd (cc (idle, e)))),
       )
-    where
-      unseen : valid_of (set v.notes j (note.Announced k s)) ≡ valid_of v.notes
-      unseen =
-          let four = (so.seats n hn).four in
-          let small = on.1.1 in
-          let idle = on.1.2 in
-          valid_same v.notes j (note.Announced k s) (omega arith) (λ k' x e. absurd (cc (e)))
-          (λ k' x e. absurd (cc (idle, e)))
 
   pub release_shows : (j : ℕ) → Enabled z c n (act.Release j) → ShowsRow z c n (act.Release j)
-  release_shows j on = subst
-      (λ (m : ℕ). Row (shows z c) n (releases (note_of v j)) 0
-      (shows z (put c n (noted (act.Release j) outcome.Plain (with_note j note.Idle v))
-      (note_at m j) 0)))
-      (sym (so.seats n hn).number) (of (note_of v j) refl)
+  release_shows j on = of (note_of v j) refl
     where
-      four : j < length v.notes
-      four = let f = (so.seats n hn).four in let small = on.1.1 in omega arith
-
-      q : shows z (put c n (noted (act.Release j) outcome.Plain (with_note j note.Idle v))
-          (note_at n j) 0)
-          ≡ with_seat (shows z c) n (record (show_seat v)
-          { snapshots = valid_of (set v.notes j note.Idle) })
-      q = note_quiet z c n _ so hn j 0 on.1.1 (calm v _ refl refl refl)
-
       of : (x : Note) → note_of v j ≡ x → Row (shows z c) n (releases x) 0
           (shows z (put c n (noted (act.Release j) outcome.Plain (with_note j note.Idle v))
-          (note_at n j) 0))
+          (note_at v.seat j) 0))
       of note.Idle e = absurd (on.1.2 e)
       of (note.Announced k s) e = (
         refl,
-        same_plain (shows z c) _ n _ q
-            (ap (λ (es : List Entry). record (show_seat v) { snapshots = es })
-            (valid_same v.notes j note.Idle four (λ k' x f. absurd (cc (f)))
-            (λ k' x f. absurd (cc (e, f)))) ∙ sym is),
+        same_plain (shows z c) _ n _ (notes j note.Idle _ _ 0 (own_note j) on.1.1)
+            (unseen j note.Idle on.1.1 (λ k' x f. absurd (cc (f))) (λ k' x f. absurd (cc (e, f)))),
       )
       of (note.Valid k s) e =
+          let four = (so.seats n hn).four in
+          let small = on.1.1 in
           does.does_end_snapshot (shows z c) _ n (show_seat v) is k s
           (valid_of (set v.notes j note.Idle))
-          (valid_loses v.notes j k s four e) q
+          (valid_loses v.notes j k s (omega arith) e) (notes j note.Idle _ _ 0 (own_note j) on.1.1)
 
   pub look_shows : (p : EventPlace) → Enabled z c n (act.Look p) → ShowsRow z c n (act.Look p)
   look_shows p on = (
@@ -184,102 +182,60 @@ module _ (z : Shape) (c : Core) (n : ℕ) (so : Sound z c) (hn : n < z.seats) wh
 
   -- a weak snapshot
   pub alive_shows : (j : ℕ) → Enabled z c n (act.Alive j) → ShowsRow z c n (act.Alive j)
-  alive_shows j on = subst
-      (λ (x : Note). Row (shows z c) n (plain.Alive j) (value (strong z c (slot_noted x)))
-      (shows z (put c n (noted (act.Alive j)
-      (if nat_lt 0 (value (strong z c (slot_noted x))) then outcome.Alive else outcome.Zeroed)
-      (if nat_lt 0 (value (strong z c (slot_noted x))) then with_note j (validated x) v else v))
-      (strong_at z (slot_noted x)) (strong z c (slot_noted x)))))
-      (sym on.1.2.1) (go (nat_lt 0 (value (strong z c s))) refl)
-    where
-      -- what the seat announced
-      s : SlotId
-      s = on.1.2.0
-
-      hs : s.0 < z.slots
-      hs = named_in_range z n v on.1.2.0 (so.seats n hn) (held_named on.1.2.0 v on.1.2.2)
-
-      reads : value (strong z c s) ≡ strong_refs (shows z c) s
-      reads =
-          value_is (adds_used c) (numbers z c s) (so.slots s hs) (adds_fit z c so)
-          ∙ sym (shown_strong z c s)
-
-      gains : Gains (valid_of v.notes) (Disposal, s) (valid_of (set v.notes j (note.Valid Disposal s)))
-      gains =
-          let four = (so.seats n hn).four in
-          let small = on.1.1 in
-          let noted_as = on.1.2.1 in
-          valid_gains v.notes j Disposal s (omega arith) (λ k x e. absurd (cc (noted_as, e)))
-
-      go : (b : Bool) → nat_lt 0 (value (strong z c s)) ≡ b
-          → Row (shows z c) n (plain.Alive j) (value (strong z c s))
-          (shows z (put c n (noted (act.Alive j) (if b then outcome.Alive else outcome.Zeroed)
-          (if b then with_note j (note.Valid Disposal s) v else v))
-          (strong_at z s) (strong z c s)))
-      go true test =
-          let pos : 0 < value (strong z c s) = grind (arith, nat_tests) in
-          let some' : 0 < strong_refs (shows z c) s = subst (λ (m : ℕ). 0 < m) reads pos in
-          does.does_alive (shows z c) _ n (show_seat v) is j s (value (strong z c s))
-          (valid_of (set v.notes j (note.Valid Disposal s))) on.1.2.2 reads pos
-          ((shows_lawful z c so).strong s some').0 gains
-          (still_quiet z c n _ so hn (strong_at z s) (calm v _ refl refl refl))
-      go false test =
-          let none : value (strong z c s) ≡ 0 = grind (arith, nat_tests) in
-          does.does_alive_none (shows z c) _ n (show_seat v) is j s (value (strong z c s)) on.1.2.2
-          reads none (same _ (strong_at z s) refl refl refl refl)
+  alive_shows j on =
+      let s : SlotId = on.1.2.0 in
+      let noted_as = on.1.2.1 in
+      let held = on.1.2.2 in
+      let hs = named_in_range z n v s (so.seats n hn) (held_named s v held) in
+      let reads = value_is (adds_used c) (numbers z c s) (so.slots s hs) (adds_fit z c so)
+      ∙ sym (shown_strong z c s) in
+      let four = (so.seats n hn).four in
+      let small = on.1.1 in
+      by_test (nat_lt 0 (value (strong z c on.1.2.0)))
+      (λ test.
+      let pos : 0 < value (strong z c s) = grind (arith, nat_tests) in
+      let some' : 0 < strong_refs (shows z c) s = subst (λ (m : ℕ). 0 < m) reads pos in
+      rw (on.1.2.1, test) (does.does_alive (shows z c) _ n (show_seat v) is j s _
+      (valid_of (set v.notes j (note.Valid Disposal s))) held reads pos
+      ((shows_lawful z c so).strong s some').0
+      (valid_gains v.notes j Disposal s (omega arith) (λ k x e. absurd (cc (noted_as, e))))
+      (still_quiet z c n _ so hn (strong_at z s) (calm v _ refl refl refl))))
+      (λ test.
+      let none : value (strong z c s) ≡ 0 = grind (arith, nat_tests) in
+      rw (on.1.2.1, test) (does.does_alive_none (shows z c) _ n (show_seat v) is j s _ held reads none
+      (same _ (strong_at z s) refl refl refl refl)))
 
   pub scan_shows : Enabled z c n act.Scan → ShowsRow z c n act.Scan
-  scan_shows on = go (is_last z v)
+  scan_shows on =
+      let w : ℕ = slice_index c.words (1 + length v.seen) in
+      let nothing : filled v.phase ≡ filled phase.Idle =
+      ⊎_elim (λ e. ap filled e.0.0) (λ e. ap filled e) on.1 in
+      let quiet = λ (u : CoreView) (e : filled u.phase ≡ None) (d : u.dying ≡ v.dying)
+      (m : u.made ≡ v.made).
+      still_quiet z c n u so hn (1 + length v.seen) (fills_nothing v u nothing e d m) in
+      by_test (is_last z v)
+      (λ test. rw test (does.does_split (shows z c) _ n (show_seat v) is
+      (ejected v.retired (all_seen w v) ++ kept v.retired (all_seen w v)) (order w on.1)
+      (quiet _ refl refl refl
+      ∙ ap (λ (f : Option SlotId). with_seat (shows z c) n (record (show_seat v) {
+        deferred = ejected v.retired (all_seen w v) ++ kept v.retired (all_seen w v);
+        filling = f;
+      })) (sym nothing))))
+      (λ test. rw test (
+        refl,
+        same_plain (shows z c) _ n _ (quiet _ refl refl refl)
+            (ap (λ (f : Option SlotId). record (show_seat v) { filling = f }) (sym nothing)
+            ∙ sym is),
+      ))
     where
-      w : ℕ
-      w = slice_index c.words (1 + length v.seen)
-
-      nothing : filled v.phase ≡ filled phase.Idle
-      nothing = ⊎_elim (λ e. ap filled e.0.0) (λ e. ap filled e) on.1
-
-      owes : v.owed ≡ []
-      owes = ⊎_elim (λ e. e.1) (λ e. (so.seats n hn).owes_nothing e) on.1
-
-      order : (k : Kind) (s : SlotId)
-          → entry_times k s (ejected v.retired (v.seen ++ w ∷ [])
-          ++ kept v.retired (v.seen ++ w ∷ []))
+      order : (w : ℕ) → May z act.Scan v → (k : Kind) (s : SlotId)
+          → entry_times k s (ejected v.retired (all_seen w v) ++ kept v.retired (all_seen w v))
           ≡ entry_times k s (v.owed ++ v.retired)
-      order k s =
-          let a = entry_append k s (ejected v.retired (v.seen ++ w ∷ []))
-          (kept v.retired (v.seen ++ w ∷ [])) in
+      order w may k s =
+          let owes = ⊎_elim (λ e. e.1) (λ e. (so.seats n hn).owes_nothing e) may in
+          let a = entry_append k s (ejected v.retired (all_seen w v))
+          (kept v.retired (all_seen w v)) in
           let b = entry_append k s v.owed v.retired in
           let e = ap (entry_times k s) owes in
           let m = entry_none k s in
-          let t = split_times k s v.retired (v.seen ++ w ∷ []) in omega arith
-
-      go : (b : Bool) → Row (shows z c) n (if b then plain.Split else plain.Still) 0
-          (shows z (put c n (noted act.Scan
-          (if b
-          then outcome.Split w (length (kept v.retired (v.seen ++ w ∷ [])))
-          (length (ejected v.retired (v.seen ++ w ∷ [])))
-          else outcome.Word w)
-          (if b
-          then record v {
-            phase = phase.Idle;
-            seen = [];
-            retired = kept v.retired
-                (v.seen ++ w ∷ []);
-            owed = ejected v.retired (v.seen ++ w ∷ []);
-            ripe = ripened v.ripe v.dying (v.seen ++ w ∷ []);
-          }
-          else record v { phase = phase.Scan; seen = v.seen ++ w ∷ [] })) (1 + length v.seen) w))
-      go true =
-          does.does_split (shows z c) _ n (show_seat v) is
-          (ejected v.retired (v.seen ++ w ∷ []) ++ kept v.retired (v.seen ++ w ∷ [])) order
-          (still_quiet z c n _ so hn (1 + length v.seen) (fills_nothing v _ nothing refl refl refl)
-          ∙ ap (λ (f : Option SlotId). with_seat (shows z c) n (record (show_seat v) {
-            deferred = ejected v.retired (v.seen ++ w ∷ []) ++ kept v.retired (v.seen ++ w ∷ []);
-            filling = f;
-          })) (sym nothing))
-      go false = (
-        refl,
-        same_plain (shows z c) _ n _
-            (still_quiet z c n _ so hn (1 + length v.seen) (fills_nothing v _ nothing refl refl refl))
-            (ap (λ (f : Option SlotId). record (show_seat v) { filling = f }) (sym nothing)
-            ∙ sym is),
-      )
+          let t = split_times k s v.retired (all_seen w v) in omega arith

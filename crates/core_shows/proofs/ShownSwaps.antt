@@ -1,35 +1,31 @@
 -- A swap, a compare-exchange and a check show a plain step each.
-use Rattle.std.proofs.Common.{◌≡◌, ◌≢◌, ◌⊎◌, inl, inr, ⊎_elim, ℕ, ◌+◌, ◌<◌, Bool, true, false, List, [], ◌∷◌, ◌++◌, set, refl, ap, sym, ◌∙◌, subst, arith, append_assoc}
-use Rattle.std.specs.Prelude.{slice_index, ◌==◌, nat_lt, if◌then◌else◌, Option, Some, None}
-use prog.Atomic.{either}
+use Rattle.std.proofs.Common.{◌≡◌, ◌≢◌, inl, inr, ⊎_elim, ℕ, ◌+◌, ◌<◌, true, false, List, [], ◌∷◌, ◌++◌, set, refl, ap, sym, ◌∙◌, arith, append_assoc}
+use Rattle.std.specs.Prelude.{slice_index, ◌==◌, nat_lt, Option, Some, None}
 use Rattle.std.proofs.lemmas.Bool.Decides.{nat_tests}
 use Rattle.plain_state.specs.declared.act.EventPlace.{EventPlace}
 use Rattle.plain_state.specs.declared.act.EventPlace.TheVariants.{Cell, Field, WeakCell, WeakField}
-use Rattle.plain_state.specs.declared.act.PlainAct.TheVariants as plain
 use Rattle.plain_state.specs.declared.slot.Kind.{Kind}
 use Rattle.plain_state.specs.declared.slot.Kind.TheVariants.{Strong, Weak, Disposal}
 use Rattle.plain_state.specs.declared.slot.SlotId.{SlotId}
-use Rattle.plain_state.specs.Lists.{Entry, times, Gains}
+use Rattle.plain_state.specs.Lists.{Entry, times}
 use Rattle.plain_state.specs.Places.{place_kind, content, with_content}
 use Rattle.plain_state.specs.State.{PlainSeat, seat_at, with_seat}
-use Rattle.plain_state.specs.Steps.{Row, word_of, joined, GivesUp, Replaces, Clears}
+use Rattle.plain_state.specs.Steps.{word_of, joined, GivesUp, Replaces, Clears}
 use Rattle.core_events.specs.declared.act.Act.TheVariants as act
-use Rattle.core_events.specs.declared.outcome.Outcome.TheVariants as outcome
 use Rattle.core_events.specs.declared.shape.Shape.{Shape}
 use Rattle.core_events.specs.declared.view.CoreView.{CoreView}
 use Rattle.core_events.specs.declared.view.Move.{Move}
-use Rattle.core_events.specs.declared.view.Note.{Note}
 use Rattle.core_events.specs.declared.view.Note.TheVariants as note
 use Rattle.core_events.specs.Words.{slot_in, place_at}
-use Rattle.core_events.specs.Views.{note_of, valid_of, without, IsOpen, IsRipeField, HoldsStrongly}
-use Rattle.core_events.specs.Steps.{CanGive, exchanged, without_given, noted, is_valid, validated, with_note}
-use Rattle.core_events.specs.Runs.{Core, Enabled, view_at, after}
+use Rattle.core_events.specs.Views.{valid_of, without, IsOpen, IsRipeField, HoldsStrongly}
+use Rattle.core_events.specs.Steps.{CanGive, exchanged, without_given}
+use Rattle.core_events.specs.Runs.{Core, Enabled, view_at}
 use Rattle.core_events.specs.Counts.{strong, refs, adds_used}
 use Rattle.core_events.specs.Shows.{shows, show_seat}
 use Rattle.core_events.specs.ShownSteps.{is_ripe_field}
 use Rattle.core_invariant.specs.Slots.{numbers}
 use Rattle.core_invariant.specs.Sound.{Sound}
-use Rattle.core_invariant.proofs.Kit.{total_at}
+use Rattle.core_invariant.proofs.Kit.{by_test, total_at}
 use Rattle.core_invariant.proofs.Held.{strongly_refs}
 use Rattle.core_invariant.proofs.Flags.{live_low}
 use Rattle.core_invariant.proofs.InRange.{open_in_range, readable_in_range, ripe_in_range}
@@ -40,7 +36,7 @@ use Rattle.core_shows.proofs.Bridge.{shown_seat}
 use Rattle.core_shows.proofs.Does as does
 use Rattle.core_shows.proofs.Does.{ShowsRow}
 use Rattle.core_shows.proofs.Losing.{loses_without, valid_gains}
-use Rattle.core_shows.proofs.Quiet.{Quiet, same_plain, still_quiet}
+use Rattle.core_shows.proofs.Quiet.{Quiet, calm, same_plain, still_quiet}
 use Rattle.core_shows.proofs.Ranges.{counts_low}
 use Rattle.core_shows.proofs.ShownExchange.{shows_place}
 use Rattle.core_shows.proofs.ShownPlaces.{slot_word, word_slot, shown_content, shown_word, shown_open, shown_readable, shown_dying_field}
@@ -54,10 +50,7 @@ joined_append k (Some s) es fs = sym (append_assoc es fs ((k, s) ∷ []))
 quiet_exchange : (kind : Kind) (new : Option SlotId) (w : ℕ) (v : CoreView) (t : List Move)
     (x : SlotId)
     → Quiet x v (record (exchanged kind new w v) { trail = t })
-quiet_exchange kind None w v t x = record { claims = refl; dying = refl; made = refl }
-quiet_exchange Strong (Some s) w v t x = record { claims = refl; dying = refl; made = refl }
-quiet_exchange Weak (Some s) w v t x = record { claims = refl; dying = refl; made = refl }
-quiet_exchange Disposal (Some s) w v t x = record { claims = refl; dying = refl; made = refl }
+quiet_exchange kind new w v t x = grind arith
 
 -- what the seat shows after it gave the new content
 seat_exchanged : (kind : Kind) (new : Option SlotId) (w : ℕ) (v : CoreView) (t : List Move)
@@ -102,10 +95,7 @@ gives_up Weak (Some s) v y e can = (
 
 deferred_given : (kind : Kind) (new : Option SlotId) (v : CoreView)
     → (show_seat (without_given kind new v)).deferred ≡ v.owed ++ v.retired
-deferred_given kind None v = refl
-deferred_given Strong (Some s) v = refl
-deferred_given Weak (Some s) v = refl
-deferred_given Disposal (Some s) v = refl
+deferred_given kind new v = grind arith
 
 module _ (z : Shape) (c : Core) (n : ℕ) (so : Sound z c) (hn : n < z.seats) where
   abbrev v : CoreView
@@ -180,112 +170,70 @@ module _ (z : Shape) (c : Core) (n : ℕ) (so : Sound z c) (hn : n < z.seats) wh
   is_ripe (WeakCell i) on = absurd on
   is_ripe (WeakField s) on = grind (arith, nat_tests)
 
+  -- a seat that only goes on has its trail alone anew
+  unchanged : (t : List Move) (q : EventPlace)
+      → shows z (put c n (record v { trail = t }) (place_at z q) (slice_index c.words (place_at z q)))
+      ≡ shows z c
+  unchanged t q = same_plain (shows z c) _ n _
+      (still_quiet z c n _ so hn (place_at z q) (calm v _ refl refl refl)) (sym is)
+
   pub swap_shows : (q : EventPlace) (new : Option SlotId) → Enabled z c n (act.Swap q new)
       → ShowsRow z c n (act.Swap q new)
   swap_shows q new on = ⊎_elim
-      (λ e. subst (λ (b : Bool). Row (shows z c) n (if b then plain.Clear q else plain.Replace q
-      new) (slice_index c.words (place_at z q)) (shows z (after z c n (act.Swap q new))))
-      (sym (open_not_ripe q e.0 (open_in_range z n v (so.seats n hn) q e.0))) (
+      (λ e. rw (open_not_ripe q e.0 (open_in_range z n v (so.seats n hn) q e.0)) (
         shown_open z c n q so hn e.0,
         shown_word z c q (open_in_range z n v (so.seats n hn) q e.0),
-        replaces q new
-            _ (open_in_range z n v (so.seats n hn) q e.0) e.1,
+        replaces q new _ (open_in_range z n v (so.seats n hn) q e.0) e.1,
       ))
-      (λ e. subst (λ (b : Bool). Row (shows z c) n (if b then plain.Clear q else plain.Replace q
-      new) (slice_index c.words (place_at z q)) (shows z (after z c n (act.Swap q new))))
-      (sym (is_ripe q e.0)) (
+      (λ e. rw (is_ripe q e.0, e.1) (
         shown_dying_field z c n q so hn e.0,
         shown_word z c q (ripe_in_range z n v (so.seats n hn) q e.0),
-        subst (λ (x : Option SlotId). Clears (shows z c) n q (shows z (after z c n (act.Swap q x))))
-            (sym e.1) (clears q _ (ripe_in_range z n v (so.seats n hn) q e.0)),
+        clears q _ (ripe_in_range z n v (so.seats n hn) q e.0),
       ))
       on.1.2
 
   pub cas_shows : (q : EventPlace) (old new : Option SlotId) → Enabled z c n (act.Cas q old new)
       → ShowsRow z c n (act.Cas q old new)
-  cas_shows q old new on = (
-    shown_open z c n q so hn on.1.2,
-    shown_word z c q there,
-    go
-        (w == word_of old) refl,
-  )
-    where
-      w : ℕ
-      w = slice_index c.words (place_at z q)
-
-      there : IsPlace z q
-      there = open_in_range z n v (so.seats n hn) q on.1.2
-
-      go : (b : Bool) → (w == word_of old) ≡ b
-          → ((content (shows z c) q ≡ old) × Replaces (shows z c) n q new
-          (shows z (put c n (noted (act.Cas q old new)
-          (if b then outcome.Done else outcome.LostTo (slot_in w))
-          (if b then exchanged (place_kind q) new w v else v)) (place_at z q)
-          (either b (word_of new) w))))
-          ⊎ ((content (shows z c) q ≢ old) × (shows z (put c n (noted (act.Cas q old new)
-          (if b then outcome.Done else outcome.LostTo (slot_in w))
-          (if b then exchanged (place_kind q) new w v else v)) (place_at z q)
-          (either b (word_of new) w)) ≡ shows z c))
-      go true test =
-          let same : w ≡ word_of old = grind (arith, nat_tests) in
-          inl (
-            shown_content z c q there ∙ (ap slot_in same ∙ slot_word old),
-            replaces q new _ there
-                on.1.3,
-          )
-      go false test =
-          let other : w ≢ word_of old = grind (arith, nat_tests) in
-          inr (
-            λ e. other (sym (word_slot w) ∙ ap word_of (sym (shown_content z c q there) ∙ e)),
-            same_plain (shows z c) _ n _ (still_quiet z c n _ so hn (place_at z q)
-                (λ x. record { claims = refl; dying = refl; made = refl })) (sym is),
-          )
+  cas_shows q old new on =
+      let w : ℕ = slice_index c.words (place_at z q) in
+      let there = open_in_range z n v (so.seats n hn) q on.1.2 in
+      let shown = shown_content z c q there in
+      by_test (slice_index c.words (place_at z q) == word_of old)
+      (λ test.
+      let same : w ≡ word_of old = grind (arith, nat_tests) in
+      rw test (
+        shown_open z c n q so hn on.1.2,
+        shown_word z c q there,
+        inl (shown ∙ (ap slot_in same ∙ slot_word old), replaces q new _ there on.1.3),
+      ))
+      (λ test.
+      let other : w ≢ word_of old = grind (arith, nat_tests) in
+      rw test (
+        shown_open z c n q so hn on.1.2,
+        shown_word z c q there,
+        inr (λ e. other (sym (word_slot w) ∙ ap word_of (sym shown ∙ e)), unchanged _ q),
+      ))
 
   pub check_shows : (j : ℕ) (q : EventPlace) → Enabled z c n (act.Check j q)
       → ShowsRow z c n (act.Check j q)
-  check_shows j q on = subst
-      (λ (x : Note). Row (shows z c) n (plain.Check j q) w
-      (shows z (put c n (noted (act.Check j q)
-      (if is_valid w x then outcome.Valid else outcome.Moved (slot_in w))
-      (if is_valid w x then with_note j (validated x) v else v)) (place_at z q) w)))
-      (sym noted_as) (go (w == s.0 + 1) refl)
-    where
-      w : ℕ
-      w = slice_index c.words (place_at z q)
-
-      there : IsPlace z q
-      there = readable_in_range z n v (so.seats n hn) q on.1.3
-
-      -- what the seat announced
-      s : SlotId
-      s = on.1.2.0
-
-      noted_as : note_of v j ≡ note.Announced (place_kind q) s
-      noted_as = on.1.2.1
-
-      gains : Gains (valid_of v.notes) (place_kind q, s)
-          (valid_of (set v.notes j (note.Valid (place_kind q) s)))
-      gains =
-          let four = (so.seats n hn).four in
-          let small = on.1.1 in
-          valid_gains v.notes j (place_kind q) s (omega arith) (λ k x e. absurd (cc (noted_as, e)))
-
-      go : (b : Bool) → (w == s.0 + 1) ≡ b
-          → Row (shows z c) n (plain.Check j q) w
-          (shows z (put c n (noted (act.Check j q)
-          (if b then outcome.Valid else outcome.Moved (slot_in w))
-          (if b then with_note j (note.Valid (place_kind q) s) v else v)) (place_at z q) w))
-      go true test =
-          let found' : w ≡ s.0 + 1 = grind (arith, nat_tests) in
-          does.does_check (shows z c) _ n (show_seat v) is j w q s
-          (valid_of (set v.notes j (note.Valid (place_kind q) s)))
-          (shown_readable z c n q so hn on.1.3) (shown_word z c q there)
-          (shown_content z c q there ∙ (ap slot_in found' ∙ slot_word (Some s))) gains
-          (still_quiet z c n _ so hn (place_at z q)
-          (λ x. record { claims = refl; dying = refl; made = refl }))
-      go false test = (
+  check_shows j q on =
+      let w : ℕ = slice_index c.words (place_at z q) in
+      let there = readable_in_range z n v (so.seats n hn) q on.1.3 in
+      let s : SlotId = on.1.2.0 in
+      let noted_as = on.1.2.1 in
+      let four = (so.seats n hn).four in
+      let small = on.1.1 in
+      by_test (slice_index c.words (place_at z q) == on.1.2.0.0 + 1)
+      (λ test.
+      let found' : w ≡ s.0 + 1 = grind (arith, nat_tests) in
+      rw (on.1.2.1, test) (does.does_check (shows z c) _ n (show_seat v) is j w q s
+      (valid_of (set v.notes j (note.Valid (place_kind q) s)))
+      (shown_readable z c n q so hn on.1.3) (shown_word z c q there)
+      (shown_content z c q there ∙ (ap slot_in found' ∙ slot_word (Some s)))
+      (valid_gains v.notes j (place_kind q) s (omega arith) (λ k x e. absurd (cc (noted_as, e))))
+      (still_quiet z c n _ so hn (place_at z q) (calm v _ refl refl refl))))
+      (λ test. rw (on.1.2.1, test) (
         shown_readable z c n q so hn on.1.3,
         shown_word z c q there,
-        inl (same_plain (shows z c) _ n _ (still_quiet z c n _ so hn (place_at z q)
-            (λ x. record { claims = refl; dying = refl; made = refl })) (sym is)),
-      )
+        inl (unchanged _ q),
+      ))

@@ -1,6 +1,5 @@
 -- The stage of a slot, by its signs, and what the invariant tells of the signs of a slot in each stage.
 use Rattle.std.proofs.Common.{◌≡◌, ⊎_elim, ℕ, ◌+◌, ◌<◌, ◌≤◌, true, false, refl, ◌∙◌, arith}
-use Rattle.std.specs.Prelude.{◌==◌, nat_lt}
 use Rattle.std.proofs.lemmas.Bool.{cases_lt}
 use Rattle.std.proofs.lemmas.Bool.Decides.{nat_tests}
 use Rattle.plain_state.specs.declared.slot.Kind.TheVariants.{Weak}
@@ -10,7 +9,7 @@ use Rattle.core_events.specs.declared.shape.Shape.{Shape}
 use Rattle.core_events.specs.Runs.{Core}
 use Rattle.core_events.specs.Counts.{Signs, signs, stage_of, stage, is_live_word, strong, free_bit, barers, fillers, givers, dying_times, refs, adds_used}
 use Rattle.core_events.specs.Good.{OneEnder, IsOver}
-use Rattle.core_invariant.specs.Slots.{Numbers, numbers, SlotLaw, free, bare, blank, counted, asked, over, husk}
+use Rattle.core_invariant.specs.Slots.{Numbers, numbers, SlotLaw}
 use Rattle.core_invariant.specs.Sound.{Sound}
 use Rattle.core_invariant.proofs.Flags.{live_taken}
 use Rattle.core_invariant.proofs.Parts.{sound_good, stage_is, live_stage}
@@ -24,50 +23,33 @@ stage_same g h e1 e2 e3 e4 = rw (e1, e2, e3, e4) refl
 
 pub free_stage : (g : Signs) → g.bit ≡ 1 → stage_of g ≡ Free
 unfolding stage_of
-free_stage g e = let t : (g.bit == 1) ≡ true = grind (arith, nat_tests) in rw t refl
+free_stage g e = grind (arith, nat_tests)
 
 pub blank_stage : (g : Signs) → g.bit ≡ 0 → 0 < g.claimers → stage_of g ≡ Blank
 unfolding stage_of
-blank_stage g e f =
-    let t : (g.bit == 1) ≡ false = grind (arith, nat_tests) in
-    let u : nat_lt 0 g.claimers ≡ true = grind (arith, nat_tests) in rw (t, u) refl
+blank_stage g e f = grind (arith, nat_tests)
 
 pub ended_stage : (g : Signs) → g.bit ≡ 0 → g.claimers ≡ 0 → 0 < g.dying → stage_of g ≡ Ended
 unfolding stage_of
-ended_stage g e f d =
-    let t : (g.bit == 1) ≡ false = grind (arith, nat_tests) in
-    let u : nat_lt 0 g.claimers ≡ false = grind (arith, nat_tests) in
-    let w : nat_lt 0 g.dying ≡ true = grind (arith, nat_tests) in rw (t, u, w) refl
+ended_stage g e f d = grind (arith, nat_tests)
 
 pub alive_stage : (g : Signs) → g.bit ≡ 0 → g.claimers ≡ 0 → g.dying ≡ 0
     → is_live_word g.strong ≡ true → stage_of g ≡ Live
 unfolding stage_of
-alive_stage g e f d l =
-    let t : (g.bit == 1) ≡ false = grind (arith, nat_tests) in
-    let u : nat_lt 0 g.claimers ≡ false = grind (arith, nat_tests) in
-    let w : nat_lt 0 g.dying ≡ false = grind (arith, nat_tests) in rw (t, u, w, l) refl
+alive_stage g e f d l = grind (arith, nat_tests)
 
 pub husk_stage : (g : Signs) → g.bit ≡ 0 → g.claimers ≡ 0 → g.dying ≡ 0
     → is_live_word g.strong ≡ false → stage_of g ≡ Husk
 unfolding stage_of
-husk_stage g e f d l =
-    let t : (g.bit == 1) ≡ false = grind (arith, nat_tests) in
-    let u : nat_lt 0 g.claimers ≡ false = grind (arith, nat_tests) in
-    let w : nat_lt 0 g.dying ≡ false = grind (arith, nat_tests) in rw (t, u, w, l) refl
+husk_stage g e f d l = grind (arith, nat_tests)
 
 over_dead : (w : ℕ) → IsOver w → is_live_word w ≡ false
-over_dead w h = let f = h.1 in let a = h.0 in grind (arith, nat_tests)
+over_dead w h = grind (arith, nat_tests)
 
 -- a slot that is to be given back isn't dying, and nothing refers to it
 given_free : (a : ℕ) (m : Numbers) → SlotLaw a m → 0 < m.giving
     → (m.dying ≡ 0) × (m.weak_refs ≡ 0)
-given_free a m (free h) p = absurd (omega arith)
-given_free a m (bare h) p = absurd (omega arith)
-given_free a m (blank h) p = absurd (omega arith)
-given_free a m (counted h) p = absurd (omega arith)
-given_free a m (asked h) p = absurd (omega arith)
-given_free a m (over h) p = absurd (omega arith)
-given_free a m (husk h) p = (omega arith, omega arith)
+given_free a m law p = grind arith
 
 module _ (z : Shape) (c : Core) (so : Sound z c) (s : SlotId) (hs : s.0 < z.slots) where
   ender : OneEnder z c s

@@ -12,7 +12,7 @@ use Rattle.core_events.specs.Runs.{Core, view_at}
 use Rattle.core_events.specs.Counts.{refs, stage}
 use Rattle.core_events.specs.Good.{CountLaw}
 use Rattle.core_events.specs.Shows.{shows}
-use Rattle.core_invariant.specs.Slots.{Numbers, numbers, SlotLaw, free, bare, blank, counted, asked, over, husk}
+use Rattle.core_invariant.specs.Slots.{Numbers, numbers, SlotLaw}
 use Rattle.core_invariant.specs.Sound.{Sound}
 use Rattle.core_invariant.proofs.Held.{held_taken, held_named, strongly_refs}
 use Rattle.core_invariant.proofs.Parts.{sound_good, stage_in, stage_is}
@@ -44,13 +44,7 @@ counts_shown z c s so hs = (
 
 -- a slot with no bit isn't free
 no_bit : (a : ℕ) (m : Numbers) (law : SlotLaw a m) → m.bit ≡ 0 → stage_in law ≢ Free
-no_bit a m (free h) e = absurd (omega arith)
-no_bit a m (bare h) e = λ f. absurd (cc (f))
-no_bit a m (blank h) e = λ f. absurd (cc (f))
-no_bit a m (counted h) e = λ f. absurd (cc (f))
-no_bit a m (asked h) e = λ f. absurd (cc (f))
-no_bit a m (over h) e = λ f. absurd (cc (f))
-no_bit a m (husk h) e = λ f. absurd (cc (f))
+no_bit a m law e = grind arith
 
 pub held_stays : (z : Shape) (c : Core) (n : ℕ) (s : SlotId) → Sound z c → n < z.seats
     → HeldStays z c n s

@@ -10,7 +10,7 @@ use Rattle.plain_state.specs.Steps.{Does}
 use Rattle.core_events.specs.declared.act.Act.{Act}
 use Rattle.core_events.specs.declared.act.Event.{Event}
 use Rattle.core_events.specs.declared.shape.Shape.{Shape}
-use Rattle.core_events.specs.Words.{value}
+use Rattle.counter_word.specs.Words.{value}
 use Rattle.core_events.specs.Views.{snapshots, Holds, HoldsStrongly}
 use Rattle.core_events.specs.Counts.{strong, weak, barers}
 use Rattle.core_events.specs.Runs.{Core, view_at, found, after}

@@ -1,6 +1,6 @@
 -- Which acts change an object: a fill and a start do, in the slot that the seat fills.
 use Rattle.std.proofs.Common.{◌≡◌, ◌≢◌, ℕ, Bool, true, false, List, [], ◌∷◌, refl, ap, sym, ◌∙◌, arith}
-use Rattle.std.specs.Prelude.{◌==◌, if◌then◌else◌}
+use Rattle.std.specs.Prelude.{◌==◌, if◌then◌else◌, Option, Some, None}
 use Rattle.std.proofs.lemmas.Bool.Decides.{nat_tests}
 use Rattle.plain_state.specs.declared.act.PlainAct.{PlainAct}
 use Rattle.plain_state.specs.declared.act.PlainAct.TheVariants as plain
@@ -14,12 +14,12 @@ use Rattle.core_events.specs.declared.shape.Shape.{Shape}
 use Rattle.core_events.specs.declared.view.CoreView.{CoreView}
 use Rattle.core_events.specs.declared.view.Note.{Note}
 use Rattle.core_events.specs.declared.view.Note.TheVariants as note
-use Rattle.core_events.specs.declared.view.Phase.{Phase}
 use Rattle.core_events.specs.declared.view.Phase.TheVariants as phase
-use Rattle.core_events.specs.Words.{has_help, bit_in}
+use Rattle.core_events.specs.Words.{bit_in}
+use Rattle.counter_word.specs.Words.{has_help}
 use Rattle.core_events.specs.Views.{note_of, slot_of}
 use Rattle.core_events.specs.Steps.{May, is_last}
-use Rattle.core_events.specs.ShownSteps.{shown_act, ejects, releases, is_ripe_field}
+use Rattle.core_events.specs.ShownSteps.{shown_act, ejects, releases, is_ripe_field, on_slot}
 use Rattle.domain_rule.specs.Told.{changed_object}
 
 -- the plain step changes nothing of the object in s
@@ -67,11 +67,21 @@ releases_make_none (note.Valid k x) s e = absurd (cc (e))
 module _ (z : Shape) (w : ℕ) (v : CoreView) (s : SlotId) where
   -- the slot that the seat fills is another one
   filled_other : (r : SlotId) → v.phase ≡ phase.Blank r → (v.phase ≡ phase.Blank s → ⊥)
-      → (s.0 == (slot_of v.phase).0) ≡ false
+      → (s.0 == r.0) ≡ false
   filled_other r is off =
-      let there : (slot_of v.phase).0 ≡ r.0 = ap (λ (p : Phase). (slot_of p).0) is in
-      let apart : s.0 ≢ (slot_of v.phase).0 =
-      λ e. off (is ∙ ap phase.Blank (slot_is r s (sym there ∙ sym e))) in grind (arith, nat_tests)
+      let apart : s.0 ≢ r.0 = λ e. off (is ∙ ap phase.Blank (slot_is r s (sym e))) in
+      grind (arith, nat_tests)
+
+  -- a step on the slot of a phase leaves the objects, if the step does on each slot
+  on_slot_leaves : (f : SlotId → PlainAct) (o : Option SlotId) → ((x : SlotId) → Leaves (f x) s)
+      → Leaves (on_slot f o) s
+  on_slot_leaves f None leaves = λ o. refl
+  on_slot_leaves f (Some x) leaves = leaves x
+
+  on_slot_makes_none : (f : SlotId → PlainAct) (o : Option SlotId)
+      → ((x : SlotId) → MakesNone (f x)) → MakesNone (on_slot f o)
+  on_slot_makes_none f None none = λ x e. absurd (cc (e))
+  on_slot_makes_none f (Some x) none = none x
 
   -- in a slot that the seat doesn't fill no act changes the object
   pub act_leaves : (a : Act) → May z a v → (v.phase ≡ phase.Blank s → ⊥)
@@ -80,12 +90,13 @@ module _ (z : Shape) (w : ℕ) (v : CoreView) (s : SlotId) where
   act_leaves (act.Drop x) may off o = refl
   act_leaves act.Pay may off o = ejects_leaves v.owed s o
   act_leaves act.Finish may off o =
-      either_leaves (w == 0) (plain.End (slot_of v.phase)) plain.Still s (λ _. refl) (λ _. refl) o
+      either_leaves (w == 0) (on_slot plain.End (slot_of v.phase)) plain.Still s
+      (on_slot_leaves plain.End (slot_of v.phase) (λ x o. refl)) (λ _. refl) o
   act_leaves act.Take may off o =
-      either_leaves (has_help w) (plain.End (slot_of v.phase)) plain.Still s (λ _. refl)
-      (λ _. refl) o
+      either_leaves (has_help w) (on_slot plain.End (slot_of v.phase)) plain.Still s
+      (on_slot_leaves plain.End (slot_of v.phase) (λ x o. refl)) (λ _. refl) o
   act_leaves (act.Count x) may off o = refl
-  act_leaves act.Mark may off o = refl
+  act_leaves act.Mark may off o = on_slot_leaves plain.Mark (slot_of v.phase) (λ x o. refl) o
   act_leaves (act.Announce j k x) may off o = refl
   act_leaves (act.Release j) may off o = releases_leaves (note_of v j) s o
   act_leaves (act.Look p) may off o = refl
@@ -100,10 +111,12 @@ module _ (z : Shape) (w : ℕ) (v : CoreView) (s : SlotId) where
   act_leaves (act.Claim x) may off o =
       either_leaves (bit_in x w == 1) (plain.Claim x) plain.Still s (λ _. refl) (λ _. refl) o
   act_leaves act.Arm may off o = refl
-  act_leaves (act.Fill i x) may off o = rw (filled_other may.0.0 may.0.1 off) refl
-  act_leaves act.Start may off o = rw (filled_other may.0 may.1 off) refl
+  act_leaves (act.Fill i x) may off o =
+      rw (ap slot_of may.0.1) (rw (filled_other may.0.0 may.0.1 off) refl)
+  act_leaves act.Start may off o =
+      rw (ap slot_of may.1) (rw (filled_other may.0 may.1 off) refl)
   act_leaves (act.See x i) may off o = refl
-  act_leaves act.Free may off o = refl
+  act_leaves act.Free may off o = on_slot_leaves plain.Give (slot_of v.phase) (λ x o. refl) o
   act_leaves act.Ticket may off o = refl
   act_leaves (act.Wadd x) may off o = refl
   act_leaves (act.Wdrop x) may off o = refl
@@ -113,18 +126,19 @@ module _ (z : Shape) (w : ℕ) (v : CoreView) (s : SlotId) where
 
   -- an act that makes an object is a start
   pub made_by_start : (a : Act) → shown_act z a w v ≡ plain.Make s
-      → (a ≡ act.Start) × (slot_of v.phase ≡ s)
+      → (a ≡ act.Start) × (slot_of v.phase ≡ Some s)
   made_by_start (act.Add x) e = absurd (cc (e))
   made_by_start (act.Drop x) e = absurd (cc (e))
   made_by_start act.Pay e = absurd (ejects_make_none v.owed s e)
   made_by_start act.Finish e =
-      absurd (either_makes_none (w == 0) (plain.End (slot_of v.phase)) plain.Still
-      (λ _ e. absurd (cc (e))) (λ _ e. absurd (cc (e))) s e)
+      absurd (either_makes_none (w == 0) (on_slot plain.End (slot_of v.phase)) plain.Still
+      (on_slot_makes_none plain.End (slot_of v.phase) (λ x y e. absurd (cc (e)))) (λ _ e. absurd (cc (e))) s e)
   made_by_start act.Take e =
-      absurd (either_makes_none (has_help w) (plain.End (slot_of v.phase)) plain.Still
-      (λ _ e. absurd (cc (e))) (λ _ e. absurd (cc (e))) s e)
+      absurd (either_makes_none (has_help w) (on_slot plain.End (slot_of v.phase)) plain.Still
+      (on_slot_makes_none plain.End (slot_of v.phase) (λ x y e. absurd (cc (e)))) (λ _ e. absurd (cc (e))) s e)
   made_by_start (act.Count x) e = absurd (cc (e))
-  made_by_start act.Mark e = absurd (cc (e))
+  made_by_start act.Mark e =
+      absurd (on_slot_makes_none plain.Mark (slot_of v.phase) (λ y k f. absurd (cc (f))) s e)
   made_by_start (act.Announce j k x) e = absurd (cc (e))
   made_by_start (act.Release j) e = absurd (releases_make_none (note_of v j) s e)
   made_by_start (act.Look p) e = absurd (cc (e))
@@ -141,10 +155,16 @@ module _ (z : Shape) (w : ℕ) (v : CoreView) (s : SlotId) where
       absurd (either_makes_none (bit_in x w == 1) (plain.Claim x) plain.Still
       (λ _ e. absurd (cc (e))) (λ _ e. absurd (cc (e))) s e)
   made_by_start act.Arm e = absurd (cc (e))
-  made_by_start (act.Fill i x) e = absurd (cc (e))
-  made_by_start act.Start e = (refl, cc (e))
+  made_by_start (act.Fill i x) e =
+      absurd (on_slot_makes_none (λ y. plain.Fill y i x) (slot_of v.phase) (λ y k f. absurd (cc (f))) s e)
+  made_by_start act.Start e = (refl, made (slot_of v.phase) e)
+    where
+      made : (o : Option SlotId) → on_slot plain.Make o ≡ plain.Make s → o ≡ Some s
+      made None e = absurd (cc (e))
+      made (Some x) e = cc (e)
   made_by_start (act.See x i) e = absurd (cc (e))
-  made_by_start act.Free e = absurd (cc (e))
+  made_by_start act.Free e =
+      absurd (on_slot_makes_none plain.Give (slot_of v.phase) (λ y k f. absurd (cc (f))) s e)
   made_by_start act.Ticket e = absurd (cc (e))
   made_by_start (act.Wadd x) e = absurd (cc (e))
   made_by_start (act.Wdrop x) e = absurd (cc (e))

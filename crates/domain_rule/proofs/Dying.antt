@@ -13,10 +13,11 @@ use Rattle.core_events.specs.declared.act.Act.TheVariants as act
 use Rattle.core_events.specs.declared.shape.Shape.{Shape}
 use Rattle.core_events.specs.declared.view.CoreView.{CoreView}
 use Rattle.core_events.specs.declared.view.Phase.{Phase}
-use Rattle.core_events.specs.Words.{ZERO, has_help, value, bit_in}
+use Rattle.core_events.specs.Words.{bit_in}
+use Rattle.counter_word.specs.Words.{ZERO, has_help, value}
 use Rattle.core_events.specs.Views.{note_of, slot_of}
 use Rattle.core_events.specs.Steps.{changed, ended, exchanged, given_up, is_last, is_valid, paid}
-use Rattle.core_invariant.proofs.Kit.{one_other, times_without}
+use Rattle.core_invariant.proofs.Kit.{times_append, one_other, times_without}
 
 module _ (s : SlotId) (v : CoreView) where
   -- the slot stands in the dying list of u as often as in that of v
@@ -36,8 +37,9 @@ module _ (s : SlotId) (v : CoreView) where
   pays w [] = omega arith
   pays w (e ∷ es) = gives e.0 e.1 w (record v { owed = es }) (omega arith)
 
-  ends : (b : Bool) (x : SlotId) (next : Phase) → Waits (ended b x next v)
-  ends true x next = let p = times_push s x v.dying in omega arith
+  ends : (b : Bool) (x : Option SlotId) (next : Phase) → Waits (ended b x next v)
+  ends true None next = let p = times_append s v.dying [] in omega arith
+  ends true (Some x) next = let p = times_push s x v.dying in omega arith
   ends false x next = omega arith
 
   puts : (k : Kind) (new : Option SlotId) (w : ℕ) → Waits (exchanged k new w v)

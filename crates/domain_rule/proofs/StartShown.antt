@@ -7,7 +7,8 @@ use Rattle.plain_state.specs.State.{PlainSeat, new_seat, new_slot, empty}
 use Rattle.core_events.specs.declared.shape.Shape.{Shape}
 use Rattle.core_events.specs.declared.shape.Quota.{Quota}
 use Rattle.core_events.specs.declared.view.CoreView.{CoreView}
-use Rattle.core_events.specs.Words.{each_from, has_zero, slot_in, slot_at, cell_at, weak_cell_at, payload_at, first_words}
+use Rattle.core_events.specs.Words.{each_from, slot_in, slot_at, cell_at, weak_cell_at, payload_at, first_words}
+use Rattle.counter_word.specs.Words.{has_zero}
 use Rattle.core_events.specs.Counts.{Signs, stage_of}
 use Rattle.core_events.specs.Views.{Terms, first_view, first_views}
 use Rattle.core_events.specs.Runs.{start, view_at, AreTerms}

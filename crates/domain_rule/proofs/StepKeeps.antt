@@ -120,7 +120,7 @@ module _ {V : Type 0} (law : Plain → List V → Type 0) (first : ℕ → V) (g
     made_fits x e =
         let start = made_by_start z w v.core x a e in
         let blank = subst (λ (b : Act). May z b v.core) start.0 may in
-        let same : blank.0 ≡ x = sym (ap slot_of blank.1) ∙ start.1 in
+        let same : blank.0 ≡ x = cc (ap slot_of blank.1, start.1) in
         let fills : v.core.phase ≡ phase.Blank x = blank.1 ∙ ap phase.Blank same in
         subst fits (ap (λ (o : Object). o.payload) (told.objects x (fills_has x v.core fills)))
         (starts start.0 x fills)

@@ -2,7 +2,8 @@
 ghost use Rattle.std.specs.Prelude.{◌≡◌, ◌≤◌, ◌++◌, ℕ, List, length};
 ghost use Rattle.plain_state.specs.declared.slot.Kind.{Kind};
 ghost use Rattle.plain_state.specs.declared.slot.SlotId.{SlotId};
-ghost use Rattle.eject_scan.specs.Seen.{announced_in, announcements};
+ghost use Rattle.announce_slots.specs.Seen.{announced_in};
+ghost use Rattle.eject_scan.specs.Seen.{announcements};
 
 /// Of all words that a scan reads, those other than 0 tell how often each slot is announced. It does nothing.
 pub fn laws_of_announcements()

@@ -1,8 +1,9 @@
 //! The words that a scan has noted.
-ghost use Rattle.std.specs.Prelude.{◌≡◌, ◌<◌, [], ◌∷◌, ◌++◌, length, count_by, ◌==◌, IfOk};
-ghost use Rattle.eject_scan.specs.Seen.{announced_in, announcements};
+ghost use Rattle.std.specs.Prelude.{◌≡◌, ◌<◌, ◌≤◌, [], ◌∷◌, ◌++◌, length, count_by, ◌==◌, IfOk};
+ghost use Rattle.announce_slots.specs.Seen.{announced_in, seen_times};
+ghost use Rattle.eject_scan.specs.Seen.{announcements};
 
-use announce_slots::{SLOT_LIMIT, encode};
+use announce_slots::announced_as;
 use out_of_memory::OutOfMemory;
 use plain_state::{Announced, Kind, SlotId};
 use std::alloc::Global;
@@ -57,8 +58,10 @@ impl Seen {
 }
 
 /// How many of some words are this one.
+#[tactic(auto, unfolding(announce_slots::specs::Seen::seen_times))]
 fn count(words: &[u64], word: u64) -> usize
-    ensures { result ≡ count_by (λ x. x == word) words.now }
+    ensures times { result ≡ seen_times word words.now }
+    ensures few { result ≤ length words.now }
 {
     words.iter().filter(|noted| **noted == word).count()
 }
@@ -67,16 +70,7 @@ impl Announced for Seen {
     ghost announced = { λ seen kind slot. announced_in seen.words kind slot };
 
     /// How many noted words announce the slot under this kind, in as many steps as words other than 0 were noted.
-    /// A slot of 2^22 or more has no announcement word, so it is announced 0 times.
     fn times(&self, kind: Kind, slot: SlotId) -> u32 {
-        if slot.0 >= SLOT_LIMIT {
-            return 0;
-        }
-        let word = match kind {
-            Kind::Strong => encode(0, slot.0),
-            Kind::Weak => encode(1, slot.0),
-            Kind::Disposal => encode(2, slot.0),
-        };
-        count(&self.words, word) as u32
+        count(&self.words, announced_as(kind, slot)) as u32
     }
 }

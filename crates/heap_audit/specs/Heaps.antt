@@ -4,7 +4,8 @@ use Rattle.plain_state.specs.declared.slot.Kind.TheVariants.{Strong}
 use Rattle.plain_state.specs.declared.slot.SlotId.{SlotId}
 use Rattle.plain_state.specs.declared.image.SlotImage.{SlotImage}
 use Rattle.plain_state.specs.declared.image.Heap.{Heap}
-use Rattle.plain_state.specs.Images.{value, slot_image}
+use Rattle.plain_state.specs.Images.{slot_image}
+use Rattle.counter_word.specs.Words.{value}
 use Rattle.plain_state.specs.Lists.{Entry, entry_times}
 
 -- the slot of this number

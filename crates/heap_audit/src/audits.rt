@@ -20,7 +20,7 @@ use std::alloc::Global;
 ///
 /// It takes memory for one number and one mark for each slot, and where slots are unreached for a table of slots. It
 /// makes six passes over the slots at most, one call of `weigh` for each Live slot, and one step for each slot that is
-/// marked or searched. It uses no stack that grows with the heap. `OutOfMemory` comes only for want of memory.
+/// marked or searched. It uses no stack that grows with the heap. `OutOfMemory` comes only of an allocation failure.
 pub fn audit<W: PayloadKind, F: Fn(&[u64; 16]) -> u64>(
     alloc: Global,
     heap: &Heap,

@@ -7,7 +7,7 @@
 //! entries and the unreached slots, adds up the weights of the Live ones, and finds a walk round a cycle of unreached
 //! slots, if there are any. `check_walk` tests such a walk by itself.
 //!
-//! An audit wants a lawful heap: each Live slot has a strong count of at least 1 and at least its entries, and every
+//! An audit asks for a lawful heap: each Live slot has a strong count of at least 1 and at least its entries, and every
 //! other slot has null fields and no entry. Nothing is promised of other heaps, nor that every cycle is shown: the walk
 //! goes round the one that the search from the unreached slot of least rank comes to.
 //!

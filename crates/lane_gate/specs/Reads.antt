@@ -25,14 +25,14 @@ abbrev pub is_overlong : Option (List ℕ) → ℕ → Bool
 is_overlong None limit = false
 is_overlong (Some content) limit = nat_lt limit (length content)
 
--- the answer is TooLong, or want of memory came in its place
+-- the answer is TooLong, or an allocation failure came in its place
 abbrev pub IsTooLongOrNoMemory : {T : Type 0} → Result T FileFault → Type 0
 IsTooLongOrNoMemory (Ok _) = ⊥
 IsTooLongOrNoMemory (Err Failed) = ⊥
 IsTooLongOrNoMemory (Err TooLong) = ⊤
 IsTooLongOrNoMemory (Err OutOfMemory) = ⊤
 
--- the answer is Ok, or want of memory came in its place
+-- the answer is Ok, or an allocation failure came in its place
 abbrev pub IsOkOrNoMemory : {T : Type 0} → Result T FileFault → Type 0
 IsOkOrNoMemory (Ok _) = ⊤
 IsOkOrNoMemory (Err Failed) = ⊥

@@ -46,7 +46,7 @@ pub trait Files {
     /// as before.
     ///
     /// Over a told content, and where no fault came, the answer is settled by its length: TooLong
-    /// beyond `limit`, else Ok. Want of memory may come in place of either.
+    /// beyond `limit`, else Ok. `OutOfMemory` may come in place of either.
     fn read(&mut self, name: &str, out: &mut Vec<u8>, limit: u64) -> Result<(), FileFault>
         ensures appended { OnOk result (GrewWithin limit out.old.items out.new.items) }
         ensures appended_told { OnOk result

@@ -5,7 +5,7 @@
 //! without words, and one whose first word begins with `#`, is blank. A number is an optional `+` and one or more
 //! decimal digits, of any length: one above 2^128 - 1 reads as 2^128 - 1.
 //!
-//! Only a want of memory is left open: no contract says when it comes.
+//! Only an allocation failure is left open: no contract says when it comes.
 //!
 //! ```text
 //! for line in Lines::new(text) {

@@ -7,7 +7,8 @@ use crate::reason::Reason;
 use cdrc_text::push_number;
 use out_of_memory::OutOfMemory;
 
-/// Puts `line N refused: REASON` and a line feed at the end. A refusal, for want of memory, leaves the text as it was.
+/// Puts `line N refused: REASON` and a line feed at the end. A refusal, for an allocation failure, leaves the text as
+/// it was.
 pub fn push_refused(text: &mut Vec<u8>, line: u64, reason: Reason) -> Result<(), OutOfMemory>
     ensures ok { OnOk result (text.new.items ≡ text.old.items ++ refused_line line reason) }
     ensures err { OnErr result (text.new.items ≡ text.old.items) }

@@ -124,7 +124,7 @@ module _ (p : Plain) (image : Heap) (is : IsImage p image) (fits : List ℕ → 
     round = λ some. round_alike (words_reached.HasField image) (HasField p) field_to found.walk.items (round some);
   }
 
-  -- an audit that was made, or was refused for want of memory
+  -- an audit that was made, or was refused for an allocation failure
   pub audit_made : {E : Type 0} (weight : List ℕ → ℕ) (ranks : List ℕ) (r : Result Audit E)
       → IfOk r (λ found. found.live ≡ words.live_slots image) → IfOk r (λ found. found.deferred ≡ length image.deferred.items)
       → IfOk r (λ found. found.bytes ≡ words.live_bytes weight image)

@@ -10,7 +10,8 @@ use Rattle.plain_state.specs.declared.slot.Kind.TheVariants.{Strong}
 use Rattle.plain_state.specs.declared.slot.PlainSlot.{PlainSlot}
 use Rattle.plain_state.specs.declared.slot.SlotId.{SlotId}
 use Rattle.plain_state.specs.declared.slot.Stage.TheVariants.{Free, Live}
-use Rattle.plain_state.specs.Images.{IsImage, free_image, value}
+use Rattle.plain_state.specs.Images.{IsImage, free_image}
+use Rattle.counter_word.specs.Words.{value}
 use Rattle.plain_state.specs.Lists.{cell_times, entry_times}
 use Rattle.plain_state.specs.State.{Plain, new_slot, slot_at, stage_at}
 use Rattle.plain_state.specs.References.{over_slots, strong_fields, deferrals, strong_refs}

@@ -14,7 +14,7 @@ use std::alloc::Global;
 /// rank either may count as the least.
 ///
 /// It takes memory for the heap's image and for a few numbers a slot. It is linear in slots, cells and deferred
-/// entries, with one call of `weigh` for each Live slot. `OutOfMemory` comes only for want of memory.
+/// entries, with one call of `weigh` for each Live slot. `OutOfMemory` comes only of an allocation failure.
 pub fn audit_heap<W: PayloadKind, F: Fn(&[u64; 16]) -> u64>(
     alloc: Global,
     heap: &PlainHeap<W>,

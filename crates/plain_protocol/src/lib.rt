@@ -20,6 +20,8 @@ mod protocol;
 mod tests;
 
 pub use deed::{Deed, Still};
-pub use laws::{calm_steps_leave, fits_stay};
+pub use laws::{
+    any_step_is_ready, calm_steps_leave, fits_stay, no_law_owns_nothing, still_is_calm,
+};
 pub use no_law::{AnyStep, NoLaw};
 pub use protocol::Protocol;

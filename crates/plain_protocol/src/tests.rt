@@ -1,6 +1,9 @@
 ghost use Rattle.plain_protocol.specs.Laws.{Starts, KeptByCalm, KeptByLeave, KeptByForeign, Keeps};
 
-use crate::{AnyStep, Deed, NoLaw, Protocol, Still, fits_stay};
+use crate::{
+    AnyStep, Deed, NoLaw, Protocol, Still, any_step_is_ready, fits_stay, no_law_owns_nothing,
+    still_is_calm,
+};
 use plain_state::{PayloadKind, RecordKind};
 
 /// What a domain cites of a protocol and a deed, by their bounds alone.
@@ -24,4 +27,7 @@ fn each_deed_goes_with_a_protocol(rt: HostRuntime) {
     let (protocol, still) = cite(NoLaw::<RecordKind>::new(), Still);
     let (_, any) = cite(protocol, AnyStep);
     fits_stay::<RecordKind>();
+    still_is_calm::<NoLaw<RecordKind>>();
+    no_law_owns_nothing::<RecordKind>();
+    any_step_is_ready::<RecordKind>();
 }

@@ -10,3 +10,4 @@ pub mod EveryStep
 pub mod Start
 pub mod Records
 pub mod Fitting
+pub mod Ejections

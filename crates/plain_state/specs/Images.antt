@@ -1,5 +1,6 @@
 -- A heap as words, and the words of a plain state.
-use Rattle.std.specs.Prelude.{ℕ, ◌≡◌, ◌<◌, ◌^◌, List, [], ◌∷◌, length, map, nat_lt, slice_index_or, if◌then◌else◌}
+use Rattle.std.specs.Prelude.{ℕ, ◌≡◌, ◌<◌, List, [], ◌∷◌, length, map, slice_index_or, if◌then◌else◌}
+use Rattle.counter_word.specs.Words.{ZERO}
 use Rattle.plain_state.specs.declared.slot.SlotId.{SlotId}
 use Rattle.plain_state.specs.declared.slot.PlainSlot.{PlainSlot}
 use Rattle.plain_state.specs.declared.image.SlotImage.{SlotImage}
@@ -8,12 +9,8 @@ use Rattle.plain_state.specs.State.{Plain, seat_at, slot_at, no_payload}
 use Rattle.plain_state.specs.References.{strong_refs, weak_refs}
 use Rattle.plain_state.specs.Steps.{word_of}
 
--- what a strong word counts: nothing where the zero flag stands
-abbrev pub value : ℕ → ℕ
-value word = if nat_lt word (2 ^ 63) then word else 0
-
 abbrev pub free_image : SlotImage
-free_image = record { strong = 2 ^ 63; weak = 0; fields = 0 ∷ 0 ∷ []; weak_field = 0; payload = no_payload }
+free_image = record { strong = ZERO; weak = 0; fields = 0 ∷ 0 ∷ []; weak_field = 0; payload = no_payload }
 
 abbrev pub slot_image : List SlotImage → SlotId → SlotImage
 slot_image images s = slice_index_or images s.0 free_image
@@ -21,7 +18,7 @@ slot_image images s = slice_index_or images s.0 free_image
 -- the words of a slot with so many references: where its zero mark stands, the strong word is the zero flag alone
 abbrev pub image_of : PlainSlot → ℕ → ℕ → SlotImage
 image_of x strongs weaks = record {
-  strong = if x.marked then 2 ^ 63 else strongs;
+  strong = if x.marked then ZERO else strongs;
   weak = weaks;
   fields = word_of x.first ∷ word_of x.second ∷ [];
   weak_field = word_of x.weak_field;

@@ -9,3 +9,4 @@ pub mod Sound
 pub mod Runs
 pub mod Images
 pub mod Records
+pub mod Ejection

@@ -1,6 +1,6 @@
 -- A text as the payload of an object.
 use Rattle.std.proofs.Common.{arith}
-use Rattle.std.specs.Prelude.{ℕ, ◌≡◌, ◌^◌, ◌+◌, ◌*◌, ◌<◌, ◌≤◌, List, [], ◌∷◌, length, take, drop, slice_index}
+use Rattle.std.specs.Prelude.{ℕ, ◌≡◌, ◌^◌, ◌+◌, ◌*◌, ◌<◌, ◌≤◌, List, [], ◌∷◌, All, length, take, drop, slice_index}
 
 -- up to eight bytes as a word, the first byte lowest
 abbrev pub word_of_bytes : List ℕ → ℕ
@@ -17,13 +17,25 @@ pub record IsRecordOf (text payload : List ℕ) : Type 0 where
   pub size : slice_index payload 0 ≡ length text
   pub bytes : (k : ℕ) → k < 15 → slice_index payload (k + 1) ≡ word_of_bytes (eight_bytes text k)
 
--- the payload of a text of 1 to 120 bytes
+-- 1 to 120 bytes
+pub record IsText (text : List ℕ) : Type 0 where
+  pub least : 1 ≤ length text
+  pub most : length text ≤ 120
+  pub bytes : All (λ byte. byte < 256) text
+
+-- the payload of some text
 abbrev pub IsRecord : List ℕ → Type 0
-IsRecord payload = (text : List ℕ) × (1 ≤ length text) × (length text ≤ 120) × IsRecordOf text payload
+IsRecord payload = (text : List ℕ) × IsText text × IsRecordOf text payload
 
 -- what a record weighs: the length of its text
 abbrev pub record_weight : List ℕ → ℕ
 record_weight payload = slice_index payload 0
 
 pub record_bounded : (words : List ℕ) → IsRecord words → record_weight words ≤ 2 ^ 32
-record_bounded words (text, least, most, r) = omega (arith, r.size)
+record_bounded words (text, t, r) = omega (arith, t.most, r.size)
+
+-- the payload has a text, and no other one
+abbrev pub HasOneText : List ℕ → Type 0
+HasOneText payload =
+    (text : List ℕ) × IsText text × IsRecordOf text payload
+    × ((other : List ℕ) → IsText other → IsRecordOf other payload → other ≡ text)

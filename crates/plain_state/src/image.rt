@@ -1,11 +1,10 @@
 //! A heap as words: what an audit reads.
 ghost use Rattle.std.specs.Prelude.{◌≡◌, ◌<◌, length};
-ghost use Rattle.plain_state.specs.Images.{value, slot_image};
+ghost use Rattle.plain_state.specs.Images.{slot_image};
+ghost use Rattle.counter_word.specs.Words.{value};
 
 use crate::slot::{Kind, SlotId};
-
-/// The zero flag of a strong word.
-pub const ZERO: u64 = 1 << 63;
+use counter_word::value;
 
 /// The words of one slot. A field is 0 for null, else the slot's number and one.
 #[derive(Clone, Copy, PartialEq, Eq, Debug, Drop)]
@@ -32,8 +31,7 @@ impl Heap {
         requires { slot.0 < length self.now.slots.items }
         ensures { result ≡ value (slot_image self.now.slots.items slot).strong }
     {
-        let word = self.slots[slot.0 as usize].strong;
-        if word < ZERO { word } else { 0 }
+        value(self.slots[slot.0 as usize].strong)
     }
 
     /// The weak word of a slot.

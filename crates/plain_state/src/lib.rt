@@ -17,6 +17,7 @@
 
 mod act;
 mod announced;
+mod ejection;
 mod image;
 mod laws;
 mod payload;
@@ -25,8 +26,10 @@ mod slot;
 
 pub use act::{EventPlace, PlainAct};
 pub use announced::Announced;
-pub use image::{Heap, SlotImage, ZERO};
+pub use counter_word::ZERO;
+pub use ejection::laws_of_ejection;
+pub use image::{Heap, SlotImage};
 pub use laws::steps_keep_sound;
 pub use payload::PayloadKind;
-pub use record::{RecordKind, record_of};
+pub use record::{RecordKind, laws_of_records, record_of};
 pub use slot::{Kind, PlainSlot, SlotId, Stage};

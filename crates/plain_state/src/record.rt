@@ -1,6 +1,6 @@
 //! Texts as the payloads of objects.
-ghost use Rattle.std.specs.Prelude.{◌≡◌, ◌<◌, ◌≤◌, ◌*◌, ◌+◌, ◌^◌, ℕ, length, drop, take};
-ghost use Rattle.plain_state.specs.Records.{word_of_bytes, eight_bytes, IsRecordOf, IsRecord, record_weight, record_bounded};
+ghost use Rattle.std.specs.Prelude.{◌≡◌, ◌<◌, ◌≤◌, ◌*◌, ◌+◌, ◌^◌, ℕ, List, length, drop, take};
+ghost use Rattle.plain_state.specs.Records.{word_of_bytes, eight_bytes, IsRecordOf, IsRecord, HasOneText, record_weight, record_bounded};
 
 use crate::payload::PayloadKind;
 
@@ -49,7 +49,8 @@ fn part(text: &[u8], k: usize) -> &[u8]
 /// The payload of a text of 1 to 120 bytes.
 pub fn record_of(text: &[u8]) -> [u64; 16]
     requires { (1 ≤ length text.now) × (length text.now ≤ 120) }
-    ensures { IsRecordOf text.now result }
+    ensures packs { IsRecordOf text.now result }
+    ensures fits { IsRecord result }
 {
     let mut payload = [0; 16];
     payload[0] = text.len() as u64;
@@ -58,3 +59,10 @@ pub fn record_of(text: &[u8]) -> [u64; 16]
     }
     payload
 }
+
+/// Texts and payloads are told by each other: a payload that fits has exactly one text, and a text has one payload. It
+/// does nothing.
+pub fn laws_of_records()
+    ensures one_text { (payload : List ℕ) → IsRecord payload → HasOneText payload }
+    ensures one_payload { (text x y : List ℕ) → IsRecordOf text x → IsRecordOf text y → x ≡ y }
+{}

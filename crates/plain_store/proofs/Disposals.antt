@@ -1,5 +1,5 @@
 -- A plain heap is under no weak snapshot, and defers none: what keeps that.
-use Rattle.std.proofs.Common.{◌≡◌, ℕ, ◌+◌, ◌<◌, List, [], ◌∷◌, length, set, refl, ap, sym, ◌∙◌, subst, arith, Option, None}
+use Rattle.std.proofs.Common.{◌≡◌, ℕ, ◌<◌, List, [], ◌∷◌, length, set, ap, sym, ◌∙◌, subst, arith, Option}
 use Rattle.std.proofs.lemmas.List.{get_or-set_same}
 use Rattle.plain_state.specs.declared.act.EventPlace.{EventPlace}
 use Rattle.plain_state.specs.declared.act.EventPlace.TheVariants.{Cell, Field, WeakCell, WeakField}
@@ -8,8 +8,8 @@ use Rattle.plain_state.specs.declared.act.PlainAct.TheVariants as act
 use Rattle.plain_state.specs.declared.slot.Kind.TheVariants.{Strong, Weak, Disposal}
 use Rattle.plain_state.specs.declared.slot.SlotId.{SlotId}
 use Rattle.plain_state.specs.Lists.{Entry, entry_times, Loses}
-use Rattle.plain_state.specs.State.{Plain, PlainSeat, new_seat, seat_at, with_seat}
-use Rattle.plain_state.specs.Places.{place_kind, content, with_content}
+use Rattle.plain_state.specs.State.{Plain, PlainSeat, new_seat, seat_at}
+use Rattle.plain_state.specs.Places.{place_kind, content}
 use Rattle.plain_state.specs.Steps.{joined, Does}
 use Rattle.plain_state.proofs.Kit.{entry_loses}
 use Rattle.plain_state.proofs.PlaceRows.{joined_times}
@@ -52,7 +52,7 @@ end_disposals p q found s none (here, (es, l, z, e)) =
     (none_lost (Strong, s) (seat_at p 0).snapshots es l none.snapshots) none.deferred
 
 -- a step that settles
-step_disposals : (p q : Plain) (a : PlainAct) (found : ℕ) → Settles p a → NoDisposals p → Does p 0 a found q → NoDisposals q
+step_disposals : (p q : Plain) (a : PlainAct) (found : ℕ) → Settles p a q → NoDisposals p → Does p 0 a found q → NoDisposals q
 step_disposals p q (act.Eject k s) found may none (here, (es, l, z, e, c)) =
     seat_disposals p q (record (seat_at p 0) { deferred = es }) here.0 (ap (λ (r : Plain). r.seats) e)
     none.snapshots (none_lost (k, s) (seat_at p 0).deferred es l none.deferred)
@@ -70,9 +70,6 @@ step_disposals p q (act.Destroy s) found may none (here, (nulls, under, z, (xs, 
     seat_disposals p q _ here.0 (ap (λ (r : Plain). r.seats) e) none.snapshots none.deferred
 step_disposals p q (act.Give s) found may none (here, (husk, few, z, e)) =
     same_disposals p q (ap (λ (r : Plain). (seat_at r 0).snapshots) e) (ap (λ (r : Plain). (seat_at r 0).deferred) e) none
-step_disposals p q act.Split found may none (here, (z, (es, same, e))) =
-    seat_disposals p q (record (seat_at p 0) { deferred = es }) here.0 (ap (λ (r : Plain). r.seats) e)
-    none.snapshots (λ s. same Disposal s ∙ none.deferred s)
 step_disposals p q _ found may none d = absurd may
 
 pub settles_disposals : (weight : List ℕ → ℕ) (acts : List PlainAct) (p q : Plain) (t : ℕ) → NoDisposals p → SettlesBy weight acts p t q → NoDisposals q

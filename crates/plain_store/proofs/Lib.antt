@@ -21,3 +21,4 @@ pub mod Listed
 pub mod Calming
 pub mod CallsCalm
 mod Disposals
+pub mod Ejecting

@@ -1,28 +1,26 @@
 -- An entry of the deferred list that is a surplus goes: what the store then keeps.
-use Rattle.std.proofs.Common.{◌≡◌, ◌≢◌, ⊎_elim, ℕ, ◌+◌, ◌-◌, ◌<◌, ◌≤◌, List, [], ◌++◌, length, get_or, take, drop, refl, ap, sym, ◌∙◌, subst, arith, lit<}
-use Rattle.std.specs.Prelude.{true, false, count_by, slice_set, slice_index, if◌then◌else◌}
-use Rattle.std.specs.List.{swap_remove}
-use Rattle.std.proofs.lemmas.List.{length-set, take-take, take-set-le, length-take-le}
-use Rattle.std.proofs.lemmas.List.Sums.{sum_by-swap_remove, sum_by-take-le, sum_by_more, count_by_more_yes, count_by_more_no, count_by-le-length}
+use Rattle.std.proofs.Common.{◌≡◌, ◌≢◌, ⊎_elim, ℕ, suc, ◌∷◌, drop-cons, ◌+◌, ◌<◌, ◌≤◌, List, [], ◌++◌, length, get_or, take, drop, refl, ap, sym, ◌∙◌, subst, arith, lit<}
+use Rattle.std.specs.Prelude.{true, false, count_by, slice_index, if◌then◌else◌}
+use Rattle.std.specs.List.{remove}
+use Rattle.std.proofs.lemmas.List.{take-append-drop, length-take-le}
+use Rattle.std.proofs.lemmas.List.Sums.{sum_by-take-le, sum_by_more, count_by_more_yes, count_by_more_no, count_by-le-length}
 use Rattle.plain_state.specs.declared.slot.Kind.{Kind}
 use Rattle.plain_state.specs.declared.slot.Kind.TheVariants.{Strong, Weak, Disposal}
 use Rattle.plain_state.specs.declared.slot.SlotId.{SlotId}
 use Rattle.plain_store.specs.declared.store.Store.{Store}
-use Rattle.plain_state.specs.Lists.{Entry, is_entry, entry_times, Loses}
+use Rattle.plain_state.specs.Lists.{Entry, is_entry, entry_times}
 use Rattle.plain_state.specs.State.{Plain}
 use Rattle.plain_state.specs.References.{held_in, strong_refs, weak_refs}
 use Rattle.plain_store.specs.Stores.{plain_of, Tallied, Kept}
-use Rattle.plain_store.specs.Settling.{IsSurplus}
 use Rattle.plain_store.specs.Draining.{SettlesFreely, IsCalm, fewer, AllNeeded}
 use Rattle.plain_state.proofs.Kit.{none_or_some, slot_is, held_other, entry_in, entry_self, entry_is, entry_none, entry_loses}
 use Rattle.plain_state.proofs.Changes.{seat_part}
 use Rattle.plain_state.proofs.SeatRows.{is_there}
-use Rattle.plain_store.proofs.Losing.{loses_at}
 use Rattle.plain_store.proofs.SettlingSteps.{takes, takes_settles}
 use Rattle.plain_store.proofs.SettlingRefs.{SameRefs, LosesRef, tallied_less, calm_same, takes_refs}
 use Rattle.plain_store.proofs.SettlingStores.{seat_of}
 
-counts_entry : (k : Kind) (s : SlotId) (e : Entry) → (if is_entry k s e then 1 else 0) ≡ entry_in k s e
+pub counts_entry : (k : Kind) (s : SlotId) (e : Entry) → (if is_entry k s e then 1 else 0) ≡ entry_in k s e
 unfolding held_in
 counts_entry Strong s (Strong, x) = refl
 counts_entry Strong s (Weak, x) = refl
@@ -38,11 +36,6 @@ counts_entry Disposal s (Disposal, x) = refl
 abbrev one_at : Kind → SlotId → Entry → ℕ
 one_at k s e = if is_entry k s e then 1 else 0
 
-swap_counts : (j : Kind) (t : SlotId) (es : List Entry) (at : ℕ) (e : Entry) → at < length es
-    → entry_times j t (swap_remove es at e) + one_at j t (get_or es at e) ≡ entry_times j t es
-unfolding entry_times
-swap_counts j t es at e lt = sum_by-swap_remove (one_at j t) es at e lt
-
 more_counts : (j : Kind) (t : SlotId) (es : List Entry) (i : ℕ) (e : Entry) → i < length es
     → entry_times j t (take (i + 1) es) ≡ entry_times j t (take i es) + one_at j t (get_or es i e)
 unfolding entry_times
@@ -51,12 +44,17 @@ more_counts j t es i e lt = sum_by_more (one_at j t) es i e lt
 counts_at : (j : Kind) (t : SlotId) (x e : Entry) → x ≡ e → one_at j t x ≡ entry_in j t e
 counts_at j t x e is = ap (one_at j t) is ∙ counts_entry j t e
 
--- after a swap_remove
-pub entry_swap : (j : Kind) (t : SlotId) (es : List Entry) (at : ℕ) (e : Entry) → at < length es → get_or es at e ≡ e
-    → entry_times j t (swap_remove es at e) + entry_in j t e ≡ entry_times j t es
-entry_swap j t es at e lt is =
-    subst (λ (n : ℕ). entry_times j t (swap_remove es at e) + n ≡ entry_times j t es) (counts_at j t (get_or es at e) e is)
-    (swap_counts j t es at e lt)
+-- a list and one of its entries, which is removed
+pub entry_stands : (es : List Entry) (at : ℕ) (e : Entry) → at < length es → get_or es at e ≡ e
+    → es ≡ take at es ++ e ∷ drop (suc at) es
+entry_stands es at e lt is =
+    sym (take-append-drop at es)
+    ∙ ap (λ (r : List Entry). take at es ++ r) (drop-cons es at e lt ∙ ap (λ (f : Entry). f ∷ drop (suc at) es) is)
+
+entry_removed : (j : Kind) (t : SlotId) (es : List Entry) (at : ℕ) (e : Entry) → at < length es → get_or es at e ≡ e
+    → entry_times j t (remove es at) + entry_in j t e ≡ entry_times j t es
+entry_removed j t es at e lt is =
+    entry_loses j t e es (remove es at) (take at es, drop (suc at) es, entry_stands es at e lt is, refl)
 
 -- what one entry more adds
 pub entry_more : (j : Kind) (t : SlotId) (es : List Entry) (i : ℕ) (e : Entry) → i < length es → get_or es i e ≡ e
@@ -102,10 +100,10 @@ deferred_there h Disposal s kept some = absurd (omega (arith, kept.disposals.def
 
 module _ (h : Store) (at : ℕ) (e : Entry) (kept : Kept h) (lt : at < length h.deferred.items) (is : get_or h.deferred.items at e ≡ e) where
   abbrev left : List Entry
-  left = swap_remove h.deferred.items at e
+  left = remove h.deferred.items at
 
   pub entry_some : 0 < entry_times e.0 e.1 h.deferred.items
-  entry_some = let a = entry_swap e.0 e.1 h.deferred.items at e lt is in let o = entry_self e.0 e.1 in omega arith
+  entry_some = let a = entry_removed e.0 e.1 h.deferred.items at e lt is in let o = entry_self e.0 e.1 in omega arith
 
   pub entry_slot : e.1.0 < length h.slots.items
   entry_slot = deferred_there h e.0 e.1 kept entry_some
@@ -125,14 +123,14 @@ module _ (h : Store) (at : ℕ) (e : Entry) (kept : Kept h) (lt : at < length h.
 
   less : (s : SlotId) → LosesRef e.0 e.1 (plain_of h) after_take s
   less s = takes_refs (seat_of h) h.cells.items h.weak_cells.items h.slots.items refl e.0 e.1 s left
-      (λ j. entry_swap j s h.deferred.items at e lt is)
+      (λ j. entry_removed j s h.deferred.items at e lt is)
 
-  pub take_settles : IsSurplus (seat_of h) e.0 e.1 → SettlesFreely (plain_of h) after_take
-  take_settles more =
-      let fs = take at h.deferred.items ++ drop (at + 1) h.deferred.items in
-      let l : Loses h.deferred.items e fs = loses_at h.deferred.items fs at e e lt is refl in
-      takes_settles (seat_of h) h.cells.items h.weak_cells.items h.slots.items refl e.0 e.1 fs left kept.sound.lawful.covered l more
-      (λ j t. (let a = entry_swap j t h.deferred.items at e lt is in let b = entry_loses j t e h.deferred.items fs l in omega arith))
+  pub take_settles : entry_times e.0 e.1 h.snapshots.items ≤ entry_times e.0 e.1 (take at h.deferred.items)
+      → SettlesFreely (plain_of h) after_take
+  take_settles enough =
+      takes_settles (seat_of h) h.cells.items h.weak_cells.items h.slots.items refl e.0 e.1
+      (take at h.deferred.items) (drop (suc at) h.deferred.items) left kept.sound.lawful.covered
+      (entry_stands h.deferred.items at e lt is) refl enough
 
   pub take_tallied : Tallied after_take (fewer Strong e.0 e.1.0 h.strong.items) (fewer Weak e.0 e.1.0 h.weak.items)
   take_tallied = tallied_less e.0 e.1 (plain_of h) after_take h.strong.items h.weak.items kept.tallied entry_slot refl less
@@ -140,17 +138,6 @@ module _ (h : Store) (at : ℕ) (e : Entry) (kept : Kept h) (lt : at < length h.
   pub take_calm : (s : SlotId) → s ≢ e.1 → IsCalm (plain_of h) s → IsCalm after_take s
   take_calm s ne calm =
       calm_same (plain_of h) after_take s refl (other_refs e.0 e.1 (plain_of h) after_take s (λ q. ne (slot_is s e.1 q)) (less s)) calm
-
--- entries before the place of a swap_remove stay
-pub before_swap : (es : List Entry) (at : ℕ) (e : Entry) → at < length es → take at (swap_remove es at e) ≡ take at es
-before_swap es at e lt =
-    take-take at (length es - 1) (slice_set es at (get_or es (length es - 1) e)) (omega arith)
-    ∙ take-set-le at es at (get_or es (length es - 1) e) (omega arith)
-
-pub swap_length : (es : List Entry) (at : ℕ) (e : Entry) → at < length es → length (swap_remove es at e) + 1 ≡ length es
-swap_length es at e lt =
-    let a = length-take-le (length es - 1) (slice_set es at (get_or es (length es - 1) e)) (let l = length-set es at (get_or es (length es - 1) e) in omega arith) in
-    omega arith
 
 -- one entry more stays
 pub one_more_needed : (es snapshots : List Entry) (i : ℕ) (e : Entry) → i < length es → get_or es i e ≡ e
@@ -166,14 +153,6 @@ one_more_needed es snapshots i e lt is needed under j t =
     let b : entry_times j t (take i es) < entry_times j t snapshots = subst (λ (f : Entry). entry_times f.0 f.1 (take i es) < entry_times f.0 f.1 snapshots) same under in
     omega arith)
     (none_or_some (entry_in j t e))
-
--- an entry of which as many stay already as there are snapshots is a surplus
-pub is_surplus : (es snapshots : List Entry) (i : ℕ) (e : Entry) → i < length es → get_or es i e ≡ e
-    → entry_times e.0 e.1 snapshots ≤ entry_times e.0 e.1 (take i es) → entry_times e.0 e.1 snapshots < entry_times e.0 e.1 es
-is_surplus es snapshots i e lt is le =
-    let a = entry_more e.0 e.1 es i e lt is in
-    let b = entry_part e.0 e.1 es (i + 1) in
-    let c = entry_self e.0 e.1 in omega arith
 
 -- counting the entries one by one
 pub counts_none : (k : Kind) (s : SlotId) → 0 ≡ entry_times k s []

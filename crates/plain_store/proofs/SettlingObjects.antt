@@ -1,6 +1,7 @@
 -- An object that ended is destroyed: what the store then keeps.
 use Rattle.std.proofs.Common.{◌≡◌, ◌≢◌, ◌+◌, ◌<◌, ◌≤◌, List, [], ◌∷◌, ◌++◌, length, refl, ap, sym, ◌∙◌, subst, arith, lit<, lit≤, Option, None, Some, append-nil, append_assoc, length-append}
 use Rattle.std.specs.Prelude.{slice_index, slice_set, vec_capacity}
+use Rattle.std.specs.VecDeque.{deque_capacity}
 use Rattle.std.proofs.lemmas.List.{length-set, get_or-set_other}
 use Rattle.plain_state.specs.declared.slot.Kind.{Kind}
 use Rattle.plain_state.specs.declared.slot.Kind.TheVariants.{Strong, Weak}
@@ -61,7 +62,7 @@ module _ (h : Store) (x : SlotId) (rest : List SlotId) (kept : Kept h) (dying : 
       let own = ap own_reference dying_stage in
       let c = weak_counted h x kept (omega arith) in (c.1, c.2)
 
-  pub dying_room : HasRoom h → length h.deferred.items + 3 ≤ vec_capacity h.deferred
+  pub dying_room : HasRoom h → length h.deferred.items + 3 ≤ deque_capacity h.deferred
   dying_room room =
       let a = object_room h 3 x (husk_of (slot_at (plain_of h) x)) dying_there in
       let b = ap (if_object 3) dying_stage in omega (arith, room.deferred)
@@ -104,7 +105,7 @@ module _ (h h' : Store) (x : SlotId) (kept : Kept h) (is : IsDestroyed h h' x) w
         next = is.next;
       })
 
-  pub gone_room : HasRoom h → length h'.deferred.items ≤ length h.deferred.items + 3 → vec_capacity h'.deferred ≡ vec_capacity h.deferred
+  pub gone_room : HasRoom h → length h'.deferred.items ≤ length h.deferred.items + 3 → deque_capacity h'.deferred ≡ deque_capacity h.deferred
       → vec_capacity h'.dying ≡ vec_capacity h.dying → HasRoom h'
   gone_room room le same_deferred same_dying =
       let at = dying_there h x h'.dying.items kept is.dying in

@@ -13,10 +13,9 @@ use Rattle.plain_state.specs.Lists.{Entry, times, entry_times, Loses}
 use Rattle.plain_state.specs.State.{Plain, PlainSeat, new_slot, stage_at}
 use Rattle.plain_state.specs.References.{over_seats, places, deferrals, snapshot_times, strong_refs, weak_refs}
 use Rattle.plain_state.specs.Lawful.{IsCovered}
-use Rattle.plain_state.specs.Steps.{word_of, joined, IsReordering, Does}
-use Rattle.plain_store.specs.Settling.{IsSurplus}
+use Rattle.plain_state.specs.Steps.{word_of, joined, Does}
 use Rattle.plain_store.specs.Draining.{SettlesFreely, Destroys, husk_of, ended_of, freed_of}
-use Rattle.plain_state.proofs.Kit.{cases_slot, entry_in, entry_self, entry_other, entry_loses}
+use Rattle.plain_state.proofs.Kit.{cases_slot, entry_in, entry_self, entry_other, entry_append, entry_loses}
 
 -- a state of one seat
 abbrev pub one : PlainSeat → List (Option SlotId) → List (Option SlotId) → List PlainSlot → Plain
@@ -80,7 +79,7 @@ module _ (v : PlainSeat) (cs ws : List (Option SlotId)) (xs : List PlainSlot) (h
   takes fs = one (record v { deferred = fs }) cs ws xs
 
   covered_after : (k : Kind) (s : SlotId) (fs : List Entry) → IsCovered (one v cs ws xs) → Loses v.deferred (k, s) fs
-      → IsSurplus v k s → IsCovered (takes fs)
+      → entry_times k s v.snapshots < entry_times k s v.deferred → IsCovered (takes fs)
   unfolding over_seats
   covered_after k s fs covered l more Strong t h =
       covered_number (places Strong (takes fs) t) (snapshot_times Strong (takes fs) t) (deferrals Strong (one v cs ws xs) t) (deferrals Strong (takes fs) t) (entry_in Strong t (k, s))
@@ -107,21 +106,28 @@ module _ (v : PlainSeat) (cs ws : List (Option SlotId)) (xs : List PlainSlot) (h
       let b = one_sum (λ (w : PlainSeat). entry_times Disposal t w.snapshots) (record v { deferred = fs }) in
       covered Disposal t (omega arith)
 
-  -- the entry goes, and the others change their order
-  pub takes_settles : (k : Kind) (s : SlotId) (fs es : List Entry) → IsCovered (one v cs ws xs) → Loses v.deferred (k, s) fs
-      → IsSurplus v k s → IsReordering fs es → SettlesFreely (one v cs ws xs) (takes es)
-  takes_settles k s fs es covered l more same weight = (
-    act.Eject k s ∷ act.Split ∷ [],
-    (
-      takes fs,
-      0,
-      0,
-      more,
-      ((lit< tt, here), (fs, l, refl, refl, covered_after k s fs covered l more)),
-      (takes es, 0, 0, tt, ((lit< tt, here), (refl, (es, same, refl))), (refl, refl), refl),
-      refl,
-    ),
-  )
+  -- the entry goes, and the others keep their order
+  pub takes_settles : (k : Kind) (s : SlotId) (front back fs : List Entry) → IsCovered (one v cs ws xs)
+      → v.deferred ≡ front ++ (k, s) ∷ back → fs ≡ front ++ back → entry_times k s v.snapshots ≤ entry_times k s front
+      → SettlesFreely (one v cs ws xs) (takes fs)
+  takes_settles k s front back fs covered was is enough weight =
+      let l : Loses v.deferred (k, s) fs = (front, back, was, is) in
+      let more : entry_times k s v.snapshots < entry_times k s v.deferred =
+      let a = entry_loses k s (k, s) v.deferred fs l in
+      let b = entry_self k s in
+      let c : entry_times k s fs ≡ entry_times k s front + entry_times k s back = ap (entry_times k s) is ∙ entry_append k s front back in
+      omega arith in (
+        act.Eject k s ∷ [],
+        (
+          takes fs,
+          0,
+          0,
+          (front, back, was, is, enough),
+          ((lit< tt, here), (fs, l, refl, refl, covered_after k s fs covered l more)),
+          (refl, refl),
+          refl,
+        ),
+      )
 
 -- an object is destroyed: its three places are cleared in turn
 module _ (cs ws : List (Option SlotId)) (s : SlotId) where

@@ -86,7 +86,7 @@ module _ (fits : List ℕ → Type 0) (weight : List ℕ → ℕ) (most : ℕ) (
       let y : PlainSlot = record (slot_at p s) { weak_field = None } in
       same_object p q s y fit (is_there p s (λ f. cc)) (ap (λ (r : Plain). r.slots) d.1.2) refl refl
 
-  step_keeps : (p q : Plain) (a : PlainAct) (found : ℕ) → Sound p → AllFit fits p → Settles p a → Does p 0 a found q → StepKeeps p a q
+  step_keeps : (p q : Plain) (a : PlainAct) (found : ℕ) → Sound p → AllFit fits p → Settles p a q → Does p 0 a found q → StepKeeps p a q
   step_keeps p q (act.Eject k s) found so fit may d =
       subst (λ (r : Plain). AllFit fits r × (0 + per_object most r ≤ per_object most p)) (sym d.1.3) (fit, omega arith)
   step_keeps p q (act.Claim x) found so fit may d = absurd may
@@ -109,8 +109,7 @@ module _ (fits : List ℕ → Type 0) (weight : List ℕ → ℕ) (most : ℕ) (
   step_keeps p q act.Still found so fit may d = absurd may
   step_keeps p q act.Ticket found so fit may d = absurd may
   step_keeps p q (act.Alive j) found so fit may d = absurd may
-  step_keeps p q act.Split found so fit may d =
-      subst (λ (r : Plain). AllFit fits r × (0 + per_object most r ≤ per_object most p)) (sym d.1.1.2) (fit, omega arith)
+  step_keeps p q act.Split found so fit may d = absurd may
   step_keeps p q (act.Clear place) found so fit may d = clear_keeps p q place found so fit d
   step_keeps p q (act.End s) found so fit may d =
       let live = d.1.0 in

@@ -1,5 +1,6 @@
 -- What a store keeps true while it settles: room for what is yet to move, and no slot that could end or be given.
 use Rattle.std.specs.Prelude.{ℕ, ◌≡◌, ◌<◌, ◌≤◌, ◌+◌, ◌-◌, true, List, length, slice_index, slice_set, vec_capacity, None}
+use Rattle.std.specs.VecDeque.{deque_capacity}
 use Rattle.plain_state.specs.declared.slot.Kind.{Kind}
 use Rattle.plain_state.specs.declared.slot.Kind.TheVariants.{Strong, Weak}
 use Rattle.plain_state.specs.declared.slot.SlotId.{SlotId}
@@ -49,7 +50,7 @@ per_live n p = over_slots (λ x. if_live n x.stage) p.slots
 -- each live slot may yet join the dying list, and each object's three places may yet be deferred
 pub record HasRoom (h : Store) : Type 0 where
   pub dying : length h.dying.items + per_live 1 (plain_of h) ≤ vec_capacity h.dying
-  pub deferred : length h.deferred.items + per_object 3 (plain_of h) ≤ vec_capacity h.deferred
+  pub deferred : length h.deferred.items + per_object 3 (plain_of h) ≤ deque_capacity h.deferred
 
 -- none of these entries is more than a snapshot needs
 abbrev pub AllNeeded : List Entry → List Entry → Type 0

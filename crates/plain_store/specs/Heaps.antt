@@ -1,14 +1,14 @@
 -- What the calls of a plain heap ask and do, in words of the plain state of its one seat.
-use Rattle.std.specs.Prelude.{ℕ, false, ◌≡◌, ◌≢◌, ◌<◌, ◌≤◌, ◌+◌, ◌^◌, ◌⊎◌, List, [], ◌∷◌, ◌++◌, length, All, None}
+use Rattle.std.specs.Prelude.{ℕ, false, ◌≡◌, ◌≢◌, ◌<◌, ◌≤◌, ◌+◌, ◌^◌, List, [], ◌∷◌, ◌++◌, length, All, None}
 use Rattle.plain_state.specs.declared.act.PlainAct.{PlainAct}
 use Rattle.plain_state.specs.declared.act.PlainAct.TheVariants as act
 use Rattle.plain_state.specs.declared.slot.Kind.TheVariants.{Disposal}
 use Rattle.plain_state.specs.declared.slot.SlotId.{SlotId}
 use Rattle.plain_state.specs.declared.slot.PlainSlot.{PlainSlot}
-use Rattle.plain_state.specs.declared.slot.Stage.TheVariants.{Free, Live, Ended}
+use Rattle.plain_state.specs.declared.slot.Stage.TheVariants.{Free, Live}
 use Rattle.plain_state.specs.Lists.{times, entry_times}
 use Rattle.plain_state.specs.Fits.{AllFit}
-use Rattle.plain_state.specs.State.{Plain, seat_at, slot_at, stage_at}
+use Rattle.plain_state.specs.State.{Plain, seat_at}
 use Rattle.plain_state.specs.Sound.{Sound, all_adds}
 use Rattle.plain_state.specs.Runs.{Runs}
 

@@ -1,9 +1,11 @@
 //! Lists of entries: how often one stands in a list, and how one joins or leaves it.
-ghost use Rattle.std.specs.Prelude.{◌≡◌, ◌+◌, ◌<◌, ◌≤◌, IfSome, IsSome, length, slice_index_or, vec_capacity};
+ghost use Rattle.std.specs.Prelude.{◌≡◌, ◌+◌, ◌<◌, ◌≤◌, IfSome, IsSome, length, slice_index_or, take};
+ghost use Rattle.std.specs.VecDeque.{deque_capacity};
 ghost use Rattle.plain_state.specs.Lists.{is_entry, entry_times, Loses};
 ghost use Rattle.plain_state.specs.Steps.{joined};
 
 use plain_state::{Kind, SlotId};
+use std::collections::VecDeque;
 
 /// Whether an entry is of this kind and slot.
 pub fn is_of(entry: &(Kind, SlotId), kind: Kind, slot: SlotId) -> bool
@@ -26,6 +28,25 @@ pub(crate) fn entry_count(list: &[(Kind, SlotId)], kind: Kind, slot: SlotId) -> 
     let mut count = 0;
     for entry in list {
         if is_of(entry, kind, slot) {
+            count += 1;
+        }
+    }
+    count
+}
+
+/// How often the entry stands among the first `before` ones.
+pub(crate) fn count_before(
+    list: &VecDeque<(Kind, SlotId)>,
+    before: usize,
+    kind: Kind,
+    slot: SlotId,
+) -> usize
+    requires { before ≤ length list.now.items }
+    ensures { result ≡ entry_times kind slot (take before list.now.items) }
+{
+    let mut count = 0;
+    for i in 0..before {
+        if is_of(&list[i], kind, slot) {
             count += 1;
         }
     }
@@ -58,13 +79,13 @@ pub(crate) fn take_entry(list: &mut Vec<(Kind, SlotId)>, kind: Kind, slot: SlotI
 }
 
 /// What a place held joins the list, which has room for it.
-pub(crate) fn defer(list: &mut Vec<(Kind, SlotId)>, kind: Kind, held: Option<SlotId>)
-    requires { length list.old.items < vec_capacity list.old }
+pub(crate) fn defer(list: &mut VecDeque<(Kind, SlotId)>, kind: Kind, held: Option<SlotId>)
+    requires { length list.old.items < deque_capacity list.old }
     ensures items { list.new.items ≡ joined kind held list.old.items }
-    ensures capacity { vec_capacity list.new ≡ vec_capacity list.old }
+    ensures capacity { deque_capacity list.new ≡ deque_capacity list.old }
     ensures len { length list.new.items ≤ length list.old.items + 1 }
 {
     if let Some(slot) = held {
-        list.push_reserved((kind, slot));
+        list.push_back_reserved((kind, slot));
     }
 }

@@ -5,7 +5,7 @@
 //! call asks for it and leaves it, and says which plain steps it makes; a refusal leaves that state as it was. The
 //! handles and places of a plain heap stand here too. `cdrc_plain` makes the rule an invariant of its heap: use that.
 //!
-//! It doesn't promise that want of memory comes only where a growth was refused, nor which slot a make takes.
+//! It doesn't promise that `OutOfMemory` comes only where a growth was refused, nor which slot a make takes.
 //!
 //! ```text
 //! let mut store = Store::new(alloc, 8, 1, 0)?;
@@ -16,6 +16,7 @@
 
 mod entries;
 mod hand;
+mod laws;
 mod place;
 mod refusal;
 mod store;
@@ -30,7 +31,8 @@ mod tally;
 
 pub use entries::is_of;
 pub use hand::{Hand, SnapHand, WeakHand, counted};
+pub use laws::settling_ejects_as_announced;
 pub use place::{PlainPlace, PlainWeakPlace};
-pub use refusal::MakeRefused;
+pub use refusal::{Full, MakeRefused};
 pub use store::Store;
 pub use store_image::words;

@@ -7,6 +7,7 @@ ghost use Rattle.plain_store.specs.Stores.{plain_of, Kept};
 use out_of_memory::OutOfMemory;
 use plain_state::{Kind, PlainSlot, SlotId, Stage};
 use std::alloc::Global;
+use std::collections::VecDeque;
 
 /// A plain heap without its rule.
 #[derive(Drop)]
@@ -14,7 +15,8 @@ pub struct Store {
     pub owned: Vec<SlotId>,
     pub weaks: Vec<SlotId>,
     pub snapshots: Vec<(Kind, SlotId)>,
-    pub deferred: Vec<(Kind, SlotId)>,
+    /// What waits to be given up. Settling takes it out from near the front, where what is under snapshots stays.
+    pub deferred: VecDeque<(Kind, SlotId)>,
     pub dying: Vec<SlotId>,
     pub adds: u64,
     pub cells: Vec<Option<SlotId>>,
@@ -58,7 +60,7 @@ impl Store {
             owned: Vec::new(alloc),
             weaks: Vec::new(alloc),
             snapshots: Vec::new(alloc),
-            deferred: Vec::new(alloc),
+            deferred: VecDeque::new(alloc),
             dying: Vec::new(alloc),
             adds: 0,
             cells: copies(alloc, None, cells)?,

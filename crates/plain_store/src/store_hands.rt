@@ -10,7 +10,7 @@ ghost use Rattle.plain_store.specs.Heaps.{Owns, made_slot, Makes, NoneFree};
 ghost use Rattle.plain_store.specs.Stores.{plain_of, Kept};
 
 use crate::hand::Hand;
-use crate::refusal::MakeRefused;
+use crate::refusal::{Full, MakeRefused};
 use crate::store::Store;
 use crate::tally::{count_less, count_of};
 use out_of_memory::OutOfMemory;
@@ -79,16 +79,19 @@ fn made_from(slots: &Vec<PlainSlot>, slot: SlotId, payload: &[u64; 16]) -> Optio
 }
 
 impl Store {
-    /// A free slot: the next one from where the last was found, going round once. None where there is none.
-    fn free_slot(&self) -> Option<usize>
+    /// Where a free slot is: the next one from where the last was found, going round once. Full where there is none.
+    pub fn free_slot(&self) -> Result<usize, Full>
         requires { Kept self.now }
-        ensures found { IfSome result (λ i. (i < length self.now.slots.items)
+        ensures found { IfOk result (λ i. (i < length self.now.slots.items)
             × ((slice_index_or self.now.slots.items i new_slot).stage ≡ Free)) }
-        ensures none { IfNone result (NoneFree (plain_of self.now)) }
+        ensures full { OnErr result (NoneFree (plain_of self.now)) }
     {
-        match free_between(&self.slots, self.next, self.slots.len()) {
-            Some(at) => Some(at),
-            None => free_between(&self.slots, 0, self.next),
+        if let Some(at) = free_between(&self.slots, self.next, self.slots.len()) {
+            return Ok(at);
+        }
+        match free_between(&self.slots, 0, self.next) {
+            Some(at) => Ok(at),
+            None => Err(Full),
         }
     }
 
@@ -113,9 +116,7 @@ impl Store {
         ensures err { OnErr result (plain_of self.new ≡ plain_of self.old) }
         ensures kept { Kept self.new }
     {
-        let Some(at) = self.free_slot() else {
-            return Err(MakeRefused::Full);
-        };
+        let at = self.free_slot()?;
         let adds = self.next_add()?;
         let slot = SlotId(at as u32);
         let Some(object) = made_from(&self.slots, slot, payload) else {

@@ -9,7 +9,7 @@ ghost use Rattle.plain_store.specs.Stores.{plain_of, Kept};
 use crate::store::Store;
 use crate::tally::count_of;
 use out_of_memory::OutOfMemory;
-use plain_state::{PlainSlot, SlotId, SlotImage, ZERO};
+use plain_state::{Kind, PlainSlot, SlotId, SlotImage, ZERO};
 use std::alloc::Global;
 
 /// The word of a place.
@@ -55,6 +55,16 @@ impl Store {
             count_of(&self.strong, slot),
             count_of(&self.weak, slot),
         )
+    }
+
+    /// What is deferred, in its order.
+    pub fn deferred_entries(&self, alloc: Global) -> Result<Vec<(Kind, SlotId)>, OutOfMemory>
+        ensures { IfOk result (λ v. v.items ≡ self.now.deferred.items) }
+    {
+        let (front, back) = self.deferred.as_slices();
+        let mut list = front.to_vec(alloc)?;
+        list.extend_from_slice(back)?;
+        Ok(list)
     }
 
     /// The words of all slots.

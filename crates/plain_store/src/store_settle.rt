@@ -1,6 +1,7 @@
 //! How a store settles: the parts of one pass, each some plain steps. Room for all that they move is made first.
 ghost use Rattle.std.specs.Prelude.{◌≡◌, ◌≢◌, ◌+◌, ◌<◌, ◌≤◌, ◌⊎◌, ◌++◌, List, length, take, OnOk, IfSome, IfNone, [], slice_index_or, slice_set, vec_len, vec_capacity};
-ghost use Rattle.std.specs.List.{swap_remove};
+ghost use Rattle.std.specs.VecDeque.{deque_capacity};
+ghost use Rattle.std.specs.List.{remove};
 ghost use Rattle.plain_state.specs.declared.slot.SlotId.{SlotId};
 ghost use Rattle.plain_state.specs.declared.slot.Kind.TheVariants as kinds;
 ghost use Rattle.plain_state.specs.declared.slot.Stage.TheVariants.{Live, Ended, Husk};
@@ -8,18 +9,18 @@ ghost use Rattle.plain_state.specs.Lists.{Entry, entry_times};
 ghost use Rattle.plain_state.specs.State.{new_slot, seat_at, slot_at, stage_at};
 ghost use Rattle.plain_state.specs.References.{strong_refs, weak_refs};
 ghost use Rattle.plain_state.specs.Steps.{joined};
-ghost use Rattle.plain_store.specs.Settling.{IsSurplus};
 ghost use Rattle.plain_store.specs.Stores.{plain_of, Kept};
 ghost use Rattle.plain_store.specs.Draining.{SettlesFreely, Destroys, IsCalm, HasRoom, AllNeeded, fewer, husk_of, ended_of, freed_of};
 
-use crate::entries::{defer, entry_count};
+use crate::entries::{count_before, defer, entry_count};
 use crate::store::Store;
 use crate::tally::count_less;
 use out_of_memory::OutOfMemory;
 use plain_state::{Kind, PlainSlot, SlotId, Stage};
+use std::collections::VecDeque;
 
 /// The entry at a place of the list.
-fn entry_at(list: &Vec<(Kind, SlotId)>, at: usize) -> (Kind, SlotId)
+fn entry_at(list: &VecDeque<(Kind, SlotId)>, at: usize) -> (Kind, SlotId)
     requires { at < length list.now.items }
     ensures { slice_index_or list.now.items at result ≡ result }
 {
@@ -174,23 +175,25 @@ impl Store {
         }
     }
 
-    /// One surplus entry goes. The last one takes its place.
+    /// An entry goes in front of which as many equal ones stand as there are snapshots of it. The others keep their
+    /// order.
     fn take_out(&mut self, at: usize, entry: (Kind, SlotId))
         requires kept { Kept self.old }
         requires room { HasRoom self.old }
         requires there { at < length self.old.deferred.items }
         requires entry { slice_index_or self.old.deferred.items at entry ≡ entry }
-        requires surplus { IsSurplus (seat_at (plain_of self.old) 0) entry.0 entry.1 }
+        requires later { entry_times entry.0 entry.1 self.old.snapshots.items
+            ≤ entry_times entry.0 entry.1 (take at self.old.deferred.items) }
         ensures settles { SettlesFreely (plain_of self.old) (plain_of self.new) }
         ensures kept { Kept self.new }
         ensures room { HasRoom self.new }
         ensures calm { (s : SlotId) → s ≢ entry.1 → IsCalm (plain_of self.old) s
             → IsCalm (plain_of self.new) s }
-        ensures deferred { self.new.deferred.items ≡ swap_remove self.old.deferred.items at entry }
+        ensures deferred { self.new.deferred.items ≡ remove self.old.deferred.items at }
         ensures snapshots { self.new.snapshots ≡ self.old.snapshots }
         ensures slots { self.new.slots.items ≡ self.old.slots.items }
     {
-        self.deferred.swap_remove(at);
+        self.deferred.remove(at);
         count_one_less(&mut self.strong, &mut self.weak, entry.0, entry.1);
     }
 
@@ -211,7 +214,7 @@ impl Store {
             < length self.old.deferred.items + result }
     {
         let entry = entry_at(&self.deferred, stays);
-        let before = entry_count(&self.deferred[..stays], entry.0, entry.1);
+        let before = count_before(&self.deferred, stays, entry.0, entry.1);
         if before < entry_count(&self.snapshots, entry.0, entry.1) {
             return stays + 1;
         }
@@ -250,7 +253,7 @@ impl Store {
     /// The object's fields are cleared, and its slot is a husk.
     fn empty(&mut self, slot: SlotId, object: PlainSlot)
         requires there { slot.0 < length self.old.slots.items }
-        requires room { length self.old.deferred.items + 3 ≤ vec_capacity self.old.deferred }
+        requires room { length self.old.deferred.items + 3 ≤ deque_capacity self.old.deferred }
         requires counted { (slot.0 < length self.old.weak.items)
             × (0 < slice_index_or self.old.weak.items slot.0 0) }
         ensures slots { self.new.slots.items
@@ -259,7 +262,7 @@ impl Store {
             (joined kinds.Strong object.second
             (joined kinds.Strong object.first self.old.deferred.items)) }
         ensures len { length self.new.deferred.items ≤ length self.old.deferred.items + 3 }
-        ensures capacity { vec_capacity self.new.deferred ≡ vec_capacity self.old.deferred }
+        ensures capacity { deque_capacity self.new.deferred ≡ deque_capacity self.old.deferred }
         ensures weak { self.new.weak.items
             ≡ fewer kinds.Weak kinds.Weak slot.0 self.old.weak.items }
         ensures dying { self.new.dying ≡ self.old.dying }

@@ -4,8 +4,8 @@ use Rattle.std.specs.Prelude.{nat_lt}
 use Rattle.std.proofs.lemmas.List.{take_more, take_more_set, get_or-drop, drop-set-lt}
 use Rattle.std.proofs.lemmas.Grind.{drop_more_same}
 use Rattle.plain_state.specs.Lists.{Entry, entry_times}
-use Rattle.retire_batch.specs.Ejection.{Announcements, kept, ejected}
-use Rattle.retire_batch.proofs.Splits.{kept_push, ejected_push, stays_by_kept}
+use Rattle.plain_state.specs.Ejection.{Announcements, kept, ejected}
+use Rattle.plain_state.proofs.Ejections.{kept_push, ejected_push, stays_by_kept}
 
 -- `place` entries of `all` are split: `staying` of them stand in front, and the rest of the list is untouched
 pub record IsPartway (all : List Entry) (seen : Announcements) (place staying : ℕ) (list owed : List Entry) : Type 0 where

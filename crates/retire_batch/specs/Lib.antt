@@ -1,2 +1,1 @@
-pub mod Ejection
 pub mod Entries

@@ -1,6 +1,6 @@
 //! The batch of one seat.
 ghost use Rattle.std.specs.Prelude.{◌≡◌, ◌+◌, ◌<◌, ◌≤◌, ◌↔◌, [], ◌∷◌, ◌++◌, length, IfOk, IsNone, IfSome};
-ghost use Rattle.retire_batch.specs.Ejection.{kept, ejected};
+ghost use Rattle.plain_state.specs.Ejection.{kept, ejected};
 ghost use Rattle.retire_batch.specs.Entries.{entry_count};
 
 use crate::split::split_entries;

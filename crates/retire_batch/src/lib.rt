@@ -19,10 +19,9 @@
 #![tactic(auto)]
 
 mod batch;
-mod laws;
 mod split;
 #[cfg(test)]
 mod tests;
 
 pub use batch::Batch;
-pub use laws::laws_of_ejection;
+pub use split::split_entries;

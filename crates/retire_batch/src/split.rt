@@ -2,7 +2,7 @@
 ghost use Rattle.std.specs.Prelude.{◌≡◌, ◌≤◌, ◌+◌, nat_lt, [], vec_len, vec_capacity};
 ghost use Rattle.std.specs.VecDeque.{deque_len, deque_capacity};
 ghost use Rattle.plain_state.specs.Lists.{is_entry, entry_times};
-ghost use Rattle.retire_batch.specs.Ejection.{kept, ejected};
+ghost use Rattle.plain_state.specs.Ejection.{kept, ejected};
 
 use plain_state::{Announced, Kind, SlotId};
 use std::collections::VecDeque;

@@ -53,7 +53,7 @@ clear_same p q place found (here, (dying, z, e)) =
     let w : PlainSeat = record (seat_at p 0) { deferred = joined (place_kind place) (content p place) (seat_at p 0).deferred } in
     has_lists p q w (placed_same_sizes p q w place None e) (placed p q w place None here.0 e) refl refl refl
 
-settle_step : (p q : Plain) (a : PlainAct) (found : ℕ) → Settles p a → Does p 0 a found q → HasSame p q
+settle_step : (p q : Plain) (a : PlainAct) (found : ℕ) → Settles p a q → Does p 0 a found q → HasSame p q
 settle_step p q (act.Eject k s) found may (here, (es, l, z, e, covered)) =
     same_by p q (record (seat_at p 0) { deferred = es }) here.0 e refl refl refl
 settle_step p q (act.End s) found may (here, (live, dead, z, e)) =
@@ -62,8 +62,6 @@ settle_step p q (act.Clear place) found may d = clear_same p q place found d
 settle_step p q (act.Destroy s) found may (here, (nulls, under, z, (xs, l, e))) =
     slot_written p q (record (seat_at p 0) { dying = xs }) s _ here.0 e refl refl refl
 settle_step p q (act.Give s) found may (here, (husk, none, z, e)) = slot_alone p q s _ e
-settle_step p q act.Split found may (here, (z, (es, same, e))) =
-    same_by p q (record (seat_at p 0) { deferred = es }) here.0 e refl refl refl
 settle_step p q _ found may d = absurd may
 
 settled_same : (weight : List ℕ → ℕ) (acts : List PlainAct) (p q : Plain) (total : ℕ) → SettlesBy weight acts p total q → HasSame p q

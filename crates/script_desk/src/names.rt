@@ -40,7 +40,7 @@ impl NameTable {
         self.map.get(name.as_str())
     }
 
-    /// Binds a name that isn't bound. A want of memory changes nothing, and hands the handle back.
+    /// Binds a name that isn't bound. An allocation failure changes nothing, and hands the handle back.
     pub fn bind(&mut self, alloc: Global, name: &Name, handle: Handle) -> Result<(), Back<Handle>>
         requires { bound self.old name.now ≡ None }
         ensures binds { OnOk result (Binds self.old name.now (Some handle) self.new) }

@@ -11,8 +11,8 @@ use out_of_memory::OutOfMemory;
 use script_lines::Command;
 
 impl Desk {
-    /// Does what the command says, lets the heap settle, and answers what the command answers. After a want of memory
-    /// the command may have been done in part, and the heap may not have settled.
+    /// Does what the command says, lets the heap settle, and answers what the command answers. After an allocation
+    /// failure the command may have been done in part, and the heap may not have settled.
     pub fn run(&mut self, command: &Command) -> Result<Said, OutOfMemory>
         requires faultless { IsFaultless self.old command.now }
         requires settled { IsSettled self.old.plain }

@@ -4,7 +4,7 @@
 //! spell none. Names aren't looked up here, and numbers aren't held against a range: a number above 2^128 - 1 counts
 //! as 2^128 - 1, and every smaller one is kept.
 //!
-//! Only a want of memory is left open: no contract says when it comes.
+//! Only an allocation failure is left open: no contract says when it comes.
 //!
 //! ```text
 //! let words = words(alloc, b"make a 7")?;
@@ -30,4 +30,4 @@ mod verb;
 pub use crate::command::{Command, ScriptLine, TextPlace};
 pub use crate::name::Name;
 pub use crate::parse::script_line;
-pub use crate::refused::LineRefused;
+pub use crate::refused::CommandRefused;

@@ -2,9 +2,9 @@
 
 ghost use Rattle.std.specs.Prelude.{◌≡◌, ◌↔◌, ℕ, List, IsTrue, IfOk, Err, string_bytes};
 ghost use Rattle.script_lines.specs.Names.{is_name_byte as is_in_name, IsName};
-ghost use Rattle.script_lines.specs.declared.refused.LineRefused.TheVariants.{Syntax};
+ghost use Rattle.script_lines.specs.declared.refused.CommandRefused.TheVariants.{Syntax};
 
-use crate::refused::LineRefused;
+use crate::refused::CommandRefused;
 use std::alloc::{AllocError, Global};
 use std::cmp::Ordering;
 use std::hash::{Hash, Hasher};
@@ -28,15 +28,15 @@ impl Model for Name {
 
 impl Name {
     /// The name that the word is. It is refused as syntax exactly where the word is no name. Linear in a name's bytes.
-    pub fn parse(alloc: Global, word: &[u8]) -> Result<Name, LineRefused>
+    pub fn parse(alloc: Global, word: &[u8]) -> Result<Name, CommandRefused>
         ensures ok { IfOk result (λ name. (word.now ≡ name) × IsName name) }
         ensures refused { result ≡ Err Syntax → IsName word.now → ⊥ }
     {
         if !is_name(word) {
-            return Err(LineRefused::Syntax);
+            return Err(CommandRefused::Syntax);
         }
         let Ok(text) = str::from_utf8(word) else {
-            return Err(LineRefused::Syntax);
+            return Err(CommandRefused::Syntax);
         };
         Ok(Name {
             text: String::from_str(alloc, text)?,

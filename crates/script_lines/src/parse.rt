@@ -6,27 +6,27 @@ ghost use Rattle.script_lines.specs.Spelling.{Spells, SpellsCommand};
 ghost use Rattle.script_lines.specs.Verbs.{spelling};
 ghost use Rattle.script_lines.specs.declared.command.Command.{Command as AnyCommand};
 ghost use Rattle.script_lines.specs.declared.command.ScriptLine.{ScriptLine as Line};
-ghost use Rattle.script_lines.specs.declared.refused.LineRefused.TheVariants.{Syntax};
+ghost use Rattle.script_lines.specs.declared.refused.CommandRefused.TheVariants.{Syntax};
 
 use crate::arguments::{
     name_and_number, nothing, one_name, one_place, place_and_name, place_and_two, three_numbers,
     two_names,
 };
 use crate::command::{Command, ScriptLine};
-use crate::refused::LineRefused;
+use crate::refused::CommandRefused;
 use crate::verb::{Verb, find_verb};
 use std::alloc::Global;
 
 /// The line that the words spell. They are refused as syntax exactly where they spell none. Linear in the bytes.
-pub fn script_line(alloc: Global, words: &[&[u8]]) -> Result<ScriptLine, LineRefused>
+pub fn script_line(alloc: Global, words: &[&[u8]]) -> Result<ScriptLine, CommandRefused>
     ensures ok { IfOk result (λ line. Spells line (texts_of words.now)) }
     ensures syntax { result ≡ Err Syntax → (line : Line) → Spells line (texts_of words.now) → ⊥ }
 {
     let Some((word, arguments)) = words.split_first() else {
-        return Err(LineRefused::Syntax);
+        return Err(CommandRefused::Syntax);
     };
     let Some(verb) = find_verb(word) else {
-        return Err(LineRefused::Syntax);
+        return Err(CommandRefused::Syntax);
     };
     if let Verb::Heap = verb {
         let (slots, cells, weak_cells) = three_numbers(arguments)?;
@@ -36,14 +36,14 @@ pub fn script_line(alloc: Global, words: &[&[u8]]) -> Result<ScriptLine, LineRef
 }
 
 // The command of the verb with these words after it.
-fn command(alloc: Global, verb: Verb, words: &[&[u8]]) -> Result<Command, LineRefused>
+fn command(alloc: Global, verb: Verb, words: &[&[u8]]) -> Result<Command, CommandRefused>
     ensures ok { IfOk result (λ command.
         SpellsCommand command (spelling verb ∷ texts_of words.now)) }
     ensures syntax { result ≡ Err Syntax → (command : AnyCommand)
         → SpellsCommand command (spelling verb ∷ texts_of words.now) → ⊥ }
 {
     match verb {
-        Verb::Heap => Err(LineRefused::Syntax),
+        Verb::Heap => Err(CommandRefused::Syntax),
         Verb::Make => name_and_number(alloc, words).map(|(n, w)| Command::Make(n, w)),
         Verb::Copy => two_names(alloc, words).map(|(n, m)| Command::Copy(n, m)),
         Verb::Drop => one_name(alloc, words).map(Command::Drop),

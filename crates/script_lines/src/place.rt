@@ -3,16 +3,16 @@
 ghost use Rattle.std.specs.Prelude.{◌≡◌, ◌++◌, ◌∷◌, [], ℕ, List, IfOk, IfSome, IsNone, Err};
 ghost use Rattle.script_lines.specs.Spelling.{Number, Place};
 ghost use Rattle.script_lines.specs.declared.command.TextPlace.{TextPlace as AnyPlace};
-ghost use Rattle.script_lines.specs.declared.refused.LineRefused.TheVariants.{Syntax};
+ghost use Rattle.script_lines.specs.declared.refused.CommandRefused.TheVariants.{Syntax};
 
 use crate::command::TextPlace;
 use crate::name::Name;
-use crate::refused::LineRefused;
+use crate::refused::CommandRefused;
 use line_words::number;
 use std::alloc::Global;
 
 /// The place that the word spells. It is refused as syntax exactly where the word spells none.
-pub fn parse_place(alloc: Global, word: &[u8]) -> Result<TextPlace, LineRefused>
+pub fn parse_place(alloc: Global, word: &[u8]) -> Result<TextPlace, CommandRefused>
     ensures ok { IfOk result (λ place. Place place word.now) }
     ensures syntax { result ≡ Err Syntax → (place : AnyPlace) → Place place word.now → ⊥ }
 {
@@ -23,22 +23,22 @@ pub fn parse_place(alloc: Global, word: &[u8]) -> Result<TextPlace, LineRefused>
         return Ok(TextPlace::WeakCell(parse_number(index)?));
     }
     let Some((name, field)) = split_field(word) else {
-        return Err(LineRefused::Syntax);
+        return Err(CommandRefused::Syntax);
     };
     match field {
         b'0' => Ok(TextPlace::Field(Name::parse(alloc, name)?, 0)),
         b'1' => Ok(TextPlace::Field(Name::parse(alloc, name)?, 1)),
         b'w' => Ok(TextPlace::WeakField(Name::parse(alloc, name)?)),
-        _ => Err(LineRefused::Syntax),
+        _ => Err(CommandRefused::Syntax),
     }
 }
 
 /// The number that the word spells. It is refused as syntax exactly where the word spells none.
-pub fn parse_number(word: &[u8]) -> Result<u128, LineRefused>
+pub fn parse_number(word: &[u8]) -> Result<u128, CommandRefused>
     ensures ok { IfOk result (λ n. Number n word.now) }
     ensures syntax { result ≡ Err Syntax → (n : ℕ) → Number n word.now → ⊥ }
 {
-    number(word).ok_or(LineRefused::Syntax)
+    number(word).ok_or(CommandRefused::Syntax)
 }
 
 // A word that ends in a colon and one more byte: what stands before the colon, and this byte.

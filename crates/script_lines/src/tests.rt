@@ -1,28 +1,28 @@
 //! Worked rows: the line that words spell, and words that spell none.
 
-use crate::{Command, LineRefused, Name, ScriptLine, TextPlace, script_line};
+use crate::{Command, CommandRefused, Name, ScriptLine, TextPlace, script_line};
 use line_words::words;
 use std::alloc::{AllocError, Global};
 use std::test::Fail;
 
-fn parsed(alloc: Global, line: &[u8]) -> Result<ScriptLine, LineRefused> {
+fn parsed(alloc: Global, line: &[u8]) -> Result<ScriptLine, CommandRefused> {
     let Ok(found) = words(alloc, line) else {
-        return Err(LineRefused::OutOfMemory);
+        return Err(CommandRefused::OutOfMemory);
     };
     script_line(alloc, &found)
 }
 
 // The line spells this command.
-fn spells(alloc: Global, line: &[u8], expected: Result<Command, LineRefused>) -> bool {
+fn spells(alloc: Global, line: &[u8], expected: Result<Command, CommandRefused>) -> bool {
     expected.is_ok() && parsed(alloc, line) == expected.map(ScriptLine::Command)
 }
 
-fn name(alloc: Global, word: &[u8]) -> Result<Name, LineRefused> {
+fn name(alloc: Global, word: &[u8]) -> Result<Name, CommandRefused> {
     Name::parse(alloc, word)
 }
 
 // Two names, spelled as they are.
-fn names(alloc: Global, first: &[u8], second: &[u8]) -> Result<(Name, Name), LineRefused> {
+fn names(alloc: Global, first: &[u8], second: &[u8]) -> Result<(Name, Name), CommandRefused> {
     Ok((name(alloc, first)?, name(alloc, second)?))
 }
 
@@ -180,7 +180,10 @@ fn words_that_spell_no_line(rt: HostRuntime) {
         b"clear",
     ];
     for (row, line) in table.iter().enumerate() {
-        assert!(rt; parsed(alloc, line) == Err(LineRefused::Syntax), "at {row}");
+        assert!(rt;
+            parsed(alloc, line) == Err(CommandRefused::Syntax),
+            "at {row}"
+        );
     }
 }
 
@@ -195,7 +198,7 @@ fn names_have_32_bytes_at_most(rt: HostRuntime) -> Result<(), Fail> {
         )
     );
     let more = long_line(alloc, b"drop ", b'x', 33)?;
-    assert!(rt; parsed(alloc, &more) == Err(LineRefused::Syntax));
+    assert!(rt; parsed(alloc, &more) == Err(CommandRefused::Syntax));
     Ok(())
 }
 
@@ -203,9 +206,9 @@ fn names_have_32_bytes_at_most(rt: HostRuntime) -> Result<(), Fail> {
 fn words_of_a_mebibyte(rt: HostRuntime) -> Result<(), Fail> {
     let alloc = rt.alloc();
     let word = long_line(alloc, b"", b'x', 1_048_576)?;
-    assert!(rt; parsed(alloc, &word) == Err(LineRefused::Syntax));
+    assert!(rt; parsed(alloc, &word) == Err(CommandRefused::Syntax));
     let named = long_line(alloc, b"drop ", b'x', 1_048_576)?;
-    assert!(rt; parsed(alloc, &named) == Err(LineRefused::Syntax));
+    assert!(rt; parsed(alloc, &named) == Err(CommandRefused::Syntax));
     Ok(())
 }
 

@@ -6,7 +6,7 @@ use Rattle.core_events.specs.declared.act.Act.{Act}
 use Rattle.core_events.specs.declared.act.Event.{Event}
 use Rattle.core_events.specs.declared.shape.Shape.{Shape}
 use Rattle.line_words.specs.Words.{texts_of}
-use Rattle.step_lines.specs.declared.refused.LineRefused.{LineRefused}
+use Rattle.step_lines.specs.declared.refused.EventRefused.{EventRefused}
 use Rattle.step_lines.specs.Beyond.{IsBeyond, IsBeyondAct, IsBeyondShape, IsTooLarge}
 use Rattle.step_lines.specs.Reading.{Reads}
 use Rattle.step_lines.specs.Spelling.{Number, SpellsAct, SpellsEvent, SpellsShape}
@@ -15,7 +15,7 @@ use Rattle.step_lines.proofs.Words.{word_at, six_words, NumberAt}
 
 -- a seat and an act that are refused
 pub event_refused : (words rest : List (Bor (List ℕ))) (seat : Bor (List ℕ)) → words ≡ seat ∷ rest
-    → (r : Result Event LineRefused) (e : LineRefused) → IsErrAnd r (λ y. y ≡ e)
+    → (r : Result Event EventRefused) (e : EventRefused) → IsErrAnd r (λ y. y ≡ e)
     → Reads (Both (λ n. Number n seat.now) (SpellsAct (texts_of rest))) (OneOf IsTooLarge IsBeyondAct) (Err e)
     → Reads (SpellsEvent (texts_of words)) IsBeyond r
 event_refused words rest seat is r e handed reads =
@@ -47,7 +47,7 @@ module _ (words : List (Bor (List ℕ))) (six : length words ≡ 6) (named : wor
       rw (six_words words six)
       (named, (spells.0, (spells.1.0, (spells.1.1.0, (spells.1.1.1.0, (spells.1.1.1.1, tt))))))
 
-  pub shape_refused : (r : Result Shape LineRefused) (e : LineRefused) → IsErrAnd r (λ y. y ≡ e)
+  pub shape_refused : (r : Result Shape EventRefused) (e : EventRefused) → IsErrAnd r (λ y. y ≡ e)
       → Reads (SpellsFive words) IsBeyondFive (Err e) → Reads (SpellsShape (texts_of words)) IsBeyondShape r
   shape_refused =
       reads_refused (SpellsFive words) IsBeyondFive (SpellsShape (texts_of words)) IsBeyondShape shape_of

@@ -8,15 +8,15 @@ use Rattle.plain_state.specs.declared.act.EventPlace.{EventPlace}
 use Rattle.plain_state.specs.declared.act.EventPlace.TheVariants.{Cell, Field, WeakCell, WeakField}
 use Rattle.plain_state.specs.declared.slot.SlotId.{SlotId}
 use Rattle.line_words.specs.Number.{IsNumber}
-use Rattle.step_lines.specs.declared.refused.LineRefused.{LineRefused}
-use Rattle.step_lines.specs.declared.refused.LineRefused.TheVariants.{Syntax, Range}
+use Rattle.step_lines.specs.declared.refused.EventRefused.{EventRefused}
+use Rattle.step_lines.specs.declared.refused.EventRefused.TheVariants.{Syntax, Range}
 use Rattle.step_lines.specs.Beyond.{IsBeyondContent, IsBeyondPlace, IsBeyondSlot, IsTooLarge}
 use Rattle.step_lines.specs.Reading.{Reads}
 use Rattle.step_lines.specs.Spelling.{Content, Number, Place, Slot}
 use Rattle.step_lines.proofs.Readings.{reads_made, reads_refused}
 
 -- a slot is read by its number
-pub slot_reads : (word : List ℕ) (r : Result ℕ LineRefused) (m : Result SlotId LineRefused)
+pub slot_reads : (word : List ℕ) (r : Result ℕ EventRefused) (m : Result SlotId EventRefused)
     → MatchResult r (λ n. IsOkAnd m (λ s. s.0 ≡ n)) (λ e. m ≡ Err e)
     → Reads (λ n. Number n word) IsTooLarge r → Reads (λ s. Slot s word) IsBeyondSlot m
 slot_reads word (Ok n) (Ok s) is reads = subst (λ (k : ℕ). Number k word) (sym is) reads
@@ -29,7 +29,7 @@ slot_reads word (Err Range) (Err Syntax) is reads = cc
 slot_reads word (Err Range) (Err Range) is reads = (record { 0 = reads.0 }, reads.1, reads.2)
 
 -- a content that isn't null is read as its slot
-pub content_reads : (word : List ℕ) → word ≢ codes "null" → (r : Result SlotId LineRefused) (m : Result (Option SlotId) LineRefused)
+pub content_reads : (word : List ℕ) → word ≢ codes "null" → (r : Result SlotId EventRefused) (m : Result (Option SlotId) EventRefused)
     → MatchResult r (λ s. IsOkAnd m (λ x. x ≡ Some s)) (λ e. m ≡ Err e)
     → Reads (λ s. Slot s word) IsBeyondSlot r → Reads (λ x. Content x word) IsBeyondContent m
 content_reads word some =
@@ -80,7 +80,7 @@ module _ (word : List ℕ) where
 
   -- a word of a cell
   pub cell_reads : (index : List ℕ) → word ≡ codes "@" ++ index
-      → (r : Result ℕ LineRefused) (m : Result EventPlace LineRefused)
+      → (r : Result ℕ EventRefused) (m : Result EventPlace EventRefused)
       → MatchResult r (λ i. IsOkAnd m (λ p. p ≡ Cell i)) (λ e. m ≡ Err e)
       → Reads (λ i. Number i index) IsTooLarge r → Reads (λ p. Place p word) IsBeyondPlace m
   cell_reads index is =
@@ -95,7 +95,7 @@ module _ (word : List ℕ) where
       only (WeakField s) spells = absurd (cell_no_field 64 index spells.0 s.0 119 (omega arith) is spells.1 spells.2)
 
   pub weak_cell_reads : (index : List ℕ) → word ≡ codes "~" ++ index
-      → (r : Result ℕ LineRefused) (m : Result EventPlace LineRefused)
+      → (r : Result ℕ EventRefused) (m : Result EventPlace EventRefused)
       → MatchResult r (λ i. IsOkAnd m (λ p. p ≡ WeakCell i)) (λ e. m ≡ Err e)
       → Reads (λ i. Number i index) IsTooLarge r → Reads (λ p. Place p word) IsBeyondPlace m
   weak_cell_reads index is =
@@ -117,7 +117,7 @@ module _ (word : List ℕ) where
   module _ (no_cell : (index : List ℕ) → word ≢ codes "@" ++ index) (no_weak : (index : List ℕ) → word ≢ codes "~" ++ index) where
     -- a word of a field
     module _ (slot : List ℕ) (k : ℕ) (within : k < 2) (is : word ≡ slot ++ 58 ∷ (48 + k) ∷ []) where
-      pub field_refused : (r : Result EventPlace LineRefused) (e : LineRefused)
+      pub field_refused : (r : Result EventPlace EventRefused) (e : EventRefused)
           → IsErrAnd r (λ y. y ≡ e) → Reads (λ s. Slot s slot) IsBeyondSlot (Err e) → Reads (λ p. Place p word) IsBeyondPlace r
       field_refused =
           reads_refused (λ s. Slot s slot) IsBeyondSlot (λ p. Place p word) IsBeyondPlace (λ s. Field s k) (field_spelled slot k within is) only (λ s far. far)
@@ -132,7 +132,7 @@ module _ (word : List ℕ) where
               absurd (let ends = same-ends spells.0 slot 58 119 58 (48 + k) (sym spells.2 ∙ is) in omega (arith, ends.1))
 
     pub weak_field_reads : (slot : List ℕ) → word ≡ slot ++ codes ":w"
-        → (r : Result SlotId LineRefused) (m : Result EventPlace LineRefused)
+        → (r : Result SlotId EventRefused) (m : Result EventPlace EventRefused)
         → MatchResult r (λ s. IsOkAnd m (λ p. p ≡ WeakField s)) (λ e. m ≡ Err e)
         → Reads (λ s. Slot s slot) IsBeyondSlot r → Reads (λ p. Place p word) IsBeyondPlace m
     weak_field_reads slot is =

@@ -8,7 +8,7 @@ use Rattle.plain_state.specs.declared.slot.SlotId.{SlotId}
 use Rattle.core_events.specs.declared.act.Act.{Act}
 use Rattle.core_events.specs.declared.act.Act.TheVariants as act
 use Rattle.line_words.specs.Words.{texts_of}
-use Rattle.step_lines.specs.declared.refused.LineRefused.{LineRefused}
+use Rattle.step_lines.specs.declared.refused.EventRefused.{EventRefused}
 use Rattle.step_lines.specs.Beyond.{IsBeyondAct, IsBeyondContent, IsBeyondPlace, IsBeyondSlot, IsTooLarge, IsTooLargeValue}
 use Rattle.step_lines.specs.Reading.{Reads}
 use Rattle.step_lines.specs.Spelling.{SpellsAct}
@@ -17,7 +17,7 @@ use Rattle.step_lines.proofs.Readings.{Both, OneOf, reads_refused}
 use Rattle.step_lines.proofs.Words.{word_at, one_word, two_words, three_words, ContentAt, KindAt, NumberAt, PlaceAt, SlotAt}
 use Rattle.step_lines.proofs.Names.{named, other}
 
-module _ (words : List (Bor (List ℕ))) (r : Result Act LineRefused) (e : LineRefused) (handed : IsErrAnd r (λ y. y ≡ e)) where
+module _ (words : List (Bor (List ℕ))) (r : Result Act EventRefused) (e : EventRefused) (handed : IsErrAnd r (λ y. y ≡ e)) where
   pub announce_refused : length words ≡ 3 → Reads (Both (NumberAt words 0) (Both (KindAt words 1) (SlotAt words 2))) (OneOf IsTooLarge (OneOf (λ (k : Kind). ⊥) IsBeyondSlot)) (Err e)
       → Reads (SpellsAct (codes "announce" ∷ texts_of words)) IsBeyondAct r
   announce_refused is reads =

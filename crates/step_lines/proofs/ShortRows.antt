@@ -6,7 +6,7 @@ use Rattle.plain_state.specs.declared.slot.SlotId.{SlotId}
 use Rattle.core_events.specs.declared.act.Act.{Act}
 use Rattle.core_events.specs.declared.act.Act.TheVariants as act
 use Rattle.line_words.specs.Words.{texts_of}
-use Rattle.step_lines.specs.declared.refused.LineRefused.{LineRefused}
+use Rattle.step_lines.specs.declared.refused.EventRefused.{EventRefused}
 use Rattle.step_lines.specs.Beyond.{IsBeyondAct, IsBeyondSlot, IsTooLarge}
 use Rattle.step_lines.specs.Reading.{Reads}
 use Rattle.step_lines.specs.Spelling.{Each, Number, Slot, SpellsAct}
@@ -21,7 +21,7 @@ use Rattle.step_lines.proofs.Words.{word_at, one_word, NumberAt, SlotAt}
 abbrev Alone : Act → List (List ℕ) → Act → Type 0
 Alone a words x = (x ≡ a) × Each [] words
 
-module _ (name : List ℕ) (words : List (List ℕ)) (r : Result Act LineRefused) where
+module _ (name : List ℕ) (words : List (List ℕ)) (r : Result Act EventRefused) where
   pub pay_reads : name ≡ codes "pay" → Reads (Alone act.Pay words) (λ x. ⊥) r → Reads (SpellsAct (name ∷ words)) IsBeyondAct r
   pay_reads is =
       reads_as (Alone act.Pay words) (λ x. ⊥) (SpellsAct (name ∷ words)) IsBeyondAct
@@ -106,14 +106,14 @@ module _ (name : List ℕ) (words : List (List ℕ)) (r : Result Act LineRefused
 -- ---- acts on one slot
 
 -- a slot is read from one word
-pub slot_alone : (words : List (Bor (List ℕ))) → length words ≡ 1 → (r : Result SlotId LineRefused)
+pub slot_alone : (words : List (Bor (List ℕ))) → length words ≡ 1 → (r : Result SlotId EventRefused)
     → Reads (SlotAt words 0) IsBeyondSlot r → Reads (λ s. Each (Slot s ∷ []) (texts_of words)) IsBeyondSlot r
 slot_alone words is r =
     rw (one_word words is)
     (reads_as (SlotAt words 0) IsBeyondSlot (λ s. Each (Slot s ∷ []) (word_at words 0 ∷ [])) IsBeyondSlot
     (λ s spells. (spells, tt)) (λ s spells. spells.0) (λ s far. far) r)
 
-module _ (name : List ℕ) (words : List (List ℕ)) (r : Result SlotId LineRefused) (m : Result Act LineRefused) where
+module _ (name : List ℕ) (words : List (List ℕ)) (r : Result SlotId EventRefused) (m : Result Act EventRefused) where
   pub add_reads : name ≡ codes "add" → MatchResult r (λ s. IsOkAnd m (λ a. a ≡ act.Add s)) (λ e. m ≡ Err e)
       → Reads (λ s. Each (Slot s ∷ []) words) IsBeyondSlot r → Reads (SpellsAct (name ∷ words)) IsBeyondAct m
   add_reads is =
@@ -197,14 +197,14 @@ module _ (name : List ℕ) (words : List (List ℕ)) (r : Result SlotId LineRefu
 -- ---- acts on one note or one seat
 
 -- a number is read from one word
-pub number_alone : (words : List (Bor (List ℕ))) → length words ≡ 1 → (r : Result ℕ LineRefused)
+pub number_alone : (words : List (Bor (List ℕ))) → length words ≡ 1 → (r : Result ℕ EventRefused)
     → Reads (NumberAt words 0) IsTooLarge r → Reads (λ n. Each (Number n ∷ []) (texts_of words)) IsTooLarge r
 number_alone words is r =
     rw (one_word words is)
     (reads_as (NumberAt words 0) IsTooLarge (λ n. Each (Number n ∷ []) (word_at words 0 ∷ [])) IsTooLarge
     (λ n spells. (spells, tt)) (λ n spells. spells.0) (λ n far. far) r)
 
-module _ (name : List ℕ) (words : List (List ℕ)) (r : Result ℕ LineRefused) (m : Result Act LineRefused) where
+module _ (name : List ℕ) (words : List (List ℕ)) (r : Result ℕ EventRefused) (m : Result Act EventRefused) where
   pub release_reads : name ≡ codes "release" → MatchResult r (λ j. IsOkAnd m (λ a. a ≡ act.Release j)) (λ e. m ≡ Err e)
       → Reads (λ j. Each (Number j ∷ []) words) IsTooLarge r → Reads (SpellsAct (name ∷ words)) IsBeyondAct m
   release_reads is =

@@ -9,21 +9,21 @@ use crate::arguments::{
     parse_content, parse_kind, parse_number, parse_place, parse_slot, parse_value,
 };
 use crate::both::both;
-use crate::refused::LineRefused;
+use crate::refused::EventRefused;
 use core_events::{Act, SlotId};
 
 /// The act that the words spell: the name of its event, and its arguments.
-pub fn parse_act(words: &[&[u8]]) -> Result<Act, LineRefused>
+pub fn parse_act(words: &[&[u8]]) -> Result<Act, EventRefused>
     ensures { Reads (SpellsAct (texts_of words.now)) IsBeyondAct result }
 {
     match words.split_first() {
-        None => Err(LineRefused::Syntax),
+        None => Err(EventRefused::Syntax),
         Some((name, words)) => named(name, words),
     }
 }
 
 // The act whose event has this name, with these arguments.
-fn named(name: &[u8], words: &[&[u8]]) -> Result<Act, LineRefused>
+fn named(name: &[u8], words: &[&[u8]]) -> Result<Act, EventRefused>
     ensures { Reads (SpellsAct (name.now ∷ texts_of words.now)) IsBeyondAct result }
 {
     match name {
@@ -54,37 +54,37 @@ fn named(name: &[u8], words: &[&[u8]]) -> Result<Act, LineRefused>
         b"destroy" => slot(words).map(Act::Destroy),
         b"wcount" => slot(words).map(Act::Wcount),
         b"leave" => one_number(words).map(Act::Leave),
-        _ => Err(LineRefused::Syntax),
+        _ => Err(EventRefused::Syntax),
     }
 }
 
 // The act, which has no arguments.
-fn alone(words: &[&[u8]], act: Act) -> Result<Act, LineRefused>
+fn alone(words: &[&[u8]], act: Act) -> Result<Act, EventRefused>
     ensures { Reads (λ a. (a ≡ act) × Each [] (texts_of words.now)) (λ a. ⊥) result }
 {
     if words.is_empty() {
         Ok(act)
     } else {
-        Err(LineRefused::Syntax)
+        Err(EventRefused::Syntax)
     }
 }
 
 // The one argument of an act on a slot.
-fn slot(words: &[&[u8]]) -> Result<SlotId, LineRefused>
+fn slot(words: &[&[u8]]) -> Result<SlotId, EventRefused>
     ensures { Reads (λ s. Each (Slot s ∷ []) (texts_of words.now)) IsBeyondSlot result }
 {
     let [slot] = words else {
-        return Err(LineRefused::Syntax);
+        return Err(EventRefused::Syntax);
     };
     parse_slot(slot)
 }
 
 // `announce` with its arguments.
-fn announce(words: &[&[u8]]) -> Result<Act, LineRefused>
+fn announce(words: &[&[u8]]) -> Result<Act, EventRefused>
     ensures { Reads (SpellsAct (codes "announce" ∷ texts_of words.now)) IsBeyondAct result }
 {
     let [note, kind, slot] = words else {
-        return Err(LineRefused::Syntax);
+        return Err(EventRefused::Syntax);
     };
     let kind = both(parse_kind(kind), parse_slot(slot));
     let (note, (kind, slot)) = both(parse_number(note), kind)?;
@@ -92,53 +92,53 @@ fn announce(words: &[&[u8]]) -> Result<Act, LineRefused>
 }
 
 // The one argument of an act on a note or a seat.
-fn one_number(words: &[&[u8]]) -> Result<u32, LineRefused>
+fn one_number(words: &[&[u8]]) -> Result<u32, EventRefused>
     ensures { Reads (λ n. Each (Number n ∷ []) (texts_of words.now)) IsTooLarge result }
 {
     let [number] = words else {
-        return Err(LineRefused::Syntax);
+        return Err(EventRefused::Syntax);
     };
     parse_number(number)
 }
 
 // `look` with its argument.
-fn look(words: &[&[u8]]) -> Result<Act, LineRefused>
+fn look(words: &[&[u8]]) -> Result<Act, EventRefused>
     ensures { Reads (SpellsAct (codes "look" ∷ texts_of words.now)) IsBeyondAct result }
 {
     let [place] = words else {
-        return Err(LineRefused::Syntax);
+        return Err(EventRefused::Syntax);
     };
     Ok(Act::Look(parse_place(place)?))
 }
 
 // `check` with its arguments.
-fn check(words: &[&[u8]]) -> Result<Act, LineRefused>
+fn check(words: &[&[u8]]) -> Result<Act, EventRefused>
     ensures { Reads (SpellsAct (codes "check" ∷ texts_of words.now)) IsBeyondAct result }
 {
     let [note, place] = words else {
-        return Err(LineRefused::Syntax);
+        return Err(EventRefused::Syntax);
     };
     let (note, place) = both(parse_number(note), parse_place(place))?;
     Ok(Act::Check(note, place))
 }
 
 // `swap` with its arguments.
-fn swap(words: &[&[u8]]) -> Result<Act, LineRefused>
+fn swap(words: &[&[u8]]) -> Result<Act, EventRefused>
     ensures { Reads (SpellsAct (codes "swap" ∷ texts_of words.now)) IsBeyondAct result }
 {
     let [place, new] = words else {
-        return Err(LineRefused::Syntax);
+        return Err(EventRefused::Syntax);
     };
     let (place, new) = both(parse_place(place), parse_content(new))?;
     Ok(Act::Swap(place, new))
 }
 
 // `cas` with its arguments.
-fn cas(words: &[&[u8]]) -> Result<Act, LineRefused>
+fn cas(words: &[&[u8]]) -> Result<Act, EventRefused>
     ensures { Reads (SpellsAct (codes "cas" ∷ texts_of words.now)) IsBeyondAct result }
 {
     let [place, old, new] = words else {
-        return Err(LineRefused::Syntax);
+        return Err(EventRefused::Syntax);
     };
     let contents = both(parse_content(old), parse_content(new));
     let (place, (old, new)) = both(parse_place(place), contents)?;
@@ -146,22 +146,22 @@ fn cas(words: &[&[u8]]) -> Result<Act, LineRefused>
 }
 
 // `fill` with its arguments.
-fn fill(words: &[&[u8]]) -> Result<Act, LineRefused>
+fn fill(words: &[&[u8]]) -> Result<Act, EventRefused>
     ensures { Reads (SpellsAct (codes "fill" ∷ texts_of words.now)) IsBeyondAct result }
 {
     let [word, value] = words else {
-        return Err(LineRefused::Syntax);
+        return Err(EventRefused::Syntax);
     };
     let (word, value) = both(parse_number(word), parse_value(value))?;
     Ok(Act::Fill(word, value))
 }
 
 // `see` with its arguments.
-fn see(words: &[&[u8]]) -> Result<Act, LineRefused>
+fn see(words: &[&[u8]]) -> Result<Act, EventRefused>
     ensures { Reads (SpellsAct (codes "see" ∷ texts_of words.now)) IsBeyondAct result }
 {
     let [slot, word] = words else {
-        return Err(LineRefused::Syntax);
+        return Err(EventRefused::Syntax);
     };
     let (slot, word) = both(parse_slot(slot), parse_number(word))?;
     Ok(Act::See(slot, word))

@@ -27,6 +27,6 @@ mod tests;
 mod texts;
 
 pub use events::event_line;
-pub use refused::LineRefused;
+pub use refused::EventRefused;
 pub use shapes::shape_line;
 pub use texts::push_event;

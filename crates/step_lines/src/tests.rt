@@ -1,5 +1,5 @@
 //! What no clause says: that each call succeeds on lines and texts typed in here.
-use crate::{LineRefused, event_line, push_event, shape_line};
+use crate::{EventRefused, event_line, push_event, shape_line};
 use core_events::{Act, Event, EventPlace, Kind, Outcome, Shape, SlotId};
 use line_words::words;
 use std::alloc::Global;
@@ -7,66 +7,70 @@ use std::test::Fail;
 
 const S: SlotId = SlotId(7);
 
-fn read(alloc: Global, line: &[u8]) -> Result<Result<Event, LineRefused>, Fail> {
+const FIELD: EventPlace = EventPlace::Field(S, 1);
+
+fn read(alloc: Global, line: &[u8]) -> Result<Result<Event, EventRefused>, Fail> {
     Ok(event_line(&words(alloc, line)?))
 }
 
-fn read_shape(alloc: Global, line: &[u8]) -> Result<Result<Shape, LineRefused>, Fail> {
+fn read_shape(alloc: Global, line: &[u8]) -> Result<Result<Shape, EventRefused>, Fail> {
     Ok(shape_line(&words(alloc, line)?))
 }
 
+/// Lines with the seat and the act of the event that each spells.
+const EVENTS: [(&str, u32, Act); 35] = [
+    ("0 add 7", 0, Act::Add(S)),
+    ("1 drop 7", 1, Act::Drop(S)),
+    ("0 pay", 0, Act::Pay),
+    ("0 finish", 0, Act::Finish),
+    ("0 take", 0, Act::Take),
+    ("0 count 7", 0, Act::Count(S)),
+    ("0 mark", 0, Act::Mark),
+    (
+        "0 announce 1 strong 7",
+        0,
+        Act::Announce(1, Kind::Strong, S),
+    ),
+    ("0 announce 4 weak 7", 0, Act::Announce(4, Kind::Weak, S)),
+    (
+        "0 announce 0 disposal 7",
+        0,
+        Act::Announce(0, Kind::Disposal, S),
+    ),
+    ("0 alive 1", 0, Act::Alive(1)),
+    ("0 arm", 0, Act::Arm),
+    ("0 free", 0, Act::Free),
+    ("0 ticket", 0, Act::Ticket),
+    ("0 wadd 7", 0, Act::Wadd(S)),
+    ("0 wdrop 7", 0, Act::Wdrop(S)),
+    ("0 destroy 7", 0, Act::Destroy(S)),
+    ("0 wcount 7", 0, Act::Wcount(S)),
+    ("0 leave 31", 0, Act::Leave(31)),
+    ("0 look ~12", 0, Act::Look(EventPlace::WeakCell(12))),
+    ("0 look 7:w", 0, Act::Look(EventPlace::WeakField(S))),
+    ("0 release 3", 0, Act::Release(3)),
+    ("0 look @12", 0, Act::Look(EventPlace::Cell(12))),
+    ("0 look 7:0", 0, Act::Look(EventPlace::Field(S, 0))),
+    ("0 check 2 7:1", 0, Act::Check(2, FIELD)),
+    ("0 scan", 0, Act::Scan),
+    ("0 swap @+07 null", 0, Act::Swap(EventPlace::Cell(7), None)),
+    ("0 swap +7:1 7", 0, Act::Swap(FIELD, Some(S))),
+    ("0 cas 7:1 null 7", 0, Act::Cas(FIELD, None, Some(S))),
+    ("0 cas 7:1 7 null", 0, Act::Cas(FIELD, Some(S), None)),
+    ("0 claim 7", 0, Act::Claim(S)),
+    ("0 fill 15 18446744073709551615", 0, Act::Fill(15, u64::MAX)),
+    ("0 start", 0, Act::Start),
+    ("0 see 7 15", 0, Act::See(S, 15)),
+    (
+        " \t+4294967295  see\t0007 +015\r",
+        u32::MAX,
+        Act::See(S, 15),
+    ),
+];
+
 #[test]
 fn events(rt: HostRuntime) -> Result<(), Fail> {
-    let field = EventPlace::Field(S, 1);
-    for (line, seat, act) in [
-        ("0 add 7", 0, Act::Add(S)),
-        ("1 drop 7", 1, Act::Drop(S)),
-        ("0 pay", 0, Act::Pay),
-        ("0 finish", 0, Act::Finish),
-        ("0 take", 0, Act::Take),
-        ("0 count 7", 0, Act::Count(S)),
-        ("0 mark", 0, Act::Mark),
-        (
-            "0 announce 1 strong 7",
-            0,
-            Act::Announce(1, Kind::Strong, S),
-        ),
-        ("0 announce 4 weak 7", 0, Act::Announce(4, Kind::Weak, S)),
-        (
-            "0 announce 0 disposal 7",
-            0,
-            Act::Announce(0, Kind::Disposal, S),
-        ),
-        ("0 alive 1", 0, Act::Alive(1)),
-        ("0 arm", 0, Act::Arm),
-        ("0 free", 0, Act::Free),
-        ("0 ticket", 0, Act::Ticket),
-        ("0 wadd 7", 0, Act::Wadd(S)),
-        ("0 wdrop 7", 0, Act::Wdrop(S)),
-        ("0 destroy 7", 0, Act::Destroy(S)),
-        ("0 wcount 7", 0, Act::Wcount(S)),
-        ("0 leave 31", 0, Act::Leave(31)),
-        ("0 look ~12", 0, Act::Look(EventPlace::WeakCell(12))),
-        ("0 look 7:w", 0, Act::Look(EventPlace::WeakField(S))),
-        ("0 release 3", 0, Act::Release(3)),
-        ("0 look @12", 0, Act::Look(EventPlace::Cell(12))),
-        ("0 look 7:0", 0, Act::Look(EventPlace::Field(S, 0))),
-        ("0 check 2 7:1", 0, Act::Check(2, field)),
-        ("0 scan", 0, Act::Scan),
-        ("0 swap @+07 null", 0, Act::Swap(EventPlace::Cell(7), None)),
-        ("0 swap +7:1 7", 0, Act::Swap(field, Some(S))),
-        ("0 cas 7:1 null 7", 0, Act::Cas(field, None, Some(S))),
-        ("0 cas 7:1 7 null", 0, Act::Cas(field, Some(S), None)),
-        ("0 claim 7", 0, Act::Claim(S)),
-        ("0 fill 15 18446744073709551615", 0, Act::Fill(15, u64::MAX)),
-        ("0 start", 0, Act::Start),
-        ("0 see 7 15", 0, Act::See(S, 15)),
-        (
-            " \t+4294967295  see\t0007 +015\r",
-            u32::MAX,
-            Act::See(S, 15),
-        ),
-    ] {
+    for (line, seat, act) in EVENTS {
         assert_eq!(rt;
             read(rt.alloc(), line.as_bytes())?,
             Ok(Event { seat, act }),
@@ -132,12 +136,12 @@ const NO_EVENTS: [&str; 48] = [
 fn no_events(rt: HostRuntime) -> Result<(), Fail> {
     for line in NO_EVENTS {
         let refused = read(rt.alloc(), line.as_bytes())?;
-        assert_eq!(rt; refused, Err(LineRefused::Syntax), "{line}");
+        assert_eq!(rt; refused, Err(EventRefused::Syntax), "{line}");
     }
     let bytes = read(rt.alloc(), b"0 add \xff")?;
-    assert_eq!(rt; bytes, Err(LineRefused::Syntax));
+    assert_eq!(rt; bytes, Err(EventRefused::Syntax));
     let long = Vec::from_elem(rt.alloc(), b'x', 1 << 20)?;
-    assert_eq!(rt; read(rt.alloc(), &long)?, Err(LineRefused::Syntax));
+    assert_eq!(rt; read(rt.alloc(), &long)?, Err(EventRefused::Syntax));
     Ok(())
 }
 
@@ -164,7 +168,7 @@ fn ranges(rt: HostRuntime) -> Result<(), Fail> {
     ] {
         assert_eq!(rt;
             read(rt.alloc(), line.as_bytes())?,
-            Err(LineRefused::Range),
+            Err(EventRefused::Range),
             "{line}"
         );
     }
@@ -208,10 +212,10 @@ fn shapes(rt: HostRuntime) -> Result<(), Fail> {
         "shape a 1 0 0 4294967296",
     ] {
         let refused = read_shape(rt.alloc(), line.as_bytes())?;
-        assert_eq!(rt; refused, Err(LineRefused::Syntax), "{line}");
+        assert_eq!(rt; refused, Err(EventRefused::Syntax), "{line}");
     }
     let large = read_shape(rt.alloc(), b"shape 1 1 0 4294967296 4")?;
-    assert_eq!(rt; large, Err(LineRefused::Range));
+    assert_eq!(rt; large, Err(EventRefused::Range));
     Ok(())
 }
 

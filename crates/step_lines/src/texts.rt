@@ -6,8 +6,8 @@ use cdrc_text::push_number;
 use core_events::{Act, Outcome, SlotId};
 use out_of_memory::OutOfMemory;
 
-/// Puts the event's name, a space, its outcome and a line feed at the end. A refusal, for want of memory, leaves the
-/// text as it was.
+/// Puts the event's name, a space, its outcome and a line feed at the end. A refusal, for an allocation failure,
+/// leaves the text as it was.
 pub fn push_event(text: &mut Vec<u8>, act: &Act, outcome: &Outcome) -> Result<(), OutOfMemory>
     ensures ok { OnOk result (text.new.items ≡ text.old.items ++ event_text act.now outcome.now) }
     ensures err { OnErr result (text.new.items ≡ text.old.items) }

@@ -13,12 +13,12 @@ use Rattle.sticky_count.specs.declared.view.Act.{Act}
 use Rattle.sticky_count.specs.declared.view.Act.TheVariants as act
 use Rattle.sticky_count.specs.declared.view.View.{View}
 use Rattle.sticky_count.specs.declared.view.Knows.{Knows}
-use Rattle.sticky_count.specs.Words.{low}
+use Rattle.counter_word.specs.Words.{low}
 use Rattle.sticky_count.specs.Views.{fresh, next, moved, May, HasRoom}
 use Rattle.sticky_count.specs.History.{Counter, Event, Enabled, after, run, view_at}
 use Rattle.sticky_count.specs.Sound.{IsSound, adds_in}
 use Rattle.sticky_count.specs.Running.{Kept, Does, Suits, shown, first, stays, split_off, all_views, most_adds}
-use Rattle.sticky_count.proofs.Bits.{cleared}
+use Rattle.counter_word.proofs.Bits.{cleared}
 use Rattle.sticky_count.proofs.Law.{sound, event_suits}
 use Rattle.sticky_count.proofs.Padded.{view_there, set_view, split_view}
 

@@ -1,4 +1,3 @@
-pub mod Bits
 pub mod Sums
 pub mod Steps
 pub mod Law

@@ -4,7 +4,7 @@ use Rattle.sticky_count.specs.declared.view.Act.TheVariants as act
 use Rattle.sticky_count.specs.declared.view.Act.{Act}
 use Rattle.sticky_count.specs.declared.view.Move.{Move}
 use Rattle.sticky_count.specs.declared.view.View.{View}
-use Rattle.sticky_count.specs.Words.{lives, has_help, value_of}
+use Rattle.counter_word.specs.Words.{lives, has_help, value}
 use Rattle.sticky_count.specs.Views.{moved}
 
 abbrev pub move : Act → ℕ → Move
@@ -46,5 +46,5 @@ Decrements ms b = TakesOne ms b ⊎ Ends ms b ⊎ Loses ms b ⊎ TakesHelp ms b
 -- one load; where it found 0, a mark. The answer is the value of the word found last
 abbrev pub Reads : List Move → ℕ → Type 0
 Reads ms n =
-    ((w : ℕ) × (w ≢ 0) × (ms ≡ move act.Load w ∷ []) × (n ≡ value_of w))
-    ⊎ ((w : ℕ) × (ms ≡ move act.Load 0 ∷ move act.Mark w ∷ []) × (n ≡ value_of w))
+    ((w : ℕ) × (w ≢ 0) × (ms ≡ move act.Load w ∷ []) × (n ≡ value w))
+    ⊎ ((w : ℕ) × (ms ≡ move act.Load 0 ∷ move act.Mark w ∷ []) × (n ≡ value w))

@@ -5,7 +5,7 @@ use Rattle.sticky_count.specs.declared.view.Act.{Act}
 use Rattle.sticky_count.specs.declared.view.Act.TheVariants as act
 use Rattle.sticky_count.specs.declared.view.View.{View}
 use Rattle.sticky_count.specs.declared.view.Knows.{Knows}
-use Rattle.sticky_count.specs.Words.{value_of, low}
+use Rattle.counter_word.specs.Words.{value, low}
 use Rattle.sticky_count.specs.Views.{fresh, moved}
 use Rattle.sticky_count.specs.History.{Counter, Event, run, Possible}
 
@@ -55,5 +55,5 @@ Suits act.Mark w = Unit {0}
 pub record Does (a : Act) (k : Knows) (w : ℕ) (k' : Knows) : Type 0 where
   pub view : k'.view ≡ moved a w k.view
   pub suits : Suits a w
-  pub held : k.view.held ≤ value_of w
+  pub held : k.view.held ≤ value w
   pub once : k'.view.ended ≤ 1

@@ -1,7 +1,7 @@
 -- The law of a counter, whatever the steps of its seats were.
 use Rattle.std.specs.Prelude.{ℕ, ◌+◌, ◌^◌, ◌<◌, ◌≤◌, ◌≡◌, ◌⊎◌, ◌↔◌, Any, sum_by}
 use Rattle.sticky_count.specs.declared.view.View.{View}
-use Rattle.sticky_count.specs.Words.{HasZero, HasHelp, value_of, low}
+use Rattle.counter_word.specs.Words.{HasZero, HasHelp, value, low}
 use Rattle.sticky_count.specs.Views.{IsToFinish, IsToHelp}
 use Rattle.sticky_count.specs.History.{Counter}
 
@@ -23,7 +23,7 @@ HasEnded w = HasZero w × (HasHelp w → ⊥)
 
 pub record IsSound (c : Counter) : Type 0 where
   -- the counts held are the value of the word
-  pub counts : held_in c ≡ value_of c.word
+  pub counts : held_in c ≡ value c.word
   -- the help flag stands only beside the zero flag
   pub help_beside_zero : HasHelp c.word → HasZero c.word
   -- where the word is 0, some seat is to finish

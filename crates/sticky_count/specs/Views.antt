@@ -5,7 +5,7 @@ use Rattle.sticky_count.specs.declared.view.Act.{Act}
 use Rattle.sticky_count.specs.declared.view.Act.TheVariants as act
 use Rattle.sticky_count.specs.declared.view.Move.{Move}
 use Rattle.sticky_count.specs.declared.view.View.{View}
-use Rattle.sticky_count.specs.Words.{low, lives, has_help, added, subbed, finished, helped, marked}
+use Rattle.counter_word.specs.Words.{low, lives, has_help, added, subbed, finished, helped, marked}
 
 -- the seat is in no call
 abbrev pub IsIdle : View → Type 0

@@ -27,12 +27,11 @@ mod sticky;
 #[cfg(test)]
 mod tests;
 mod view;
-mod word;
 
+pub use counter_word::{Fin, HELP, Sub, ZERO, add, finish, sub, take_help, value};
 pub use laws::{
     sound_after_any_events, sound_while_running, steps_of_calls, trails_are_events, zero_stays,
 };
-pub use outcome::{Fin, Spent, Sub};
+pub use outcome::Spent;
 pub use seat::{Sticky, StickySeat};
 pub use view::{Act, Knows, Move, Phase, View};
-pub use word::{HELP, ZERO, add, finish, sub, take_help, value};

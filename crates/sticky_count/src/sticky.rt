@@ -27,11 +27,11 @@ ghost use Rattle.sticky_count.specs.Running.{most_adds};
 ghost use Rattle.sticky_count.specs.Calls.{Increments, Decrements, Reads};
 ghost use Rattle.sticky_count.specs.Seats.{SeatState, Made, opened_seats};
 
-use crate::outcome::{Fin, Spent, Sub};
+use crate::outcome::Spent;
 use crate::rule::{Adds, Finishes, Loads, Marks, SplitsOff, Subtracts, Takes};
 use crate::seat::{Sticky, StickySeat};
-use crate::word::{HELP, ZERO, add, finish, sub, take_help, value};
 use atomic_table::Table;
+use counter_word::{Fin, HELP, Sub, ZERO, add, finish, sub, take_help, value};
 use out_of_memory::OutOfMemory;
 use std::alloc::Global;
 use std::mem;

@@ -47,7 +47,7 @@ start-requires-clause-fits c slot blank =
     sym (ap (λ (v : CoreView). v.phase) (c.fill_all.ensures.fills.core)
     ∙ ap (λ (v : CoreView). v.phase) claimed) ∙ blank in
     subst (λ (s : SlotId). IsRecord (object_in c.fill_all.new.seat.view s).payload)
-    (ap slot_of is)
+    (cc (is))
     (filled_fits c.args.domain.now c.args.slot c.args.payload.now c.arm.new.seat
     c.fill_all.new.seat c.fill_all.ensures.fills c.requires.fits)
 

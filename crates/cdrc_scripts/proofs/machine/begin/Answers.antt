@@ -2,7 +2,7 @@ use Rattle.std.proofs.Common.{◌≡◌, Err, Ok, None, refl, rules}
 use Rattle.line_words.specs.Words.{texts_of}
 use Rattle.script_lines.specs.Spelling.{Spells}
 use Rattle.script_lines.specs.declared.command.ScriptLine.TheVariants.{Heap}
-use Rattle.script_lines.specs.declared.refused.LineRefused.TheVariants.{Syntax}
+use Rattle.script_lines.specs.declared.refused.CommandRefused.TheVariants.{Syntax}
 use Rattle.cdrc_scripts.specs.Meaning.{IsHeapInRange, IsOpened}
 use Rattle.plain_store.specs.Settling.{IsSettled}
 use Rattle.cdrc_scripts.proofs.machine.begin.Goals as goal

@@ -20,7 +20,7 @@ loop-counted-preserved c =
     let i = c.loop-counted.invariant in
     let e : c.push_reserved.new.self.items ≡ c.loop-counted.hands.items ++ c.in-Ok.hand ∷ [] =
     c.push_reserved.ensures.items ∙ ap (λ (l : List SlotId). l ++ c.in-Ok.hand ∷ []) c.reserve.ensures.items in
-    let more = one_more c.loop-counted.heap c.loop-counted.hands.items _ i.held c.in-Ok.hand c.deref.result.now c.record_of.result c.make.new.self c.record_of.ensures c.in-Ok.ensures.made in
+    let more = one_more c.loop-counted.heap c.loop-counted.hands.items _ i.held c.in-Ok.hand c.deref.result.now c.record_of.result c.make.new.self c.record_of.ensures.packs c.in-Ok.ensures.made in
     let text : length c.deref.result.now ≡ size_of c.counted-item.result = ap length c.deref.ensures.value in
     let here = ap size_of c.counted-item.is in
     let sum = sum_by_more size_of c.args.list.now c.loop-counted.counted-index c.counted-item.result c.loop-counted-test.true in
@@ -28,5 +28,5 @@ loop-counted-preserved c =
       count = omega (arith, ap length e, length-append c.loop-counted.hands.items (c.in-Ok.hand ∷ []), i.count);
       held = subst (λ (l : List SlotId). HoldsRecords c.make.new.self l (sum_by size_of (take (c.loop-counted.counted-index + 1) c.args.list.now))) (sym e)
           (subst (λ (w : ℕ). HoldsRecords c.make.new.self (c.loop-counted.hands.items ++ c.in-Ok.hand ∷ []) w) (omega (arith, sum, text, here)) more);
-      slots = same_size c.loop-counted.heap c.loop-counted.hands.items _ i.held c.in-Ok.hand c.deref.result.now c.record_of.result c.make.new.self c.record_of.ensures c.in-Ok.ensures.made ∙ i.slots;
+      slots = same_size c.loop-counted.heap c.loop-counted.hands.items _ i.held c.in-Ok.hand c.deref.result.now c.record_of.result c.make.new.self c.record_of.ensures.packs c.in-Ok.ensures.made ∙ i.slots;
     }

@@ -4,11 +4,11 @@ use Rattle.acquire_retire.proofs.domain.Domain.fetch_and_as.Goals as goal
 pub fetch_and-requires : goal.fetch_and-requires
 fetch_and-requires g c = step_requires g.P.Protocol.law g.P.Protocol.first g.P.Protocol.gone
     g.P.Kind.PayloadKind.fits g.D.Deed.ready g.D.Deed.next g.D.Deed.allows g.met.D.Deed.keeps
-    c.args.self.now c.args.deed c.args.act g.B.Aim.aim c.requires.aim c.args.seat.now c.requires.can
-    _ c.self.view_is _ c.self.invariant c.args.word c.requires.word _ c.requires.kind
+    c.args.self.now c.args.deed c.args.act g.B.Aim.aim c.requires.aim.aims c.args.seat.now c.requires.can
+    _ c.self.view_is _ c.self.invariant c.args.word c.requires.aim.at _ c.requires.aim.changes
 
 pub returns : goal.returns
 returns g c = step_made g.P.Protocol.law g.P.Protocol.first g.P.Protocol.gone
     g.P.Kind.PayloadKind.fits g.D.Deed.ready g.D.Deed.next g.D.Deed.allows g.met.D.Deed.keeps
-    c.args.self.now c.args.deed c.args.act g.B.Aim.aim c.requires.aim c.args.seat.now c.requires.can
+    c.args.self.now c.args.deed c.args.act g.B.Aim.aim c.requires.aim.aims c.args.seat.now c.requires.can
     _ _ c.fetch_and.ensures.0 c.fetch_and.ensures.2

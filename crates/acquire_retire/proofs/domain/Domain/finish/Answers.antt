@@ -1,7 +1,8 @@
-use Rattle.std.proofs.Common.{ap, rules}
+use Rattle.std.proofs.Common.{Option, ap, rules, ◌++◌, ◌∙◌}
+use Rattle.plain_state.specs.declared.slot.SlotId.{SlotId}
 use Rattle.core_events.specs.declared.act.Act.TheVariants as act
 use Rattle.core_events.specs.Steps.{moved}
-use Rattle.core_events.specs.Views.{slot_of}
+use Rattle.core_events.specs.Views.{alone, slot_of}
 use Rattle.acquire_retire.proofs.Calls.{call_tells, can_still}
 use Rattle.acquire_retire.proofs.Dying.{room_to_end}
 use Rattle.acquire_retire.proofs.domain.Domain.finish.Goals as goal
@@ -19,7 +20,8 @@ push_reserved-requires g c =
     let longer = ap (λ w. (moved c.args.self.now.shape act.Finish w v).dying) c.if-found-eq0.true in
     let room = room_to_end c.args.self.now _ c.self.view_is _ c.self.invariant _ _ act.Finish
     c.seat.inside.seat c.compare_exchange_as-found.new.seat _ c.compare_exchange_as-found.ensures tt
-    can.shape _ _ _ _ _ c.seat.invariant (slot_of v.phase) longer in
+    can.shape _ _ _ _ _ c.seat.invariant can.may.0
+    (longer ∙ ap (λ (o : Option SlotId). v.dying ++ alone o) (ap slot_of can.may.1)) in
     search rules
 
 pub returns-then-found-eq0 : goal.returns-then-found-eq0
@@ -27,8 +29,8 @@ returns-then-found-eq0 g c =
     call_tells c.args.self.now _ _ act.Finish c.seat.inside.seat c.compare_exchange_as-found.new.seat c.compare_exchange_as-found.result c.compare_exchange_as-found.ensures
     c.args.seat.now c.seat.view_is _ (search rules)
 
-pub returns-then-helps : goal.returns-then-helps
-returns-then-helps g c =
+pub returns-then-has_help : goal.returns-then-has_help
+returns-then-has_help g c =
     call_tells c.args.self.now _ _ act.Finish c.seat.inside.seat c.compare_exchange_as-found.new.seat c.compare_exchange_as-found.result c.compare_exchange_as-found.ensures
     c.args.seat.now c.seat.view_is _ (search rules)
 

@@ -1,6 +1,6 @@
 use Rattle.std.proofs.Common.{◌≡◌, ℕ, ◌+◌, ◌<◌, ap, subst, vec_len, rules, arith}
 use Rattle.acquire_retire.specs.Openings.{IsFirst}
-use Rattle.acquire_retire.proofs.Openings.{in_ranges, new_grants, new_seated, one_more}
+use Rattle.acquire_retire.proofs.Openings.{in_ranges, new_seated, one_more}
 use Rattle.acquire_retire.proofs.domain.Domain.open_others.Goals as goal
 
 pub new_seat-requires-clause-seated : goal.new_seat-requires-clause-seated
@@ -11,13 +11,6 @@ new_seat-requires-clause-seated g c =
     new_seated (g.P.Protocol.first d.protocol) d
     (in_ranges d _ _ c.self.view_is c.self.invariant) _
     c.open_another-seat.result there c.open_another-seat.ensures.seat
-
-pub new_seat-requires-clause-grants : goal.new_seat-requires-clause-grants
-new_seat-requires-clause-grants g c =
-    let d = c.args.self.now in
-    new_grants (g.P.Protocol.first d.protocol) d
-    (in_ranges d _ _ c.self.view_is c.self.invariant) _
-    c.open_another-seat.result c.open_another-seat.ensures.seat
 
 pub loop-number-preserved : goal.loop-number-preserved
 loop-number-preserved g c =

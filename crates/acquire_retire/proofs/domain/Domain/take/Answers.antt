@@ -1,8 +1,9 @@
-use Rattle.std.proofs.Common.{ap, ◌∙◌, rules, sym}
+use Rattle.std.proofs.Common.{Option, ap, rules, sym, ◌++◌, ◌∙◌}
+use Rattle.plain_state.specs.declared.slot.SlotId.{SlotId}
 use Rattle.core_events.specs.declared.act.Act.TheVariants as act
 use Rattle.core_events.specs.declared.view.Phase.TheVariants as phase
 use Rattle.core_events.specs.Steps.{ended}
-use Rattle.core_events.specs.Views.{slot_of}
+use Rattle.core_events.specs.Views.{alone, slot_of}
 use Rattle.acquire_retire.proofs.Calls.{call_tells, can_still}
 use Rattle.acquire_retire.proofs.Dying.{room_to_end}
 use Rattle.acquire_retire.proofs.domain.Domain.take.Goals as goal
@@ -18,14 +19,15 @@ push_reserved-requires g c =
     c.args.seat.now c.seat.view_is c.seat.invariant.seated c.requires.seat tt tt c.requires.may in
     let v = c.seat.inside.seat.me.0.core in
     let longer = ap (λ b. (ended b (slot_of v.phase) phase.Idle v).dying)
-    (sym c.helps.ensures ∙ c.if-helps.true) in
+    (sym c.has_help.ensures ∙ c.if-has_help.true) in
     let room = room_to_end c.args.self.now _ c.self.view_is _ c.self.invariant _ _ act.Take
     c.seat.inside.seat c.fetch_and_as-found.new.seat _ c.fetch_and_as-found.ensures tt
-    can.shape _ _ _ _ _ c.seat.invariant (slot_of v.phase) longer in
+    can.shape _ _ _ _ _ c.seat.invariant can.may.0
+    (longer ∙ ap (λ (o : Option SlotId). v.dying ++ alone o) (ap slot_of can.may.1)) in
     search rules
 
-pub returns-then-helps : goal.returns-then-helps
-returns-then-helps g c =
+pub returns-then-has_help : goal.returns-then-has_help
+returns-then-has_help g c =
     call_tells c.args.self.now _ _ act.Take c.seat.inside.seat c.fetch_and_as-found.new.seat c.fetch_and_as-found.result c.fetch_and_as-found.ensures
     c.args.seat.now c.seat.view_is _ (search rules)
 

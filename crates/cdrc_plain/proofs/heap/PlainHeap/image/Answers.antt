@@ -12,8 +12,8 @@ returns-in_err-words-clause-heap g c = subst (IsHeap g.W.PayloadKind.fits) c.sel
 pub returns-in_err-words-2-clause-heap : goal.returns-in_err-words-2-clause-heap
 returns-in_err-words-2-clause-heap g c = subst (IsHeap g.W.PayloadKind.fits) c.self.view_is (kept_heap g.W.PayloadKind.fits c.self.inside.store c.self.invariant.0 c.self.invariant.1)
 
-pub returns-in_err-to_vec-clause-heap : goal.returns-in_err-to_vec-clause-heap
-returns-in_err-to_vec-clause-heap g c = subst (IsHeap g.W.PayloadKind.fits) c.self.view_is (kept_heap g.W.PayloadKind.fits c.self.inside.store c.self.invariant.0 c.self.invariant.1)
+pub returns-in_err-deferred_entries-clause-heap : goal.returns-in_err-deferred_entries-clause-heap
+returns-in_err-deferred_entries-clause-heap g c = subst (IsHeap g.W.PayloadKind.fits) c.self.view_is (kept_heap g.W.PayloadKind.fits c.self.inside.store c.self.invariant.0 c.self.invariant.1)
 
 pub returns-clause-heap : goal.returns-clause-heap
 returns-clause-heap g c = subst (IsHeap g.W.PayloadKind.fits) c.self.view_is (kept_heap g.W.PayloadKind.fits c.self.inside.store c.self.invariant.0 c.self.invariant.1)

@@ -1,26 +1,23 @@
 use Rattle.std.proofs.Common.{arith, length, ap}
 use Rattle.plain_store.specs.Stores.{plain_of}
 use Rattle.plain_store.proofs.Settlings.{freely_then}
-use Rattle.plain_store.proofs.SettlingEntries.{one_more_needed, is_surplus, entry_slot}
+use Rattle.plain_store.proofs.SettlingEntries.{one_more_needed, entry_slot}
 use Rattle.plain_store.proofs.store.Store.eject_or_keep.Goals as goal
 
 pub returns-then-before-entry_count-clause-needed : goal.returns-then-before-entry_count-clause-needed
 returns-then-before-entry_count-clause-needed c =
     let h = c.args.self.now in
     let e = c.entry_at-entry.result in
-    let before = rw c.deref.ensures.value at c.entry_count-before.ensures in
-    let under = rw c.deref-2.ensures.value at c.entry_count.ensures in
+    let before = c.count_before-before.ensures in
+    let under = rw c.deref.ensures.value at c.entry_count.ensures in
     one_more_needed h.deferred.items h.snapshots.items c.args.stays e c.requires.there c.entry_at-entry.ensures c.requires.needed
     (omega (arith, before, under, c.if-before-entry_count.true))
 
-pub take_out-requires-clause-surplus : goal.take_out-requires-clause-surplus
-take_out-requires-clause-surplus c =
-    let h = c.args.self.now in
-    let e = c.entry_at-entry.result in
-    let before = rw c.deref.ensures.value at c.entry_count-before.ensures in
-    let under = rw c.deref-2.ensures.value at c.entry_count.ensures in
-    is_surplus h.deferred.items h.snapshots.items c.args.stays e c.requires.there c.entry_at-entry.ensures
-    (omega (arith, before, under, c.if-before-entry_count.false))
+pub take_out-requires-clause-later : goal.take_out-requires-clause-later
+take_out-requires-clause-later c =
+    let before = c.count_before-before.ensures in
+    let under = rw c.deref.ensures.value at c.entry_count.ensures in
+    omega (arith, before, under, c.if-before-entry_count.false)
 
 pub end_or_give-requires-clause-there : goal.end_or_give-requires-clause-there
 end_or_give-requires-clause-there c =

@@ -18,7 +18,7 @@ returns-clause-deferred c = grind (arith, common_steps)
 pub returns-clause-settles : goal.returns-clause-settles
 returns-clause-settles c =
     rw (returns-clause-deferred c)
-    (take_settles c.args.self.now c.args.at c.args.entry c.requires.kept c.requires.there c.requires.entry c.requires.surplus)
+    (take_settles c.args.self.now c.args.at c.args.entry c.requires.kept c.requires.there c.requires.entry c.requires.later)
 
 pub returns-clause-kept : goal.returns-clause-kept
 returns-clause-kept c =

@@ -1,7 +1,7 @@
 use Rattle.std.proofs.Common.{◌≡◌, ◌≢◌, [], ◌∷◌, true, rules, ap, ◌∙◌, refl, inr, arith}
 use Rattle.std.proofs.lemmas.Bool.Decides.{nat_tests}
 use Rattle.sticky_count.specs.declared.view.Act.TheVariants as act
-use Rattle.sticky_count.specs.Words.{has_help}
+use Rattle.counter_word.specs.Words.{has_help}
 use Rattle.sticky_count.specs.Views.{moved}
 use Rattle.sticky_count.specs.Calls.{move, TakesHelp}
 use Rattle.sticky_count.specs.Seats.{SeatState}

@@ -1,8 +1,0 @@
-use Rattle.std.proofs.Common.{◌≡◌, ◌≢◌, ℕ, ◌<◌, get_or}
-use Rattle.core_parts.proofs.Slots.{past}
-use Rattle.acquire_retire.proofs.splitting.forget.Given as goal
-
-abbrev pub invariant-loop-i : goal.invariant-loop-i
-invariant-loop-i l =
-    (l.list ≡ l.initial.list)
-    × ((k : ℕ) → k < l.i → (get_or l.list.items k past).0 ≢ l.slot.0)

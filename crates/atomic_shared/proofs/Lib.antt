@@ -1,0 +1,2 @@
+pub mod StoredNames
+pub mod TwoObjects

@@ -1,0 +1,30 @@
+-- What is told of a place and a handle is told of them by their names in the domain.
+use Rattle.std.proofs.Common.{◌≡◌, ap, refl, sym, subst, ◌∙◌}
+use Rattle.std.specs.Prelude.{Option}
+use Rattle.counted_handles.specs.declared.place.WeakPlace.{WeakPlace}
+use Rattle.counted_handles.specs.declared.place.WeakPlace.TheVariants as place
+use Rattle.plain_state.specs.declared.act.EventPlace.{EventPlace}
+use Rattle.plain_state.specs.declared.slot.Kind.{Kind}
+use Rattle.plain_state.specs.declared.slot.Kind.TheVariants.{Weak}
+use Rattle.plain_state.specs.declared.slot.SlotId.{SlotId}
+use Rattle.plain_state.specs.Places.{place_kind}
+use Rattle.atomic_weak.specs.Storing.{weak_place}
+
+weak_kind : (p : WeakPlace) → place_kind (weak_place p) ≡ Weak
+weak_kind (place.Cell i) = refl
+weak_kind (place.Field s) = refl
+
+module _ (p : WeakPlace) (q : EventPlace) (is_place : q ≡ weak_place p) (given x : Option SlotId)
+    (is_slot : x ≡ given) where
+  pub by_names : (T : EventPlace → Option SlotId → Type 0) → T q x → T (weak_place p) given
+  by_names T = subst (λ (y : EventPlace × Option SlotId). T y.0 y.1) (λ i. (is_place i, is_slot i))
+
+  pub from_names : (T : EventPlace → Option SlotId → Type 0) → T (weak_place p) given → T q x
+  from_names T =
+      subst (λ (y : EventPlace × Option SlotId). T y.0 y.1)
+      (λ i. (sym is_place i, sym is_slot i))
+
+  pub of_kind : (T : Kind → Option SlotId → Type 0) → T (place_kind q) x → T Weak given
+  of_kind T =
+      subst (λ (y : Kind × Option SlotId). T y.0 y.1)
+      (λ i. ((ap place_kind is_place ∙ weak_kind p) i, is_slot i))

@@ -1,0 +1,114 @@
+//! Weak references go into places, and what stood there is retired.
+ghost use Rattle.std.specs.Prelude.{◌≡◌, IfErr, IfOk};
+ghost use Rattle.plain_state.specs.declared.slot.Kind.TheVariants as kind;
+ghost use Rattle.core_events.specs.declared.act.Act.TheVariants as act;
+ghost use Rattle.core_events.specs.Steps.{CanGive, HasRoom, IsContent, without_given};
+ghost use Rattle.core_events.specs.Views.{IsOpen};
+ghost use Rattle.acquire_retire.specs.Calls.{IsReady};
+ghost use Rattle.control_word.specs.Moves.{KnowsStill};
+ghost use Rattle.control_word.specs.Resting.{IsAtRest};
+ghost use Rattle.retiring_stores.specs.Exchanging.{LosesTo, Replaces, Stores};
+ghost use Rattle.retiring_stores.specs.Scanning.{IsBelow};
+ghost use Rattle.atomic_weak.specs.Storing.{named, weak_place};
+
+use acquire_retire::{Domain, EventPlace, Seat, SlotId};
+use core_functions::held_as;
+use counted_handles::{Weak, WeakPlace};
+use plain_protocol::{Deed, Protocol};
+use retiring_stores::{compare_exchange, exchange};
+
+/// A place held something else than what was expected.
+#[derive(Debug, Drop)]
+pub struct LostWeak {
+    /// The word that it held: 0 for null, else the slot's number and one.
+    pub now: u64,
+    /// The handle that was to go into the place.
+    pub back: Option<Weak>,
+}
+
+/// Puts the reference, or null, into the place. What the place held is retired, and never given up at once, since
+/// another seat may be about to count a reference to it. One step with the deed, and a collect where the seat's retired
+/// entries are then so many that one is due.
+pub fn store_weak<P: Protocol, D: Deed<P>>(
+    domain: &Domain<P>,
+    seat: &mut Seat<P>,
+    place: WeakPlace,
+    new: Option<Weak>,
+    deed: D,
+)
+    requires rest { IsAtRest domain.now seat.old }
+    requires room { HasRoom seat.old.view.core }
+    requires open { IsOpen domain.now.shape seat.old.view.core (weak_place place) }
+    requires owned { CanGive kind.Weak (named new) seat.old.view.core }
+    requires deed { IsReady (D.ready deed domain.now.protocol) domain.now.shape
+        (act.Swap (weak_place place) (named new)) seat.old.view }
+    ensures stored { Stores P.Kind.fits domain.now (D.next deed domain.now.protocol)
+        (D.allows deed domain.now.protocol) (weak_place place) (named new) seat.old seat.new }
+    ensures below { IsBelow domain.now seat.new }
+    ensures room { HasRoom seat.new.view.core }
+    ensures objects { KnowsStill (without_given kind.Weak (named new) seat.old.view.core)
+        seat.old seat.new }
+    ensures rest { IsAtRest domain.now seat.new }
+{
+    exchange(domain, seat, event_place(place), slot_of(&new), deed);
+}
+
+/// The same where the place holds what is expected. Else `LostWeak` tells what it held, and hands the reference back, which
+/// is the seat's still: only its trail has grown, and the client's view is the deed's. One step, and a collect where the
+/// seat has retired what was expected and one is due.
+pub fn try_replace_weak<P: Protocol, D: Deed<P>>(
+    domain: &Domain<P>,
+    seat: &mut Seat<P>,
+    place: WeakPlace,
+    expected: Option<SlotId>,
+    new: Option<Weak>,
+    deed: D,
+) -> Result<(), LostWeak>
+    requires rest { IsAtRest domain.now seat.old }
+    requires room { HasRoom seat.old.view.core }
+    requires open { IsOpen domain.now.shape seat.old.view.core (weak_place place) }
+    requires owned { CanGive kind.Weak (named new) seat.old.view.core }
+    requires expected { IsContent domain.now.shape expected }
+    requires deed { IsReady (D.ready deed domain.now.protocol) domain.now.shape
+        (act.Cas (weak_place place) expected (named new)) seat.old.view }
+    ensures replaced { IfOk result (λ done. Replaces P.Kind.fits domain.now
+        (D.next deed domain.now.protocol) (D.allows deed domain.now.protocol)
+        (weak_place place) (named new) expected seat.old seat.new × IsBelow domain.now seat.new) }
+    ensures lost { IfErr result (λ lost. LosesTo P.Kind.fits domain.now
+        (D.next deed domain.now.protocol) (D.allows deed domain.now.protocol)
+        (weak_place place) (named new) expected lost.now seat.old seat.new) }
+    ensures back { IfErr result (λ lost. lost.back ≡ new) }
+    ensures room { HasRoom seat.new.view.core }
+    ensures objects { KnowsStill (without_given kind.Weak (named new) seat.old.view.core)
+        seat.old seat.new }
+    ensures rest { IsAtRest domain.now seat.new }
+{
+    let slot = slot_of(&new);
+    match compare_exchange(domain, seat, event_place(place), expected, slot, deed) {
+        Ok(()) => Ok(()),
+        Err(found) => Err(LostWeak {
+            now: held_as(found),
+            back: new,
+        }),
+    }
+}
+
+/// The place, as the domain names it.
+fn event_place(place: WeakPlace) -> EventPlace
+    ensures { result ≡ weak_place place }
+{
+    match place {
+        WeakPlace::Cell(cell) => EventPlace::WeakCell(cell),
+        WeakPlace::Field(slot) => EventPlace::WeakField(slot),
+    }
+}
+
+/// The slot that a handle names, if there is one.
+fn slot_of(handle: &Option<Weak>) -> Option<SlotId>
+    ensures { result ≡ named handle.now }
+{
+    match handle {
+        None => None,
+        Some(weak) => Some(weak.slot()),
+    }
+}

@@ -1,0 +1,4 @@
+pub mod Resting
+pub mod Moves
+pub mod Calls
+pub mod Trials

@@ -1,0 +1,29 @@
+-- When a seat is in no call, and when it may use no add.
+use Rattle.std.specs.Prelude.{ℕ, ◌≡◌, []}
+use Rattle.core_events.specs.declared.view.CoreView.{CoreView}
+use Rattle.core_events.specs.declared.view.Note.{Note}
+use Rattle.core_events.specs.declared.view.Note.TheVariants as note
+use Rattle.core_events.specs.Steps.{IsIdle}
+use Rattle.core_events.specs.Views.{note_of}
+use Rattle.acquire_retire.specs.Calls.{IsOf}
+use Rattle.acquire_retire.specs.Domains.{DomainState}
+use Rattle.acquire_retire.specs.Seats.{SeatState}
+
+-- the note stands for nothing, or for a snapshot
+abbrev pub IsSettled : Note → Type 0
+IsSettled note.Idle = Unit {0}
+IsSettled (note.Announced k s) = ⊥
+IsSettled (note.Valid k s) = Unit {0}
+
+-- The seat is one of the domain's, and in no call: it is in the middle of nothing and owes nothing,
+-- its first note stands for nothing, and the others stand for nothing or for a snapshot.
+pub record IsAtRest {P V : Type 0} (d : DomainState P) (s : SeatState V) : Type 0 where
+  pub of_domain : IsOf d s
+  pub idle : IsIdle s.view.core
+  pub owes_nothing : s.view.core.owed ≡ []
+  pub first : note_of s.view.core 0 ≡ note.Idle
+  pub others : (j : ℕ) → IsSettled (note_of s.view.core j)
+
+-- the seat has used all adds of its quota
+abbrev pub IsSpent : CoreView → Type 0
+IsSpent v = v.adds ≡ v.quota.adds

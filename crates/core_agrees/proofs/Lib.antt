@@ -1,4 +1,0 @@
-pub mod Steps
-pub mod Codes
-pub mod Ejections
-pub mod Ripenings

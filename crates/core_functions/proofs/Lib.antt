@@ -1,0 +1,6 @@
+pub mod FirstBad
+pub mod FirstWords
+pub mod Slots
+pub mod Snapshots
+pub mod NextGrants
+pub mod Ripens

@@ -1,5 +1,0 @@
-use Rattle.core_parts.proofs.Slots.{slot_found}
-use Rattle.core_parts.proofs.lists.has_slot.Goals as goal
-
-pub returns : goal.returns
-returns c = slot_found c.args.slot c.args.list.now c.contains.result c.contains.ensures.value

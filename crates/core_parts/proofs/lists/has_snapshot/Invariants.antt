@@ -1,7 +1,0 @@
-use Rattle.std.proofs.Common.{◌≢◌, ℕ, ◌<◌, get_or}
-use Rattle.core_events.specs.declared.view.Note.TheVariants as note
-use Rattle.core_parts.proofs.lists.has_snapshot.Given as goal
-
-abbrev pub invariant-loop-note : goal.invariant-loop-note
-invariant-loop-note l =
-    (k : ℕ) → k < l.note-index → get_or l.notes k note.Idle ≢ note.Valid l.kind l.slot

@@ -1,4 +1,0 @@
-use Rattle.core_seats.proofs.seat.SeatView.can_leave.Goals as goal
-
-pub returns : goal.returns
-returns c = rw (← c.self.view_is) c.can_leave.ensures

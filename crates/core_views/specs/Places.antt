@@ -1,0 +1,13 @@
+-- Which word of the slot of a seat's phase an act is on.
+use Rattle.std.specs.Prelude.{ℕ}
+use Rattle.plain_state.specs.declared.slot.SlotId.{SlotId}
+use Rattle.core_events.specs.declared.act.Act.{Act}
+use Rattle.core_events.specs.declared.act.Act.TheVariants as act
+use Rattle.core_events.specs.declared.shape.Shape.{Shape}
+use Rattle.core_events.specs.Words.{bits_at, payload_at, strong_at, weak_at}
+
+abbrev pub word_in : Shape → Act → SlotId → ℕ
+word_in z act.Arm s = weak_at z s
+word_in z (act.Fill i x) s = payload_at z s i
+word_in z act.Free s = bits_at z s
+word_in z a s = strong_at z s

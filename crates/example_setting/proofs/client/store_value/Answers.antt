@@ -1,0 +1,8 @@
+use Rattle.example_setting.specs.Setting.{owns}
+use Rattle.example_setting.proofs.Making.{make_is_spared}
+use Rattle.example_setting.proofs.client.store_value.Goals as goal
+
+pub make-requires-clause-deed : goal.make-requires-clause-deed
+make-requires-clause-deed g c s mid begins =
+    make_is_spared c.args.domain.now (owns c.args.domain.now.protocol.cell) c.args.value.now s
+    c.args.seat.now mid begins (λ own. own)

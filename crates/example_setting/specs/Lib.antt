@@ -1,0 +1,6 @@
+pub mod Views
+pub mod Setting
+pub mod Deeds
+pub mod Kept
+pub mod Leave
+pub mod Makes

@@ -1,0 +1,36 @@
+//! The setting in use: a seat stores a value, and reads the one that is there.
+ghost use Rattle.std.specs.Prelude.{◌≡◌, ◌∷◌, ◌++◌, [], ◌<◌, IfOk, OnErr};
+ghost use Rattle.core_events.specs.Steps.{HasRoom};
+ghost use Rattle.control_word.specs.Resting.{IsAtRest};
+
+use crate::deeds::StoreValue;
+use crate::law::SettingLaw;
+use acquire_retire::{Domain, Seat};
+use atomic_shared::{Place, store};
+use plain_state::PayloadKind;
+use protocol_pairs::Spares;
+use slot_store::{MakeError, make};
+
+/// Stores a value: makes an object of it, and puts it into the cell. What was there is retired. Where no object can be
+/// made, nothing is stored.
+pub fn store_value<K: PayloadKind>(
+    domain: &Domain<SettingLaw<K>>,
+    seat: &mut Seat<SettingLaw<K>>,
+    cell: u32,
+    value: &[u64; 16],
+) -> Result<(), MakeError>
+    requires rest { IsAtRest domain.now seat.old }
+    requires room { HasRoom seat.old.view.core }
+    requires cell { cell ≡ domain.now.protocol.cell }
+    requires there { cell < domain.now.shape.cells }
+    requires fits { K.fits value.now }
+    ensures stored { IfOk result (λ done. seat.new.view.client.stored
+        ≡ seat.old.view.client.stored ++ value.now ∷ []) }
+    ensures refused { OnErr result (seat.new.view.client ≡ seat.old.view.client) }
+    ensures room { HasRoom seat.new.view.core }
+    ensures rest { IsAtRest domain.now seat.new }
+{
+    let object = make(domain, seat, value, Spares)?;
+    store(domain, seat, Place::Cell(cell), Some(object), StoreValue);
+    Ok(())
+}

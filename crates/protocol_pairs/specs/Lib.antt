@@ -1,0 +1,9 @@
+pub mod Shares
+pub mod Spared
+pub mod Parts
+pub mod Weights
+pub mod Foreign
+pub mod Both
+pub mod Sides
+pub mod Untouched
+pub mod Apart

@@ -1,0 +1,15 @@
+pub mod Telling
+pub mod Seeing
+pub mod Tries
+pub mod Turns
+pub mod Claims
+pub mod Searches
+pub mod Filling
+pub mod Beginning
+pub mod Starting
+pub mod Holding
+pub mod Passing
+pub mod SeeingAll
+pub mod Destroying
+pub mod Ripening
+pub mod Reaps

@@ -1,0 +1,60 @@
+-- A step that reads a payload word of a slot that the seat holds.
+use Rattle.std.proofs.Common.{◌≡◌, ℕ, ◌+◌, ◌<◌, List, [], ◌∷◌, refl, ap, sym, ◌∙◌, subst, arith}
+use Rattle.std.specs.Prelude.{slice_index}
+use Rattle.plain_state.specs.declared.slot.PlainSlot.{PlainSlot}
+use Rattle.plain_state.specs.declared.slot.SlotId.{SlotId}
+use Rattle.plain_state.specs.State.{slot_at}
+use Rattle.plain_protocol.specs.Owns.{Object}
+use Rattle.core_events.specs.declared.act.Act.TheVariants as act
+use Rattle.core_events.specs.declared.outcome.Outcome.{Outcome}
+use Rattle.core_events.specs.declared.outcome.Outcome.TheVariants as outcome
+use Rattle.core_events.specs.Shows.{shows}
+use Rattle.core_events.specs.Views.{Holds}
+use Rattle.core_events.specs.Words.{payload_at}
+use Rattle.core_invariant.proofs.Each.{get_each}
+use Rattle.core_shows.proofs.Bridge.{shown_slot}
+use Rattle.domain_rule.specs.Views.{object_in}
+use Rattle.acquire_retire.specs.Calls.{IsSameView, Steps, same_view}
+use Rattle.acquire_retire.specs.Collecting.{move}
+use Rattle.acquire_retire.specs.Domains.{DomainState}
+use Rattle.acquire_retire.specs.Seats.{SeatState}
+use Rattle.control_word.specs.Moves.{Becomes, KnowsStill}
+use Rattle.control_word.specs.Resting.{IsAtRest}
+use Rattle.control_word.proofs.Becoming.{knows_after, one_step, rest_after}
+use Rattle.slot_store.specs.Calls.{SeesWord}
+use Rattle.slot_store.proofs.Telling.{holds_has, slot_there}
+
+module _ {P V : Type 0} {fits : List ℕ → Type 0} (d : DomainState P) (old new : SeatState V)
+    (s : SlotId) (i n : ℕ) (below : i < 16) (held : Holds old.view.core s) where
+  -- the step finds the word that the domain shows
+  shown_word : (by : Becomes fits d same_view IsSameView (move (act.See s i) (outcome.Word n) ∷ [])
+      old.view.core old new)
+      → slice_index (slot_at (shows d.shape by.walks.1.told.happened.before) s).payload i ≡ n
+  shown_word by =
+      let see = by.walks.1 in
+      let there = slot_there see.told s (holds_has old.view.core s held) in
+      let before = see.told.happened.before in
+      let at : 0 + i ≡ i = omega arith in
+      ap (λ (x : PlainSlot). slice_index x.payload i) (shown_slot d.shape before s there)
+      ∙ get_each 0 16 i (λ k. slice_index before.words (payload_at d.shape s k)) 0 below
+      ∙ ap (λ (k : ℕ). slice_index before.words (payload_at d.shape s k)) at
+      ∙ sym see.told.happened.found ∙ sym (cc (see.answers))
+
+  pub sees : (o : Outcome) → Steps fits d same_view IsSameView (act.See s i) old new o
+      → o ≡ outcome.Word n → IsAtRest d old
+      → SeesWord fits d s i n old new × (n ≡ slice_index (object_in old.view s).payload i)
+      × KnowsStill old.view.core old new × IsAtRest d new
+  sees o step is rest = (
+    record { becomes = by; word = shown_word by },
+    sym (shown_word by)
+        ∙ ap (λ (x : Object). slice_index x.payload i)
+        (sym (by.walks.1.told.said.objects s (holds_has old.view.core s held))),
+    knows_after d (act.See s i) old new o old.view.core step (λ x has. has) (λ w x it. refl),
+    rest_after d (move (act.See s i) (outcome.Word n) ∷ []) old.view.core old new by refl rest,
+  )
+    where
+      by : Becomes fits d same_view IsSameView (move (act.See s i) (outcome.Word n) ∷ [])
+          old.view.core old new
+      by = one_step d (act.See s i) old new (outcome.Word n) n old.view.core
+          (subst (λ (x : Outcome). Steps fits d same_view IsSameView (act.See s i) old new x) is step)
+          refl refl refl

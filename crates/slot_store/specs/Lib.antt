@@ -1,0 +1,5 @@
+pub mod Searching
+pub mod Turns
+pub mod Calls
+pub mod Reaping
+pub mod Trials
