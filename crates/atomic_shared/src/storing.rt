@@ -54,9 +54,9 @@ pub fn store<P: Protocol, D: Deed<P>>(
     exchange(domain, seat, event_place(place), slot_of(&new), deed);
 }
 
-/// The same where the place holds what is expected. Else `Lost` tells what it held, and hands the reference back, which
-/// is the seat's still: only its trail has grown, and the client's view is the deed's. One step, and a collect where the
-/// seat has retired what was expected and one is due.
+/// The same where the place holds what is expected. Else `Lost` tells what it held, and hands the reference back,
+/// which is the seat's still: only its trail has grown, and the client's view is the deed's. One step, and a collect
+/// where the seat has retired what was expected and one is due.
 pub fn try_replace<P: Protocol, D: Deed<P>>(
     domain: &Domain<P>,
     seat: &mut Seat<P>,

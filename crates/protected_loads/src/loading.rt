@@ -19,10 +19,10 @@ use plain_protocol::{Deed, Protocol, Still};
 use plain_state::{EventPlace, Kind};
 
 /// The slot that the place holds, with one reference more to it, of the place's kind, which is the seat's. `Spent`
-/// comes first, exactly where the seat has used all adds of its quota, and then nothing has changed. `None` exactly where the
-/// first step found null, and it is the only step then. `Moved` exactly where the place held another content after the
-/// announcement; only the trail has grown then. The deed holds at the look where that finds null, else at the check. At
-/// most five steps, and one add where a slot is answered.
+/// comes first, exactly where the seat has used all adds of its quota, and then nothing has changed. `None` exactly
+/// where the first step found null, and it is the only step then. `Moved` exactly where the place held another
+/// content after the announcement; only the trail has grown then. The deed holds at the look where that finds null,
+/// else at the check. At most five steps, and one add where a slot is answered.
 pub fn try_load<P: Protocol, D: Deed<P>>(
     domain: &Domain<P>,
     seat: &mut Seat<P>,

@@ -14,9 +14,9 @@ use plain_state::EventPlace;
 use std::sync::Wait;
 
 /// The slot that the place holds, with one reference more to it, of the place's kind, which is the seat's. It tries
-/// again as long as the place changes between its look and its check, so it may wait for other threads. `Spent` comes first,
-/// exactly where the seat has used all adds of its quota, and then nothing has changed. `None` exactly where the last
-/// try found null. At most five steps for each try, and one add where a slot is answered.
+/// again as long as the place changes between its look and its check, so it may wait for other threads. `Spent` comes
+/// first, exactly where the seat has used all adds of its quota, and then nothing has changed. `None` exactly where
+/// the last try found null. At most five steps for each try, and one add where a slot is answered.
 pub fn load<P: Protocol, D: Deed<P>, R: Wait>(
     rt: &R,
     domain: &Domain<P>,

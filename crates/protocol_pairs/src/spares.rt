@@ -6,8 +6,8 @@ ghost use Rattle.protocol_pairs.specs.Spared.{IsSpared};
 
 use plain_protocol::{Deed, Protocol};
 
-/// The deed that leaves the view as it is, at a step that leaves what the protocol owns, as the seat itself can tell: to
-/// make an object of a payload that isn't owned, or to change a place that isn't.
+/// The deed that leaves the view as it is, at a step that leaves what the protocol owns, as the seat itself can tell:
+/// to make an object of a payload that isn't owned, or to change a place that isn't.
 #[derive(Clone, Copy, Debug, Drop)]
 pub struct Spares;
 
