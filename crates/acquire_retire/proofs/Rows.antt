@@ -1,6 +1,6 @@
 -- The acts of worked rows may be made in turn, by one word for each answer, for the proofs of
 -- tests.
-use Rattle.std.proofs.Common.{◌≡◌, ℕ, List, [], ◌∷◌, inl, inr, refl, ap, sym, ◌∙◌, subst, arith}
+use Rattle.std.proofs.Common.{◌≡◌, ℕ, List, [], ◌∷◌, ◌++◌, inl, inr, refl, ap, sym, ◌∙◌, subst, arith}
 use Rattle.std.specs.Prelude.{Some, None}
 use Rattle.plain_state.specs.declared.act.EventPlace.TheVariants.{Cell}
 use Rattle.plain_state.specs.declared.slot.Kind.TheVariants.{Strong, Disposal}
@@ -37,7 +37,7 @@ finding z [] ws v = v
 finding z (m ∷ ms) [] v = v
 finding z (m ∷ ms) (w ∷ ws) v = finding z ms ws (moved z m.0 w v)
 
-may_play : (z : Shape) (ms : List (Act × Outcome)) (ws : List ℕ) (v : CoreView)
+pub may_play : (z : Shape) (ms : List (Act × Outcome)) (ws : List ℕ) (v : CoreView)
     → MayFinding z ms ws v → MayPlay z ms v
 may_play z [] ws v may = tt
 may_play z (m ∷ ms) [] v may = absurd may
@@ -47,6 +47,23 @@ may_play z (m ∷ ms) (w ∷ ws) v may = (
   λ x same. subst (MayPlay z ms) (moved_same z m.0 w x v (may.2 ∙ sym same))
       (may_play z ms ws (moved z m.0 w v) may.3),
 )
+
+-- of acts that may be made in turn the first ones may be
+pub may_begin_with : (z : Shape) (ms ns : List (Act × Outcome)) (v : CoreView)
+    → MayPlay z (ms ++ ns) v → MayPlay z ms v
+may_begin_with z [] ns v may = tt
+may_begin_with z (m ∷ ms) ns v may = (
+  may.0,
+  may.1,
+  λ w answers. may_begin_with z ms ns (moved z m.0 w v) (may.2 w answers),
+)
+
+-- and once these were made, the others may be
+pub may_go_on : (z : Shape) (ms ns : List (Act × Outcome)) (v u : CoreView)
+    → MayPlay z (ms ++ ns) v → Plays z ms v u → MayPlay z ns u
+may_go_on z [] ns v u may plays = subst (MayPlay z ns) (sym plays) may
+may_go_on z (m ∷ ms) ns v u may plays =
+    may_go_on z ms ns (moved z m.0 plays.0 v) u (may.2 plays.0 plays.1) plays.2
 
 -- whatever words they find, the view after them is that one
 plays_to : (z : Shape) (ms : List (Act × Outcome)) (ws : List ℕ) (v u : CoreView)

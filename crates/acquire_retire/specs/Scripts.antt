@@ -71,6 +71,10 @@ wide = record { makes = 2 ^ 40; adds = 2 ^ 40 }
 abbrev pub one_seat : Shape
 one_seat = record { seats = 1; slots = 1; cells = 2; weak_cells = 0; batch = 4 }
 
+-- that of two seats, of which one helps the other
+abbrev pub two_seats : Shape
+two_seats = record { seats = 2; slots = 1; cells = 1; weak_cells = 0; batch = 4 }
+
 -- seat n of the domain, and it has done nothing
 abbrev pub IsFresh : {P V : Type 0} → DomainState P → ℕ → SeatState V → Type 0
 IsFresh d n s = (s.table ≡ d.table) × (s.view.core ≡ first_view d.shape n wide [])

@@ -1,9 +1,9 @@
 //! The whole state of a domain, as words.
-ghost use Rattle.std.specs.Prelude.{◌≡◌, ◌+◌, ◌<◌, ◌≤◌, false, IfOk, IsSome};
+ghost use Rattle.std.specs.Prelude.{◌≡◌, ◌+◌, ◌<◌, ◌≤◌, [], false, IfOk, IsSome};
 ghost use Rattle.plain_state.specs.Images.{IsImage, image_at};
 ghost use Rattle.plain_state.specs.State.{seat_at};
 ghost use Rattle.core_events.specs.Words.{each_from};
-ghost use Rattle.core_events.specs.Steps.{CanLeave, IsIdle};
+ghost use Rattle.core_events.specs.Steps.{IsIdle};
 ghost use Rattle.core_events.specs.Words.{word_count};
 ghost use Rattle.domain_rule.specs.Views.{IsAlone};
 ghost use Rattle.acquire_retire.specs.Calls.{IsOf};
@@ -152,12 +152,14 @@ impl<P: Protocol> Domain<P> {
         })
     }
 
-    /// The whole state as words, taken by a seat that is alone and in the middle of nothing: the strong word of a slot
-    /// is its count, or the zero flag alone where that stands. It loads each word of the cells and the slots once.
+    /// The whole state as words, taken by a seat that is alone, in the middle of nothing, and owes nothing: the strong
+    /// word of a slot is its count, or the zero flag alone where that stands. Snapshots are no obstacle. It loads each
+    /// word of the cells and the slots once.
     pub fn image(&self, alloc: Global, seat: &mut Seat<P>) -> Result<Heap, OutOfMemory>
         requires seat { IsOf self.now seat.old }
         requires alone { IsAlone seat.old.view }
-        requires may { CanLeave seat.old.view.core }
+        requires idle { IsIdle seat.old.view.core }
+        requires owes_nothing { seat.old.view.core.owed ≡ [] }
         ensures stays { seat.new ≡ seat.old }
         ensures image { IfOk result (IsWholeImage P.Kind.fits seat.old.view) }
     {

@@ -44,6 +44,8 @@ mod standing;
 #[cfg(test)]
 mod tests;
 #[cfg(test)]
+mod tests_help;
+#[cfg(test)]
 mod tests_seats;
 mod tickets;
 mod weak_counters;

@@ -15,7 +15,7 @@ use plain_protocol::{AnyStep, NoLaw};
 use plain_state::{RecordKind, record_of};
 use std::test::Fail;
 
-type Records = NoLaw<RecordKind>;
+pub(crate) type Records = NoLaw<RecordKind>;
 
 const SLOT: SlotId = SlotId(0);
 
@@ -29,7 +29,7 @@ const ONE_SEAT: Shape = Shape {
     batch: 4,
 };
 
-const WIDE: Quota = Quota {
+pub(crate) const WIDE: Quota = Quota {
     makes: 1 << 40,
     adds: 1 << 40,
 };
@@ -78,7 +78,11 @@ fn agrees(answer: Outcome, expected: Outcome) -> bool
 }
 
 /// Makes these acts in turn, and tells whether each answers as it is listed. It stops at the first that doesn't.
-fn plays(domain: &Domain<Records>, seat: &mut Seat<Records>, script: &[(Act, Outcome)]) -> bool
+pub(crate) fn plays(
+    domain: &Domain<Records>,
+    seat: &mut Seat<Records>,
+    script: &[(Act, Outcome)],
+) -> bool
     requires seat { IsOf domain.now seat.old }
     requires may { MayPlay domain.now.shape script.now seat.old.view.core }
     ensures seat { IsOf domain.now seat.new }
@@ -109,7 +113,7 @@ fn fill_all(domain: &Domain<Records>, seat: &mut Seat<Records>, slot: SlotId, pa
 }
 
 /// Claims the slot, arms it, fills it with a record and makes it live, and tells whether each answers as it should.
-fn make(
+pub(crate) fn make(
     domain: &Domain<Records>,
     seat: &mut Seat<Records>,
     slot: SlotId,
@@ -228,6 +232,14 @@ fn calls_while_an_object_lives(rt: HostRuntime) -> Result<(), Fail> {
     let payload = record_of(b"a text");
     assert!(rt; make(&domain, &mut seat, SLOT, &payload));
     assert!(rt; plays(&domain, &mut seat, &LIVE_CALLS));
+    assert!(rt; domain.alone(&seat));
+    let heap = domain.image(rt.alloc(), &mut seat)?;
+    let Some(image) = heap.slots.first() else {
+        panic!(rt; "no slot");
+    };
+    assert_eq!(rt; (image.strong, image.weak), (1, 1));
+    assert_eq!(rt; image.payload, payload);
+    assert_eq!(rt; heap.deferred.as_slice(), [(Kind::Strong, SLOT)].as_slice());
     let work = Work {
         scanned: 4,
         ejected: 1,

@@ -3,7 +3,6 @@ use Rattle.plain_state.specs.declared.slot.SlotId.{SlotId}
 use Rattle.plain_state.specs.Records.{IsRecord}
 use Rattle.core_events.specs.declared.view.CoreView.{CoreView}
 use Rattle.core_events.specs.declared.view.Phase.TheVariants as phase
-use Rattle.core_events.specs.Views.{slot_of}
 use Rattle.domain_rule.specs.Views.{object_in}
 use Rattle.acquire_retire.proofs.Makes.{arm_holds, claim_holds, filled_fits, made}
 use Rattle.acquire_retire.proofs.tests.make.Goals as goal
