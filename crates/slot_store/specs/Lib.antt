@@ -3,3 +3,4 @@ pub mod Turns
 pub mod Calls
 pub mod Reaping
 pub mod Trials
+pub mod Settling
