@@ -13,3 +13,8 @@ pub mod SeeingAll
 pub mod Destroying
 pub mod Ripening
 pub mod Reaps
+pub mod Objects
+pub mod Lasting
+pub mod Turning
+pub mod Quieting
+pub mod Settles

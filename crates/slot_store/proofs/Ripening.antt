@@ -142,8 +142,8 @@ module _ {P V : Type 0} {fits : List ℕ → Type 0} (d : DomainState P) (old ne
   collect_law [] last stay go ms a b walks idle = begun walks.1 idle
   collect_law (w ∷ ws) last stay go ms a b walks idle = begun walks.1 idle
 
-  pub waits : old.view.core.ripe ≡ [] → new.view.core.ripe ≡ [] → Waits fits d old new
-  waits were none = record {
+  pub waits : new.view.core.ripe ≡ [] → Waits fits d old new
+  waits none = record {
     collected = c;
     none = none;
     announced = λ s some.
@@ -167,6 +167,6 @@ module _ {P V : Type 0} {fits : List ℕ → Type 0} (d : DomainState P) (old ne
   pub finds_after : old.view.core.ripe ≡ [] → (o : Option SlotId)
       → (IsNone o ↔ (new.view.core.ripe ≡ []))
       → IfSome o (λ s. s ≡ slice_index_or new.view.core.ripe 0 s) → FindsRipe fits d o old new
-  finds_after were None none is = (were, waits were (none.0 refl))
+  finds_after were None none is = (were, waits (none.0 refl))
   finds_after were (Some s) none is =
       (inr (were, c), first_there s new.view.core.ripe (λ e. absurd (cc (none.1 e))) is)

@@ -1,10 +1,11 @@
 //! How a seat that is alone destroys all that may be destroyed.
-ghost use Rattle.std.specs.Prelude.{◌≡◌, IsSome};
+ghost use Rattle.std.specs.Prelude.{◌≡◌};
 ghost use Rattle.std.specs.Bool.{MatchBool};
 ghost use Rattle.core_events.specs.Steps.{HasRoom};
 ghost use Rattle.control_word.specs.Resting.{IsAtRest};
 ghost use Rattle.deleter.specs.Weighing.{Weighs};
 ghost use Rattle.domain_rule.specs.Views.{IsAlone};
+ghost use Rattle.acquire_retire.specs.Collecting.{rest_of};
 ghost use Rattle.slot_store.specs.Reaping.{KnowsBoth};
 ghost use Rattle.slot_store.specs.Settling.{GoesOn, Quiets, Settles};
 
@@ -25,29 +26,6 @@ fn gathers<P: Protocol>(domain: &Domain<P>, seat: &mut Seat<P>) -> bool
     domain.deferred(seat) < deferred || domain.next_ripe(seat).is_some()
 }
 
-/// Reaps and collects by turns, until no slot is ripe and a collect ejects nothing. Answers the weights of the payloads
-/// of all slots that it destroyed, added up; the deleter is called once on each of them.
-fn settle_all<P: Protocol, F: Fn(&[u64; 16]) -> u64>(
-    domain: &Domain<P>,
-    seat: &mut Seat<P>,
-    deleter: &Deleter<P::Kind, F>,
-) -> u64
-    requires rest { IsAtRest domain.now seat.old }
-    requires room { HasRoom seat.old.view.core }
-    requires knows { IsSome seat.old.view.whole }
-    requires weighs { Weighs P.Kind.fits P.Kind.weight F.Fn deleter.now }
-    ensures settles { Settles P.Kind.fits domain.now P.Kind.weight result seat.old seat.new }
-{
-    let mut weights = 0;
-    loop {
-        if let Some(weight) = reap(domain, seat, deleter) {
-            weights += weight;
-        } else if !gathers(domain, seat) {
-            return weights;
-        }
-    }
-}
-
 /// Destroys all that a seat which is alone can destroy: it reaps and collects by turns, until no slot is ripe and a
 /// collect ejects nothing. A slot that is still dying is then announced for disposal. Answers the weights of all slots
 /// that it destroyed, added up; the deleter is called on the payload of each. What only strong references among
@@ -65,6 +43,7 @@ pub fn settle<P: Protocol, F: Fn(&[u64; 16]) -> u64>(
     requires alone { IsAlone seat.old.view }
     requires weighs { Weighs P.Kind.fits P.Kind.weight F.Fn deleter.now }
     ensures settles { Settles P.Kind.fits domain.now P.Kind.weight result seat.old seat.new }
+    ensures same { rest_of seat.new.view.core ≡ rest_of seat.old.view.core }
     ensures alone { IsAlone seat.new.view }
     ensures client { seat.new.view.client ≡ seat.old.view.client }
     ensures objects { KnowsBoth seat.old seat.new }
@@ -72,5 +51,12 @@ pub fn settle<P: Protocol, F: Fn(&[u64; 16]) -> u64>(
     ensures rest { IsAtRest domain.now seat.new }
 {
     let _alone = domain.alone(seat);
-    settle_all(domain, seat, deleter)
+    let mut weights = 0;
+    loop {
+        if let Some(weight) = reap(domain, seat, deleter) {
+            weights += weight;
+        } else if !gathers(domain, seat) {
+            return weights;
+        }
+    }
 }
