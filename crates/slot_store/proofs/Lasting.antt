@@ -200,7 +200,7 @@ sees_settle : (s : SlotId) (payload : List ℕ) (i n : ℕ)
 sees_settle s payload i zero = tt
 sees_settle s payload i (suc n) = (tt, sees_settle s payload (i + 1) n)
 
-module _ {P V : Type 0} {fits : List ℕ → Type 0} (d : DomainState P) where
+module _ {P V : Type 0} (fits : List ℕ → Type 0) (d : DomainState P) where
   -- these moves in turn
   walk_lasts : (ms : List Move) (old new : SeatState V) → AreSettling ms → IsSome old.view.whole
       → Walks fits d ms old new → MayLast d old new
@@ -227,8 +227,9 @@ module _ {P V : Type 0} {fits : List ℕ → Type 0} (d : DomainState P) where
       lasts_on d old walks.0 new first
       (scan_lasts ws last stay go ms walks.0 new are first.known walks.2)
 
+module _ {P V : Type 0} {fits : List ℕ → Type 0} (d : DomainState P) where
   pub collect_lasts : (old new : SeatState V) → IsSome old.view.whole → Collected fits d old new
       → Lasts d old new
   collect_lasts old new known c =
-      scan_lasts c.collects.seen c.collects.last _ _ (flat_map paid_by c.collects.payments) old new
+      scan_lasts fits d c.collects.seen c.collects.last _ _ (flat_map paid_by c.collects.payments) old new
       (pays_settle c.collects.payments) known c.collects.goes.walks

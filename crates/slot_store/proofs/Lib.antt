@@ -16,5 +16,6 @@ pub mod Reaps
 pub mod Objects
 pub mod Lasting
 pub mod Turning
+pub mod OwnNotes
 pub mod Quieting
 pub mod Settles

@@ -125,7 +125,14 @@ same_own v u i (w ∷ ws) same own = (
   same_own v u (i + 1) ws same own.1,
 )
 
-module _ {P V : Type 0} {fits : List ℕ → Type 0} (d : DomainState P) where
+scanned_notes : (z : Shape) (w : ℕ) (v : CoreView) → (scanned z w v).notes ≡ v.notes
+scanned_notes z w v = go (is_last z v) refl
+  where
+    go : (b : Bool) → is_last z v ≡ b → (scanned z w v).notes ≡ v.notes
+    go true is = rw is refl
+    go false is = rw is refl
+
+module _ {P V : Type 0} (fits : List ℕ → Type 0) (d : DomainState P) where
   -- a seat that is alone reads its own notes, and those of seats that have left
   own_word : (a b : SeatState V) (o : Outcome) → IsSome a.view.whole
       → (step : Steps fits d same_view IsSameView act.Scan a b o)
@@ -160,13 +167,6 @@ module _ {P V : Type 0} {fits : List ℕ → Type 0} (d : DomainState P) where
       ap word_of_note (gone.6 (i % 4))
       ∙ sym (ap word_of_note (get_or_past v.notes i note.Idle (omega arith))))
       (cases_lt i 4)
-
-  scanned_notes : (z : Shape) (w : ℕ) (v : CoreView) → (scanned z w v).notes ≡ v.notes
-  scanned_notes z w v = go (is_last z v) refl
-    where
-      go : (b : Bool) → is_last z v ≡ b → (scanned z w v).notes ≡ v.notes
-      go true is = rw is refl
-      go false is = rw is refl
 
   -- all words that a whole scan reads
   pub own_scan : (ws : List ℕ) (last stay go : ℕ) (ms : List Move) (a b : SeatState V)

@@ -43,6 +43,13 @@ alone_still old new same alone =
     let seats = ap (λ (v : CoreView). v.shape.seats) same in
     (omega (arith, alone.0), omega (arith, alone.1))
 
+module _ {P V : Type 0} (d : DomainState P) where
+  -- there are no more objects than slots
+  objects_most : (seat : SeatState V) → objects_known d seat ≤ d.shape.slots
+  objects_most seat =
+      below_ones d.shape.slots (λ x. stands d (record { 0 = x }) seat)
+      (λ x inside. standing_most (stage d.shape (known_core seat.view) (record { 0 = x })))
+
 module _ {P V : Type 0} {fits : List ℕ → Type 0} {weight : List ℕ → ℕ} (d : DomainState P) where
   pub begins : (old : SeatState V) → IsSome old.view.whole → HasRoom old.view.core → IsAtRest d old
       → UnderWay fits weight d 0 old old
@@ -60,12 +67,6 @@ module _ {P V : Type 0} {fits : List ℕ → Type 0} {weight : List ℕ → ℕ}
     rest = rest;
   }
 
-  -- there are no more objects than slots
-  objects_most : (seat : SeatState V) → objects_known d seat ≤ d.shape.slots
-  objects_most seat =
-      below_ones d.shape.slots (λ x. stands d (record { 0 = x }) seat)
-      (λ x inside. standing_most (stage d.shape (known_core seat.view) (record { 0 = x })))
-
   module _ (total : ℕ) (old now : SeatState V) (u : UnderWay fits weight d total old now) where
     module _ (bounded : (words : List ℕ) → fits words → weight words ≤ 2 ^ 32) (answer : ℕ)
         (new : SeatState V) (reaps : Reaps fits d weight answer now new) where
@@ -79,7 +80,7 @@ module _ {P V : Type 0} {fits : List ℕ → Type 0} {weight : List ℕ → ℕ}
           let is = reaps.weighs in
           let light = u.light in
           let objects = fewer.objects in
-          let most = objects_most old in omega arith
+          let most = objects_most d old in omega arith
 
       pub reaped_more : new.view.client ≡ now.view.client → HasRoom new.view.core → IsAtRest d new
           → UnderWay fits weight d (total + answer) old new

@@ -58,7 +58,7 @@ joined_most : (k : Kind) (held : Option SlotId) (es : List Entry)
 joined_most k None es = omega arith
 joined_most k (Some s) es = let more = length-append es ((k, s) ∷ []) in omega arith
 
-module _ {P V : Type 0} {fits : List ℕ → Type 0} (d : DomainState P) where
+module _ {P V : Type 0} (d : DomainState P) where
   -- a part of a turn, which retires at most n entries more
   pub record Parts (n : ℕ) (old new : SeatState V) : Type 0 where
     pub lasts : MayLast d old new
@@ -76,59 +76,6 @@ module _ {P V : Type 0} {fits : List ℕ → Type 0} (d : DomainState P) where
     retired = let e = ap (λ (x : SeatState V). length x.view.core.retired) same in omega arith;
   }
 
-  collect_parts : (old new : SeatState V) → IsSome old.view.whole → Collected fits d old new
-      → Parts 0 old new
-  collect_parts old new known c = record {
-    lasts = inr (collect_lasts d old new known c);
-    retired = let fewer = c.collects.retired in omega arith;
-  }
-
-  finds_parts : (s : SlotId) (old new : SeatState V) → IsSome old.view.whole
-      → FindsRipe fits d (Some s) old new → Parts 0 old new
-  finds_parts s old new known finds = ⊎_elim
-      (λ (was : (0 < times s old.view.core.ripe) × (new ≡ old)). parts_none 0 old new was.1)
-      (λ (now : (old.view.core.ripe ≡ []) × Collected fits d old new).
-      collect_parts old new known now.1)
-      finds.0
-
-  clears_parts : (p : EventPlace) (old new : SeatState V) → IsSome old.view.whole
-      → Clears fits d p old new → Parts 1 old new
-  clears_parts p old new known c =
-      let swaps = c.swaps in
-      let step = step_lasts d (act.Swap p None) old swaps.mid _ tt known swaps.puts.step in
-      let puts : Parts 1 old swaps.mid = record {
-        lasts = inr step;
-        retired =
-            let more = joined_most (place_kind p) c.held old.view.core.retired in
-            let e = ap (λ (v : CoreView). length v.retired) swaps.puts.core in omega arith;
-      } in
-      parts_on 1 0 old swaps.mid new puts (⊎_elim
-      (λ (due : IsDue d swaps.mid × Collected fits d swaps.mid new).
-      collect_parts swaps.mid new step.known due.1)
-      (λ (none : IsBelow d swaps.mid × (new ≡ swaps.mid)). parts_none 0 swaps.mid new none.1)
-      swaps.scans)
-
-  frees_parts : (last : Bool) (mid new : SeatState V) → IsSome mid.view.whole
-      → MatchBool last (Steps fits d same_view IsSameView act.Free mid new outcome.Plain) (new ≡ mid)
-      → Parts 0 mid new
-  frees_parts false mid new known same = parts_none 0 mid new same
-  frees_parts true mid new known step = record {
-    lasts = inr (step_lasts d act.Free mid new outcome.Plain tt known step);
-    retired = let e = ap (λ (v : CoreView). length v.retired) step.told.core in omega arith;
-  }
-
-  -- what is destroyed is a slot of the domain
-  destroy_there : (s : SlotId) (old new : SeatState V) (o : Outcome) → IsSome old.view.whole
-      → Steps fits d same_view IsSameView (act.Destroy s) old new o → s.0 < d.shape.slots
-  destroy_there s old new o known step =
-      let law = (step_lasts d (act.Destroy s) old new o tt known step).law in
-      let may : May d.shape (act.Destroy s) old.view.core =
-      subst (λ (v : CoreView). May d.shape (act.Destroy s) v) (sym step.told.happened.view)
-      step.told.happened.enabled.1 in
-      let ripe = may.1 in
-      let dying = law.ripe s in
-      slot_there step.told s (listed_has old.view.core s (omega arith))
-
   -- a turn that destroys an object
   pub record Fewer (old new : SeatState V) : Type 0 where
     pub lasts : Lasts d old new
@@ -142,8 +89,71 @@ module _ {P V : Type 0} {fits : List ℕ → Type 0} (d : DomainState P) where
       (λ (lasts : Lasts d a b). lasts.stood s there)
       may
 
+  -- there is less to do then
+  pub less_reaped : (old new : SeatState V) → Fewer old new → work_left d new + 1 ≤ work_left d old
+  less_reaped old new fewer =
+      let entries = fewer.retired in
+      let objects = fewer.objects in
+      let ripe = unripe_most new.view.core.ripe in omega arith
+
+module _ {P V : Type 0} (fits : List ℕ → Type 0) (d : DomainState P) where
+  -- a slot that was destroyed may be given back
+  frees_parts : (last : Bool) (mid new : SeatState V) → IsSome mid.view.whole
+      → MatchBool last (Steps fits d same_view IsSameView act.Free mid new outcome.Plain) (new ≡ mid)
+      → Parts d 0 mid new
+  frees_parts false mid new known same = parts_none d 0 mid new same
+  frees_parts true mid new known step = record {
+    lasts = inr (step_lasts d act.Free mid new outcome.Plain tt known step);
+    retired = let e = ap (λ (v : CoreView). length v.retired) step.told.core in omega arith;
+  }
+
+module _ {P V : Type 0} {fits : List ℕ → Type 0} (d : DomainState P) where
+  collect_parts : (old new : SeatState V) → IsSome old.view.whole → Collected fits d old new
+      → Parts d 0 old new
+  collect_parts old new known c = record {
+    lasts = inr (collect_lasts d old new known c);
+    retired = let fewer = c.collects.retired in omega arith;
+  }
+
+  finds_parts : (s : SlotId) (old new : SeatState V) → IsSome old.view.whole
+      → FindsRipe fits d (Some s) old new → Parts d 0 old new
+  finds_parts s old new known finds = ⊎_elim
+      (λ (was : (0 < times s old.view.core.ripe) × (new ≡ old)). parts_none d 0 old new was.1)
+      (λ (now : (old.view.core.ripe ≡ []) × Collected fits d old new).
+      collect_parts old new known now.1)
+      finds.0
+
+  clears_parts : (p : EventPlace) (old new : SeatState V) → IsSome old.view.whole
+      → Clears fits d p old new → Parts d 1 old new
+  clears_parts p old new known c =
+      let swaps = c.swaps in
+      let step = step_lasts d (act.Swap p None) old swaps.mid _ tt known swaps.puts.step in
+      let puts : Parts d 1 old swaps.mid = record {
+        lasts = inr step;
+        retired =
+            let more = joined_most (place_kind p) c.held old.view.core.retired in
+            let e = ap (λ (v : CoreView). length v.retired) swaps.puts.core in omega arith;
+      } in
+      parts_on d 1 0 old swaps.mid new puts (⊎_elim
+      (λ (due : IsDue d swaps.mid × Collected fits d swaps.mid new).
+      collect_parts swaps.mid new step.known due.1)
+      (λ (none : IsBelow d swaps.mid × (new ≡ swaps.mid)). parts_none d 0 swaps.mid new none.1)
+      swaps.scans)
+
+  -- what is destroyed is a slot of the domain
+  destroy_there : (s : SlotId) (old new : SeatState V) (o : Outcome) → IsSome old.view.whole
+      → Steps fits d same_view IsSameView (act.Destroy s) old new o → s.0 < d.shape.slots
+  destroy_there s old new o known step =
+      let law = (step_lasts d (act.Destroy s) old new o tt known step).law in
+      let may : May d.shape (act.Destroy s) old.view.core =
+      subst (λ (v : CoreView). May d.shape (act.Destroy s) v) (sym step.told.happened.view)
+      step.told.happened.enabled.1 in
+      let ripe = may.1 in
+      let dying = law.ripe s in
+      slot_there step.told s (listed_has old.view.core s (omega arith))
+
   pub reaps_fewer : (weight : List ℕ → ℕ) (answer : ℕ) (old new : SeatState V)
-      → IsSome old.view.whole → Reaps fits d weight answer old new → Fewer old new
+      → IsSome old.view.whole → Reaps fits d weight answer old new → Fewer d old new
   reaps_fewer weight answer old new known r =
       let s = r.slot in
       let finds = finds_parts s old r.ripe known r.finds in
@@ -154,19 +164,19 @@ module _ {P V : Type 0} {fits : List ℕ → Type 0} (d : DomainState P) where
       let k2 = known_then d r.first r.second k1 two.lasts in
       let three = clears_parts (WeakField s) r.second r.null k2 r.clears_weak in
       let k3 = known_then d r.second r.null k2 three.lasts in
-      let sees : Parts 0 r.null r.read = record {
-        lasts = sees_last d s r.payload r.null r.read k3 r.sees.goes.becomes.walks;
+      let sees : Parts d 0 r.null r.read = record {
+        lasts = sees_last fits d s r.payload r.null r.read k3 r.sees.goes.becomes.walks;
         retired =
             let e = ap (λ (v : CoreView). length v.retired) r.sees.goes.becomes.core in omega arith;
       } in
       let k4 = known_then d r.null r.read k3 sees.lasts in
-      let all = parts_on 3 0 old r.null r.read (parts_on 2 1 old r.second r.null (parts_on 1 1 old r.first r.second
-      (parts_on 0 1 old r.ripe r.first finds one) two) three) sees in
+      let all = parts_on d 3 0 old r.null r.read (parts_on d 2 1 old r.second r.null (parts_on d 1 1 old r.first r.second
+      (parts_on d 0 1 old r.ripe r.first finds one) two) three) sees in
       let step = r.destroys.destroys in
       let there = destroy_there s r.read r.destroys.mid _ k4 step in
       let gone = step_lasts d (act.Destroy s) r.read r.destroys.mid _ tt k4 step in
       let fell = destroy_stands d s r.read r.destroys.mid _ k4 there step in
-      let frees = frees_parts r.destroys.last r.destroys.mid new gone.known r.destroys.frees in
+      let frees = frees_parts fits d r.destroys.last r.destroys.mid new gone.known r.destroys.frees in
       let lasts = lasts_then d old r.destroys.mid new
       (then_lasts d old r.read r.destroys.mid all.lasts gone) frees.lasts in
       record {
@@ -176,25 +186,18 @@ module _ {P V : Type 0} {fits : List ℕ → Type 0} (d : DomainState P) where
             let e = ap (λ (v : CoreView). length v.retired) step.told.core in
             let after = frees.retired in omega arith;
         objects =
-            let was = stood_may s old r.read there all.lasts in
-            let is = stood_may s r.destroys.mid new there frees.lasts in
+            let was = stood_may d s old r.read there all.lasts in
+            let is = stood_may d s r.destroys.mid new there frees.lasts in
             below_less d.shape.slots s.0 (λ x. stands d (record { 0 = x }) old)
             (λ x. stands d (record { 0 = x }) new) there
             (λ x inside. lasts.stood (record { 0 = x }) inside) (omega arith);
       }
 
-  -- there is less to do then
-  pub less_reaped : (old new : SeatState V) → Fewer old new → work_left d new + 1 ≤ work_left d old
-  less_reaped old new fewer =
-      let entries = fewer.retired in
-      let objects = fewer.objects in
-      let ripe = unripe_most new.view.core.ripe in omega arith
-
   -- a reap that destroyed none
   pub none_parts : (weight : List ℕ → ℕ) (old mid : SeatState V) → IsSome old.view.whole
-      → Answers fits d weight None old mid → Parts 0 old mid
+      → Answers fits d weight None old mid → Parts d 0 old mid
   none_parts weight old mid known none = ⊎_elim
-      (λ (idle : (old.view.core.dying ≡ []) × (mid ≡ old)). parts_none 0 old mid idle.1)
+      (λ (idle : (old.view.core.dying ≡ []) × (mid ≡ old)). parts_none d 0 old mid idle.1)
       (λ (waits : (old.view.core.ripe ≡ []) × Waits fits d old mid).
       collect_parts old mid known waits.1.collected)
       none

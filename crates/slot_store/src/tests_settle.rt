@@ -50,11 +50,7 @@ fn open_alone(rt: &HostRuntime) -> Result<(Domain<Records>, Seat<Records>), Open
 }
 
 /// Makes an object of this weight.
-fn make_heavy(
-    domain: &Domain<Records>,
-    seat: &mut Seat<Records>,
-    weight: u64,
-) -> Option<Strong>
+fn make_heavy(domain: &Domain<Records>, seat: &mut Seat<Records>, weight: u64) -> Option<Strong>
     requires rest { IsAtRest domain.now seat.old }
     requires room { HasRoom seat.old.view.core }
     requires light { weight ≤ 2 ^ 32 }
