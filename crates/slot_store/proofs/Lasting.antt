@@ -18,6 +18,7 @@ use Rattle.core_events.specs.Good.{SeatLaw}
 use Rattle.core_events.specs.Runs.{Core, IsShape, after}
 use Rattle.core_events.specs.Shows.{show_seat, shows}
 use Rattle.core_events.specs.Words.{each_from}
+use Rattle.core_invariant.specs.Sound.{Sound}
 use Rattle.core_promises.specs.Destroyed.{destroys, standing}
 use Rattle.domain_rule.specs.Rule.{IsTrueOf}
 use Rattle.domain_rule.proofs.Objects.{object_at}
@@ -32,7 +33,7 @@ use Rattle.control_word.proofs.Finding.{seat_there, sound_before}
 use Rattle.retiring_stores.specs.Scanning.{Collected}
 use Rattle.slot_store.specs.Reaping.{KnowsBoth, seen_by}
 use Rattle.slot_store.specs.Settling.{objects_known}
-use Rattle.slot_store.proofs.Objects.{IsSettling, below_less, below_most, known_after, known_before, known_still, object_stays, stands_still}
+use Rattle.slot_store.proofs.Objects.{IsSettling, below_less, below_most, known_after, known_before, known_still, object_stays, sound_later, stands_still}
 use Rattle.slot_store.proofs.Telling.{slot_there}
 
 -- all that the view of the seat says is so of the core that it knows
@@ -52,6 +53,7 @@ pub record Lasts {P V : Type 0} (d : DomainState P) (old new : SeatState V) : Ty
   pub known : IsSome new.view.whole
   pub said : IsTrue d old
   pub says : IsTrue d new
+  pub sound : Sound d.shape (known_core new.view)
   pub inside : (s : SlotId) → HasSlot (show_seat old.view.core) s → s.0 < d.shape.slots
   pub object :
       (s : SlotId) → s.0 < d.shape.slots → object_known d s new ≡ object_known d s old
@@ -69,6 +71,7 @@ module _ {P V : Type 0} (d : DomainState P) where
     known = more.known;
     said = first.said;
     says = more.says;
+    sound = more.sound;
     inside = first.inside;
     object = λ s there. more.object s there ∙ first.object s there;
     stood = λ s there.
@@ -143,6 +146,7 @@ module _ {P V : Type 0} {fits : List ℕ → Type 0} (d : DomainState P)
         said = subst (λ (c : Core). IsTrueOf d.shape c n old.view) (sym then) told.said;
         says = subst (λ (x : Core × ℕ). IsTrueOf d.shape x.0 x.1 new.view)
             (λ i. (sym now i, sym told.law.number i)) told.says;
+        sound = subst (λ (c : Core). Sound d.shape c) (sym now) (sound_later told);
         inside = slot_there told;
         object = λ s there.
             ap (λ (c : Core). object_at (shows d.shape c) s) now

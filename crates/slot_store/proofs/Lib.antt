@@ -18,4 +18,6 @@ pub mod Lasting
 pub mod Turning
 pub mod OwnNotes
 pub mod Quieting
+pub mod Leftovers
 pub mod Settles
+pub mod Chaining

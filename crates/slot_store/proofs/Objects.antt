@@ -23,6 +23,8 @@ use Rattle.core_events.specs.ShownSteps.{shown_act, shown_number}
 use Rattle.core_events.specs.Steps.{May}
 use Rattle.core_events.specs.Views.{Terms}
 use Rattle.core_invariant.proofs.Each.{length_each}
+use Rattle.core_invariant.specs.Sound.{Sound}
+use Rattle.core_law.proofs.Always.{history_sound}
 use Rattle.core_promises.specs.Destroyed.{destroys, standing}
 use Rattle.core_promises.proofs.Destroys.{destroyed_once}
 use Rattle.core_shows.proofs.Bridge.{shown_slot}
@@ -152,6 +154,14 @@ module _ {V : Type 0} {fits : List ℕ → Type 0} {z : Shape} {ts : Terms}
 
     pub known_after : known_core v' ≡ later
     known_after = ap core_known knows_after
+
+  -- events reach the state after it too
+  pub sound_later : Sound z later
+  sound_later =
+      let h = told.happened in
+      let e : Event = record { seat = v.core.seat; act = a } in
+      history_sound z ts (e ∷ h.events) later h.shape h.terms
+      (before, h.history, (h.enabled, refl))
 
   module _ (s : SlotId) (there : s.0 < z.slots) (settling : IsSettling a) where
     -- no object changes

@@ -116,7 +116,9 @@ module _ (k : Kind) (s : SlotId) where
 pub own_times : (v : CoreView) (ws : List ℕ) → ((j : ℕ) → IsSettled (note_of v j)) → AreOwn v 0 ws
     → (k : Kind) (s : SlotId) → announced_in ws k s ≤ entry_times k s (valid_of v.notes)
 own_times v ws settled own k s =
-    times_of k s v.notes ws settled (are_of v 0 v.notes ws (λ j. refl) own)
+    times_of k s v.notes ws settled
+    (are_of v 0 v.notes ws
+    (λ j. let at : 0 + j ≡ j = omega arith in ap (λ (i : ℕ). get_or v.notes i note.Idle) at) own)
 
 same_own : (v u : CoreView) (i : ℕ) (ws : List ℕ) → u.notes ≡ v.notes → AreOwn u i ws → AreOwn v i ws
 same_own v u i [] same own = tt

@@ -21,7 +21,7 @@ use Rattle.slot_store.specs.Reaping.{Waits}
 use Rattle.slot_store.specs.Settling.{GoesOn, Quiets}
 use Rattle.slot_store.proofs.Ripening.{dying_announced}
 
-no_items : {A : Type 0} (xs : List A) → length xs ≡ 0 → xs ≡ []
+pub no_items : {A : Type 0} (xs : List A) → length xs ≡ 0 → xs ≡ []
 no_items [] none = refl
 no_items (x ∷ xs) none = absurd (omega arith)
 

@@ -66,13 +66,13 @@ ripened_or s ripe dying seen some = go (ripens ripe seen s) refl
         (few (times s ripe))
 
 -- what a scan answers tells whether it was the last
-word_read : (b : Bool) (w x : ℕ) (o : Outcome)
+pub word_read : (b : Bool) (w x : ℕ) (o : Outcome)
     → outcome.Word w ≡ (if b then o else outcome.Word x) → o ≢ outcome.Word w
     → (b ≡ false) × (w ≡ x)
 word_read true w x o is not = absurd (not (sym is))
 word_read false w x o is not = (refl, cc (is))
 
-split_read : (b : Bool) (last stay go x m n : ℕ)
+pub split_read : (b : Bool) (last stay go x m n : ℕ)
     → outcome.Split last stay go ≡ (if b then outcome.Split x m n else outcome.Word x)
     → (b ≡ true) × (last ≡ x)
 split_read true last stay go x m n is = (refl, cc (is))
@@ -142,7 +142,7 @@ module _ {P V : Type 0} {fits : List ℕ → Type 0} (d : DomainState P) (old ne
       idle
 
   -- the first step of a collect tells what holds of the seat
-  collect_law : (ws : List ℕ) (last stay go : ℕ) (ms : List Move) (a b : SeatState V)
+  pub collect_law : (ws : List ℕ) (last stay go : ℕ) (ms : List Move) (a b : SeatState V)
       → Walks fits d (scanned_by ws last stay go ++ ms) a b → a.view.core.phase ≡ phase.Idle
       → a.view.core.seen ≡ []
   collect_law [] last stay go ms a b walks idle = begun walks.1 idle

@@ -12,9 +12,11 @@ use Rattle.acquire_retire.specs.Domains.{DomainState}
 use Rattle.acquire_retire.specs.Seats.{SeatState}
 use Rattle.acquire_retire.specs.Wholes.{known_core}
 use Rattle.control_word.specs.Resting.{IsAtRest}
+use Rattle.slot_store.specs.Leftovers.{IsQuiet}
 use Rattle.slot_store.specs.Reaping.{Answers, KnowsBoth, Reaps, Waits}
 use Rattle.slot_store.specs.Settling.{GoesOn, Quiets, Settles, Turns, objects_known, weight_of}
 use Rattle.slot_store.proofs.Lasting.{Lasts, MayLast, collect_lasts, known_then, lasts_on, lasts_then, may_last_on, objects_last, objects_may, stands, then_lasts, knows_last}
+use Rattle.slot_store.proofs.Leftovers.{is_quiet}
 use Rattle.slot_store.proofs.Objects.{below_ones, standing_most}
 use Rattle.slot_store.proofs.Passing.{passes_collect}
 use Rattle.slot_store.proofs.Turning.{less_collected, less_reaped, none_parts, reaps_fewer, unripe_most, work_left}
@@ -183,6 +185,9 @@ module _ {P V : Type 0} {fits : List ℕ → Type 0} {weight : List ℕ → ℕ}
 
         pub settled_room : HasRoom new.view.core
         settled_room = (passes_collect d mid new rest room quiet.collected).room
+
+        pub settled_quiet : IsQuiet new.view.core
+        settled_quiet = is_quiet d mid new rest mid_known quiet
 
         pub settled_knows : KnowsBoth old new
         settled_knows =

@@ -4,3 +4,4 @@ pub mod Calls
 pub mod Reaping
 pub mod Trials
 pub mod Settling
+pub mod Leftovers

@@ -10,7 +10,7 @@ use acquire_retire::{Domain, EventPlace, OpenError, Quota, Seat, Shape, open_dom
 use control_word::{copy_strong, drop_strong};
 use counted_handles::Strong;
 use deleter::Deleter;
-use plain_protocol::{AnyStep, NoLaw};
+use plain_protocol::{AnyStep, NoLaw, Protocol};
 use plain_state::PayloadKind;
 use retiring_stores::exchange;
 use std::cell::Cell;
@@ -80,21 +80,23 @@ fn make_before(
 {
     let mut payload = [0; 16];
     payload[0] = weight;
-    let strong = make(domain, seat, &payload, AnyStep).ok()?;
+    let Ok(strong) = make(domain, seat, &payload, AnyStep) else {
+        return None;
+    };
     let field = EventPlace::Field(strong.slot(), 0);
     exchange(domain, seat, field, Some(next.slot()), AnyStep);
     Some(strong)
 }
 
 /// What a settle answers. `None` where the seat isn't alone.
-fn settle_alone<F: Fn(&[u64; 16]) -> u64>(
-    domain: &Domain<Records>,
-    seat: &mut Seat<Records>,
-    deleter: &Deleter<FirstWord, F>,
+fn settle_alone<P: Protocol, F: Fn(&[u64; 16]) -> u64>(
+    domain: &Domain<P>,
+    seat: &mut Seat<P>,
+    deleter: &Deleter<P::Kind, F>,
 ) -> Option<u64>
     requires rest { IsAtRest domain.now seat.old }
     requires room { HasRoom seat.old.view.core }
-    requires weighs { Weighs FirstWord.fits FirstWord.weight F.Fn deleter.now }
+    requires weighs { Weighs P.Kind.fits P.Kind.weight F.Fn deleter.now }
     ensures room { HasRoom seat.new.view.core }
     ensures rest { IsAtRest domain.now seat.new }
 {
