@@ -19,5 +19,7 @@ pub mod Turning
 pub mod OwnNotes
 pub mod Quieting
 pub mod Leftovers
+pub mod Cycles
+pub mod CyclesLeft
 pub mod Settles
 pub mod Chaining

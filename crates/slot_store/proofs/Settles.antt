@@ -12,9 +12,10 @@ use Rattle.acquire_retire.specs.Domains.{DomainState}
 use Rattle.acquire_retire.specs.Seats.{SeatState}
 use Rattle.acquire_retire.specs.Wholes.{known_core}
 use Rattle.control_word.specs.Resting.{IsAtRest}
-use Rattle.slot_store.specs.Leftovers.{IsQuiet}
+use Rattle.slot_store.specs.Leftovers.{IsQuiet, LeavesCycles}
 use Rattle.slot_store.specs.Reaping.{Answers, KnowsBoth, Reaps, Waits}
 use Rattle.slot_store.specs.Settling.{GoesOn, Quiets, Settles, Turns, objects_known, weight_of}
+use Rattle.slot_store.proofs.CyclesLeft.{leaves_cycles}
 use Rattle.slot_store.proofs.Lasting.{Lasts, MayLast, collect_lasts, known_then, lasts_on, lasts_then, may_last_on, objects_last, objects_may, stands, then_lasts, knows_last}
 use Rattle.slot_store.proofs.Leftovers.{is_quiet}
 use Rattle.slot_store.proofs.Objects.{below_ones, standing_most}
@@ -189,8 +190,14 @@ module _ {P V : Type 0} {fits : List ℕ → Type 0} {weight : List ℕ → ℕ}
         pub settled_quiet : IsQuiet new.view.core
         settled_quiet = is_quiet d mid new rest mid_known quiet
 
+        settled_lasts : Lasts d old new
+        settled_lasts =
+            then_lasts d old mid new (may_last_on d old now mid u.lasts mid_lasts)
+            (collect_lasts d mid new mid_known quiet.collected)
+
         pub settled_knows : KnowsBoth old new
-        settled_knows =
-            let last = collect_lasts d mid new mid_known quiet.collected in
-            knows_last d old new
-            (then_lasts d old mid new (may_last_on d old now mid u.lasts mid_lasts) last)
+        settled_knows = knows_last d old new settled_lasts
+
+        pub settled_cycles : LeavesCycles new.view
+        settled_cycles =
+            leaves_cycles d old new settled_lasts quiet.collected.rest settled_quiet

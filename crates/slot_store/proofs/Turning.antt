@@ -46,7 +46,7 @@ work_left d seat =
     2 * (length seat.view.core.retired + 4 * objects_known d seat) + unripe seat.view.core.ripe
 
 -- a list in which nothing stands
-nothing_in : (ss : List SlotId) → ((s : SlotId) → times s ss ≤ 0) → ss ≡ []
+pub nothing_in : (ss : List SlotId) → ((s : SlotId) → times s ss ≤ 0) → ss ≡ []
 nothing_in [] none = refl
 nothing_in (x ∷ xs) none =
     let first = none x in

@@ -6,7 +6,7 @@ ghost use Rattle.control_word.specs.Resting.{IsAtRest};
 ghost use Rattle.deleter.specs.Weighing.{Weighs};
 ghost use Rattle.domain_rule.specs.Views.{IsAlone};
 ghost use Rattle.acquire_retire.specs.Collecting.{rest_of};
-ghost use Rattle.slot_store.specs.Leftovers.{IsQuiet};
+ghost use Rattle.slot_store.specs.Leftovers.{IsQuiet, LeavesCycles};
 ghost use Rattle.slot_store.specs.Reaping.{KnowsBoth};
 ghost use Rattle.slot_store.specs.Settling.{GoesOn, Quiets, Settles};
 
@@ -45,6 +45,7 @@ pub fn settle<P: Protocol, F: Fn(&[u64; 16]) -> u64>(
     requires weighs { Weighs P.Kind.fits P.Kind.weight F.Fn deleter.now }
     ensures settles { Settles P.Kind.fits domain.now P.Kind.weight result seat.old seat.new }
     ensures quiet { IsQuiet seat.new.view.core }
+    ensures cycles { LeavesCycles seat.new.view }
     ensures same { rest_of seat.new.view.core ≡ rest_of seat.old.view.core }
     ensures alone { IsAlone seat.new.view }
     ensures client { seat.new.view.client ≡ seat.old.view.client }
