@@ -1,4 +1,4 @@
--- An object that is made in front of another one, for the proofs of tests.
+-- A reference that the seat puts into a field of a slot that it owns once more, for the proofs of tests.
 use Rattle.std.proofs.Common.{◌≡◌, inl, ⊎_elim, ℕ, ◌+◌, ◌<◌, List, [], ◌∷◌, ◌++◌, refl, ap, sym, ◌∙◌, subst, arith}
 use Rattle.std.specs.Prelude.{Option, Some}
 use Rattle.plain_state.specs.declared.act.EventPlace.TheVariants.{Field}
@@ -18,14 +18,12 @@ use Rattle.control_word.specs.Resting.{IsAtRest}
 use Rattle.retiring_stores.specs.Exchanging.{Swaps}
 use Rattle.slot_store.specs.Calls.{Makes}
 
-module _ {P V : Type 0} {fits : List ℕ → Type 0} {d : DomainState P}
-    {next : OwnPart → OwnPart → V → PlainAct → ℕ → V}
-    {allows : Plain → Plain → ℕ → V → V → Type 0} {payload : List ℕ} {s : SlotId}
-    {old mid : SeatState V} (makes : Makes fits d next allows payload s old mid) where
+-- the seat owns one reference to s more than before
+module _ {P V : Type 0} (d : DomainState P) (s : SlotId) (old mid : SeatState V)
+    (gains : mid.view.core.owned ≡ old.view.core.owned ++ s ∷ []) where
   owned_now : (x : SlotId)
       → times x mid.view.core.owned ≡ times x old.view.core.owned + one x s
-  owned_now x =
-      ap (λ (v : CoreView). times x v.owned) makes.core ∙ times_push x s old.view.core.owned
+  owned_now x = ap (times x) gains ∙ times_push x s old.view.core.owned
 
   module _ {given : SlotId} (has : 0 < times given old.view.core.owned) (t u : SlotId) (of : t ≡ s)
       (to : u ≡ given) where
@@ -39,8 +37,8 @@ module _ {P V : Type 0} {fits : List ℕ → Type 0} {d : DomainState P}
         let kept = ap (λ (x : SlotId). times x old.view.core.owned) to in
         (rest.idle, room, inl ((omega arith, omega arith), omega arith))
 
-    -- and the new object is the seat's still
-    pub owned_after : {put : OwnPart → OwnPart → V → PlainAct → ℕ → V}
+    -- and the slot is the seat's still
+    pub owned_after : {fits : List ℕ → Type 0} {put : OwnPart → OwnPart → V → PlainAct → ℕ → V}
         {lets : Plain → Plain → ℕ → V → V → Type 0} {held : Option SlotId} {new : SeatState V}
         → Swaps fits d put lets (Field t 0) (Some u) held mid new
         → 0 < times s new.view.core.owned

@@ -1,7 +1,8 @@
 -- A collect that ejects nothing and leaves nothing ripe.
-use Rattle.std.proofs.Common.{◌≡◌, ◌≢◌, inr, ℕ, ◌+◌, ◌<◌, ◌≤◌, Bool, true, false, List, [], ◌∷◌, ◌++◌, length, refl, ap, sym, ◌∙◌, subst, arith}
+use Rattle.std.proofs.Common.{◌≡◌, inl, ℕ, ◌+◌, ◌<◌, ◌≤◌, Bool, true, false, List, [], ◌∷◌, ◌++◌, length, refl, ap, sym, ◌∙◌, subst, arith}
 use Rattle.std.specs.Bool.{MatchBool}
-use Rattle.std.specs.Prelude.{◌↔◌, flat_map, if◌then◌else◌, is_some, IsNone, Option, None, Some}
+use Rattle.std.specs.Prelude.{◌↔◌, flat_map, if◌then◌else◌, is_some, nat_lt, IsNone, Option, None, Some}
+use Rattle.std.proofs.lemmas.Bool.Decides.{nat_tests}
 use Rattle.plain_state.specs.declared.slot.SlotId.{SlotId}
 use Rattle.plain_state.specs.Lists.{times}
 use Rattle.core_events.specs.declared.act.Act.TheVariants as act
@@ -24,6 +25,12 @@ use Rattle.slot_store.proofs.Ripening.{dying_announced}
 pub no_items : {A : Type 0} (xs : List A) → length xs ≡ 0 → xs ≡ []
 no_items [] none = refl
 no_items (x ∷ xs) none = absurd (omega arith)
+
+-- what no next one is told of is empty
+pub none_next : {A : Type 0} (xs : List A) (next : Option A) → (IsNone next ↔ (xs ≡ []))
+    → (more : Bool) → more ≡ is_some next → more ≡ false → xs ≡ []
+none_next xs None none more is off = none.0 refl
+none_next xs (Some x) none more is off = absurd (cc (is, off))
 
 scanned_dying : (z : Shape) (w : ℕ) (v : CoreView) → (scanned z w v).dying ≡ v.dying
 scanned_dying z w v = go (is_last z v) refl
@@ -59,7 +66,7 @@ module _ {P V : Type 0} {fits : List ℕ → Type 0} (d : DomainState P) where
         Walks fits d (scanned_by c.collects.seen c.collects.last (length new.view.core.retired)
         (length c.collects.payments) ++ flat_map paid_by ps) old new) none c.collects.goes.walks)
 
-    pub quiets : IsAtRest d old → length old.view.core.retired ≤ length new.view.core.retired
+    quiets : IsAtRest d old → length old.view.core.retired ≤ length new.view.core.retired
         → new.view.core.ripe ≡ [] → Quiets fits d old new
     quiets rest kept ripe =
         let fewer = c.collects.retired in
@@ -70,15 +77,20 @@ module _ {P V : Type 0} {fits : List ℕ → Type 0} (d : DomainState P) where
           none_ejected = ap (λ (x : Work). x.ejected) c.collects.did ∙ none;
           none_ripe = ripe;
           announced = λ s some.
-              dying_announced d old new rest c ripe s (subst (λ (ss : List SlotId). 0 < times s ss) dying some);
+              dying_announced d old new rest c ripe s
+              (subst (λ (ss : List SlotId). 0 < times s ss) dying some);
         }
 
-    goes_on : new.view.core.ripe ≢ [] → GoesOn fits d old new
-    goes_on some = record { collected = c; more = inr some }
-
-    -- where no entry was ejected, the next ripe slot tells whether there is more to do
-    pub tells_more : IsAtRest d old → length old.view.core.retired ≤ length new.view.core.retired
-        → (next : Option SlotId) → (IsNone next ↔ (new.view.core.ripe ≡ [])) → (more : Bool)
-        → more ≡ is_some next → MatchBool more (GoesOn fits d old new) (Quiets fits d old new)
-    tells_more rest kept None none more is = rw is (quiets rest kept (none.0 refl))
-    tells_more rest kept (Some s) none more is = rw is (goes_on (λ e. absurd (cc (none.1 e))))
+    -- where nothing is ripe, there is more to do exactly where an entry was ejected
+    pub tells_more : IsAtRest d old → new.view.core.ripe ≡ [] → (are were : ℕ)
+        → are ≡ length new.view.core.retired → were ≡ length old.view.core.retired
+        → MatchBool (nat_lt are were) (GoesOn fits d old new) (Quiets fits d old new)
+    tells_more rest none are were now before = go (nat_lt are were) refl
+      where
+        go : (more : Bool) → nat_lt are were ≡ more
+            → MatchBool more (GoesOn fits d old new) (Quiets fits d old new)
+        go true is =
+            let fewer : are < were = grind (arith, nat_tests) in
+            record { collected = c; more = inl (omega arith) }
+        go false is =
+            let kept : were ≤ are = grind (arith, nat_tests) in quiets rest (omega arith) none

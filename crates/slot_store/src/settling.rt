@@ -24,13 +24,16 @@ fn gathers<P: Protocol>(domain: &Domain<P>, seat: &mut Seat<P>) -> bool
 {
     let deferred = domain.deferred(seat);
     collect(domain, seat);
-    domain.deferred(seat) < deferred || domain.next_ripe(seat).is_some()
+    if domain.next_ripe(seat).is_some() {
+        return true;
+    }
+    domain.deferred(seat) < deferred
 }
 
 /// Destroys all that a seat which is alone can destroy: it reaps and collects by turns, until no slot is ripe and a
-/// collect ejects nothing. A slot that is still dying is then announced for disposal. Answers the weights of all slots
-/// that it destroyed, added up; the deleter is called on the payload of each. What only strong references among
-/// themselves keep, that is a cycle and what it leads to, stays.
+/// collect ejects nothing. Answers the weights of all slots that it destroyed, added up; the deleter is called once on
+/// the payload of each. What is left the seat's own snapshots keep, or strong references among the objects themselves,
+/// that is cycles and what they lead to.
 ///
 /// For E retired entries and L objects these are at most 2·E + 8·L + 2 turns, each of at most 21 steps and four
 /// collects.

@@ -88,6 +88,23 @@ fn make_before(
     Some(strong)
 }
 
+/// Has the first field of an object refer to the object itself, if the seat has an add left.
+fn tie(domain: &Domain<Records>, seat: &mut Seat<Records>, strong: &Strong) -> bool
+    requires rest { IsAtRest domain.now seat.old }
+    requires room { HasRoom seat.old.view.core }
+    requires owned { 0 < times strong.now.slot seat.old.view.core.owned }
+    ensures owned { 0 < times strong.now.slot seat.new.view.core.owned }
+    ensures room { HasRoom seat.new.view.core }
+    ensures rest { IsAtRest domain.now seat.new }
+{
+    let Ok(copy) = copy_strong(domain, seat, strong) else {
+        return false;
+    };
+    let field = EventPlace::Field(copy.slot(), 0);
+    exchange(domain, seat, field, Some(copy.slot()), AnyStep);
+    true
+}
+
 /// What a settle answers. `None` where the seat isn't alone.
 fn settle_alone<P: Protocol, F: Fn(&[u64; 16]) -> u64>(
     domain: &Domain<P>,
@@ -118,7 +135,6 @@ fn a_chain_is_destroyed_once(rt: HostRuntime) -> Result<(), Fail> {
     let last = make_heavy(&domain, &mut seat, 5).expect(&rt, "a free slot");
     let middle = make_before(&domain, &mut seat, 70, last).expect(&rt, "a free slot");
     let first = make_before(&domain, &mut seat, 900, middle).expect(&rt, "a free slot");
-    assert_eq!(rt; settle_alone(&domain, &mut seat, &deleter), Some(0));
     drop_strong(&domain, &mut seat, first);
     assert_eq!(rt; settle_alone(&domain, &mut seat, &deleter), Some(975));
     assert_eq!(rt; calls.get(), 3);
@@ -132,9 +148,7 @@ fn a_cycle_stays(rt: HostRuntime) -> Result<(), Fail> {
     let (domain, mut seat) = open_alone(&rt)?;
     let deleter: Deleter<FirstWord, _> = Deleter::keep(|payload: &[u64; 16]| payload[0]);
     let strong = make_heavy(&domain, &mut seat, 5).expect(&rt, "a free slot");
-    let copy = copy_strong(&domain, &mut seat, &strong).expect(&rt, "an add");
-    let field = EventPlace::Field(copy.slot(), 0);
-    exchange(&domain, &mut seat, field, Some(copy.slot()), AnyStep);
+    assert!(rt; tie(&domain, &mut seat, &strong));
     drop_strong(&domain, &mut seat, strong);
     assert_eq!(rt; settle_alone(&domain, &mut seat, &deleter), Some(0));
     Ok(())
