@@ -170,7 +170,8 @@ module _ {P V : Type 0} {fits : List ℕ → Type 0} (d : DomainState P) where
             let e = ap (λ (v : CoreView). length v.retired) r.sees.goes.becomes.core in omega arith;
       } in
       let k4 = known_then d r.null r.read k3 sees.lasts in
-      let all = parts_on d 3 0 old r.null r.read (parts_on d 2 1 old r.second r.null (parts_on d 1 1 old r.first r.second
+      let all = parts_on d 3 0 old r.null r.read
+      (parts_on d 2 1 old r.second r.null (parts_on d 1 1 old r.first r.second
       (parts_on d 0 1 old r.ripe r.first finds one) two) three) sees in
       let step = r.destroys.destroys in
       let there = destroy_there s r.read r.destroys.mid _ k4 step in

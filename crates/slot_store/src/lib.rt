@@ -5,8 +5,8 @@
 //! word by word and starts it with the client's deed. A reap destroys one object that has ended and that nobody is
 //! under a weak snapshot of: it leaves the fields null, reads the payload, of which a deleter tells the weight, and
 //! gives up the slot. A settle, by a seat that is alone, reaps and collects until nothing more may go. Their clauses
-//! say which events these are, in which order and with which answers, and what the seat has afterwards. The seat is in
-//! no call before, and in none afterwards. No call takes memory, and each returns.
+//! say which events these are, in which order and with which answers, and what the seat has afterwards. The seat is
+//! in no call before, and in none afterwards. No call takes memory, and each returns.
 //!
 //! It isn't promised which slot a make takes or a reap destroys, nor when a slot becomes free.
 //!

@@ -31,9 +31,9 @@ fn gathers<P: Protocol>(domain: &Domain<P>, seat: &mut Seat<P>) -> bool
 }
 
 /// Destroys all that a seat which is alone can destroy: it reaps and collects by turns, until no slot is ripe and a
-/// collect ejects nothing. Answers the weights of all slots that it destroyed, added up; the deleter is called once on
-/// the payload of each. What is left the seat's own snapshots keep, or strong references among the objects themselves,
-/// that is cycles and what they lead to.
+/// collect ejects nothing. Answers the weights of all slots that it destroyed, added up; the deleter is called once
+/// on the payload of each. Of what was retired or dying only that is left which snapshots of the seat's own keep.
+/// Strong references that go round in a cycle keep their objects, and what these lead to.
 ///
 /// For E retired entries and L objects these are at most 2·E + 8·L + 2 turns, each of at most 21 steps and four
 /// collects.
