@@ -1,5 +1,5 @@
 -- A reference that the seat puts into a field of a slot that it owns once more, for the proofs of tests.
-use Rattle.std.proofs.Common.{◌≡◌, inl, ⊎_elim, ℕ, ◌+◌, ◌<◌, List, [], ◌∷◌, ◌++◌, refl, ap, sym, ◌∙◌, subst, arith}
+use Rattle.std.proofs.Common.{◌≡◌, inl, ⊎_elim, ℕ, ◌+◌, ◌<◌, List, [], ◌∷◌, ◌++◌, refl, ap, sym, ◌∙◌, arith}
 use Rattle.std.specs.Prelude.{Option, Some}
 use Rattle.plain_state.specs.declared.act.EventPlace.TheVariants.{Field}
 use Rattle.plain_state.specs.declared.act.PlainAct.{PlainAct}
@@ -16,7 +16,6 @@ use Rattle.acquire_retire.specs.Domains.{DomainState}
 use Rattle.acquire_retire.specs.Seats.{SeatState}
 use Rattle.control_word.specs.Resting.{IsAtRest}
 use Rattle.retiring_stores.specs.Exchanging.{Swaps}
-use Rattle.slot_store.specs.Calls.{Makes}
 
 -- the seat owns one reference to s more than before
 module _ {P V : Type 0} (d : DomainState P) (s : SlotId) (old mid : SeatState V)

@@ -1,6 +1,6 @@
 -- Where nothing but fields refers to an object, another object that lives does.
-use Rattle.std.proofs.Common.{◌≡◌, ◌≢◌, ◌⊎◌, inl, inr, ⊎_elim, ℕ, zero, suc, ◌+◌, ◌-◌, ◌<◌, ◌≤◌, Bool, true, false, List, [], length, refl, ap, sym, ◌∙◌, subst, arith}
-use Rattle.std.specs.Prelude.{◌==◌, nat_lt, not, ◌||◌, Option, Some, None, slice_index, if◌then◌else◌}
+use Rattle.std.proofs.Common.{◌≡◌, ◌≢◌, ◌⊎◌, inl, inr, ⊎_elim, ℕ, zero, suc, ◌+◌, ◌-◌, ◌<◌, ◌≤◌, Bool, true, false, [], length, refl, ap, sym, ◌∙◌, arith}
+use Rattle.std.specs.Prelude.{◌==◌, nat_lt, Some, slice_index, if◌then◌else◌}
 use Rattle.std.proofs.lemmas.Bool.{cases_eq, cases_lt}
 use Rattle.std.proofs.lemmas.Bool.Decides.{nat_tests}
 use Rattle.plain_state.specs.declared.slot.Kind.TheVariants.{Strong}
@@ -8,18 +8,17 @@ use Rattle.plain_state.specs.declared.slot.PlainSlot.{PlainSlot}
 use Rattle.plain_state.specs.declared.slot.SlotId.{SlotId}
 use Rattle.plain_state.specs.declared.slot.Stage.{Stage}
 use Rattle.plain_state.specs.declared.slot.Stage.TheVariants.{Free, Blank, Live, Ended, Husk}
-use Rattle.plain_state.specs.Lists.{Entry, entry_times, times}
-use Rattle.plain_state.specs.State.{slot_at, stage_at}
+use Rattle.plain_state.specs.Lists.{entry_times, times}
+use Rattle.plain_state.specs.State.{stage_at}
 use Rattle.core_events.specs.declared.shape.Shape.{Shape}
 use Rattle.core_events.specs.declared.view.CoreView.{CoreView}
-use Rattle.core_events.specs.declared.view.Phase.{Phase}
 use Rattle.core_events.specs.declared.view.Phase.TheVariants as phase
 use Rattle.core_events.specs.Counts.{Signs, fields_holding, finishers, finishing, helpers, helping, in_word, is_live_word, listed, places, dying_times, signs, stage, stage_of, strong, sum_below, total}
-use Rattle.core_events.specs.Good.{Good, SeatLaw}
+use Rattle.core_events.specs.Good.{SeatLaw}
 use Rattle.core_events.specs.Runs.{Core, HasNullFields, view_at}
 use Rattle.core_events.specs.Shows.{shows}
 use Rattle.core_events.specs.Words.{cell_at, field_at, slot_in}
-use Rattle.counter_word.specs.Words.{ZERO, has_help, value}
+use Rattle.counter_word.specs.Words.{has_help, value}
 use Rattle.core_invariant.specs.Sound.{Sound}
 use Rattle.core_invariant.proofs.Kit.{below_none, entry_none, slot_eq, times_none}
 use Rattle.core_invariant.proofs.Parts.{sound_good}

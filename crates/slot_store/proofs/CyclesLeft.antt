@@ -1,6 +1,6 @@
 -- A seat that is alone and has settled leaves only cycles where nothing else refers to an object.
 use Rattle.std.proofs.Common.{◌≡◌, ℕ, zero, suc, ◌+◌, ◌-◌, ◌<◌, ◌≤◌, Bool, true, false, List, [], ◌∷◌, refl, ap, sym, ◌∙◌, subst, arith}
-use Rattle.std.specs.Prelude.{◌==◌, Option, Some, None, slice_index, slice_index_or, if◌then◌else◌}
+use Rattle.std.specs.Prelude.{◌==◌, Option, Some, None, slice_index}
 use Rattle.std.specs.Option.{option_map}
 use Rattle.std.proofs.lemmas.Bool.Decides.{nat_tests}
 use Rattle.plain_state.specs.declared.slot.Kind.{Kind}
@@ -16,7 +16,7 @@ use Rattle.core_events.specs.Shows.{shows}
 use Rattle.core_events.specs.Views.{snapshots}
 use Rattle.core_events.specs.Words.{cell_at, slot_in}
 use Rattle.core_invariant.proofs.Each.{get_each}
-use Rattle.core_invariant.proofs.Kit.{entry_cons, entry_none, entry_one, kind_one, one_same, times_none}
+use Rattle.core_invariant.proofs.Kit.{entry_cons, entry_none, entry_one, kind_one, one_same}
 use Rattle.domain_rule.specs.declared.view.Whole.{Whole}
 use Rattle.domain_rule.specs.Views.{core_in}
 use Rattle.acquire_retire.specs.Domains.{DomainState}

@@ -24,7 +24,7 @@ use Rattle.domain_rule.specs.Rule.{IsTrueOf}
 use Rattle.domain_rule.proofs.Objects.{object_at}
 use Rattle.acquire_retire.specs.declared.payment.Payment.{Payment}
 use Rattle.acquire_retire.specs.declared.payment.Payment.TheVariants as payment
-use Rattle.acquire_retire.specs.Calls.{IsSameView, Steps, same_view}
+use Rattle.acquire_retire.specs.Calls.{Steps}
 use Rattle.acquire_retire.specs.Collecting.{Walks, move, paid_by, read_by, scanned_by}
 use Rattle.acquire_retire.specs.Domains.{DomainState}
 use Rattle.acquire_retire.specs.Seats.{SeatState}
@@ -33,7 +33,7 @@ use Rattle.control_word.proofs.Finding.{seat_there, sound_before}
 use Rattle.retiring_stores.specs.Scanning.{Collected}
 use Rattle.slot_store.specs.Reaping.{KnowsBoth, seen_by}
 use Rattle.slot_store.specs.Settling.{objects_known}
-use Rattle.slot_store.proofs.Objects.{IsSettling, below_less, below_most, known_after, known_before, known_still, object_stays, sound_later, stands_still}
+use Rattle.slot_store.proofs.Objects.{IsSettling, below_most, known_after, known_before, known_still, object_stays, sound_later, stands_still}
 use Rattle.slot_store.proofs.Telling.{slot_there}
 
 -- all that the view of the seat says is so of the core that it knows

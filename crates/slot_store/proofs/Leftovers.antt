@@ -1,17 +1,14 @@
 -- What is left after a collect that ejected nothing, made by a seat that is alone.
-use Rattle.std.proofs.Common.{◌≡◌, ◌≢◌, ℕ, ◌+◌, ◌<◌, ◌≤◌, List, [], ◌∷◌, ◌++◌, length, refl, ap, sym, ◌∙◌, subst, arith, append_assoc}
-use Rattle.std.specs.Prelude.{IsSome, flat_map, min, if◌then◌else◌}
+use Rattle.std.proofs.Common.{◌≡◌, ℕ, ◌≤◌, List, [], ◌∷◌, ◌++◌, length, refl, ap, sym, ◌∙◌, subst, arith, append_assoc}
+use Rattle.std.specs.Prelude.{IsSome, flat_map}
 use Rattle.plain_state.specs.declared.slot.Kind.{Kind}
 use Rattle.plain_state.specs.declared.slot.Kind.TheVariants.{Disposal}
 use Rattle.plain_state.specs.declared.slot.SlotId.{SlotId}
 use Rattle.plain_state.specs.Ejection.{kept}
-use Rattle.plain_state.specs.Lists.{Entry, entry_times, times}
+use Rattle.plain_state.specs.Lists.{entry_times}
 use Rattle.plain_state.proofs.Ejections.{kept_times}
 use Rattle.announce_slots.specs.Seen.{announced_in}
-use Rattle.core_events.specs.declared.act.Act.TheVariants as act
-use Rattle.core_events.specs.declared.outcome.Outcome.TheVariants as outcome
 use Rattle.core_events.specs.declared.view.CoreView.{CoreView}
-use Rattle.core_events.specs.declared.view.Note.{Note}
 use Rattle.core_events.specs.Steps.{is_last}
 use Rattle.core_events.specs.Views.{snapshots, valid_of}
 use Rattle.acquire_retire.specs.declared.payment.Payment.{Payment}

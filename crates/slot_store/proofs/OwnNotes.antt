@@ -1,6 +1,6 @@
 -- What a scan reads while its seat is alone: the words of its own notes, and else nothing.
-use Rattle.std.proofs.Common.{◌≡◌, ◌≢◌, ⊎_elim, ℕ, zero, suc, ◌+◌, ◌*◌, ◌/◌, ◌%◌, ◌<◌, ◌≤◌, Bool, true, false, List, [], ◌∷◌, ◌++◌, length, get_or, refl, ap, sym, ◌∙◌, subst, arith}
-use Rattle.std.specs.Prelude.{IsSome, slice_index, if◌then◌else◌}
+use Rattle.std.proofs.Common.{◌≡◌, ◌≢◌, ⊎_elim, ℕ, suc, ◌+◌, ◌*◌, ◌/◌, ◌%◌, ◌<◌, ◌≤◌, Bool, true, false, List, [], ◌∷◌, ◌++◌, length, get_or, refl, ap, sym, ◌∙◌, subst, arith}
+use Rattle.std.specs.Prelude.{IsSome, slice_index}
 use Rattle.std.proofs.lemmas.Bool.{cases_eq, cases_lt}
 use Rattle.std.proofs.lemmas.List.{get_or_past, length-append}
 use Rattle.plain_state.specs.declared.slot.Kind.{Kind}
@@ -21,7 +21,7 @@ use Rattle.core_events.specs.Good.{SeatLaw, word_of_note}
 use Rattle.core_events.specs.Runs.{view_at}
 use Rattle.core_events.specs.Steps.{is_last, scanned}
 use Rattle.core_events.specs.Views.{note_of, valid_of}
-use Rattle.core_invariant.proofs.Kit.{entry_cons, entry_none, entry_one, kind_one, one_same}
+use Rattle.core_invariant.proofs.Kit.{entry_cons, entry_one, one_same}
 use Rattle.acquire_retire.specs.Calls.{IsSameView, Steps, same_view}
 use Rattle.acquire_retire.specs.Collecting.{Walks, scanned_by}
 use Rattle.acquire_retire.specs.Domains.{DomainState}

@@ -1,7 +1,7 @@
 -- A collect that ejects nothing and leaves nothing ripe.
-use Rattle.std.proofs.Common.{◌≡◌, inl, ℕ, ◌+◌, ◌<◌, ◌≤◌, Bool, true, false, List, [], ◌∷◌, ◌++◌, length, refl, ap, sym, ◌∙◌, subst, arith}
+use Rattle.std.proofs.Common.{◌≡◌, inl, ℕ, ◌<◌, ◌≤◌, Bool, true, false, List, [], ◌∷◌, ◌++◌, length, refl, ap, ◌∙◌, subst, arith}
 use Rattle.std.specs.Bool.{MatchBool}
-use Rattle.std.specs.Prelude.{◌↔◌, flat_map, if◌then◌else◌, is_some, nat_lt, IsNone, Option, None, Some}
+use Rattle.std.specs.Prelude.{◌↔◌, flat_map, is_some, nat_lt, IsNone, Option, None, Some}
 use Rattle.std.proofs.lemmas.Bool.Decides.{nat_tests}
 use Rattle.plain_state.specs.declared.slot.SlotId.{SlotId}
 use Rattle.plain_state.specs.Lists.{times}
@@ -18,7 +18,6 @@ use Rattle.acquire_retire.specs.Domains.{DomainState}
 use Rattle.acquire_retire.specs.Seats.{SeatState}
 use Rattle.control_word.specs.Resting.{IsAtRest}
 use Rattle.retiring_stores.specs.Scanning.{Collected}
-use Rattle.slot_store.specs.Reaping.{Waits}
 use Rattle.slot_store.specs.Settling.{GoesOn, Quiets}
 use Rattle.slot_store.proofs.Ripening.{dying_announced}
 

@@ -1,9 +1,8 @@
 -- The turns of a settle, put together.
-use Rattle.std.proofs.Common.{◌≡◌, inl, inr, ⊎_elim, ℕ, ◌+◌, ◌*◌, ◌^◌, ◌<◌, ◌≤◌, List, [], ◌∷◌, length, refl, ap, sym, ◌∙◌, subst, arith}
+use Rattle.std.proofs.Common.{◌≡◌, inl, inr, ⊎_elim, ℕ, ◌+◌, ◌*◌, ◌^◌, ◌<◌, ◌≤◌, List, [], ◌∷◌, length, refl, ap, ◌∙◌, arith}
 use Rattle.std.specs.Prelude.{Option, None, Some, IsSome, sum_by}
 use Rattle.std.proofs.lemmas.List.Sums.{sum_by-cons}
 use Rattle.core_events.specs.declared.view.CoreView.{CoreView}
-use Rattle.core_events.specs.declared.view.LeftSeat.{LeftSeat}
 use Rattle.core_events.specs.Counts.{stage}
 use Rattle.core_events.specs.Steps.{HasRoom}
 use Rattle.domain_rule.specs.Views.{IsAlone}
@@ -16,7 +15,7 @@ use Rattle.slot_store.specs.Leftovers.{IsQuiet, LeavesCycles}
 use Rattle.slot_store.specs.Reaping.{Answers, KnowsBoth, Reaps, Waits}
 use Rattle.slot_store.specs.Settling.{GoesOn, Quiets, Settles, Turns, objects_known, weight_of}
 use Rattle.slot_store.proofs.CyclesLeft.{leaves_cycles}
-use Rattle.slot_store.proofs.Lasting.{Lasts, MayLast, collect_lasts, known_then, lasts_on, lasts_then, may_last_on, objects_last, objects_may, stands, then_lasts, knows_last}
+use Rattle.slot_store.proofs.Lasting.{Lasts, MayLast, collect_lasts, known_then, may_last_on, objects_last, objects_may, stands, then_lasts, knows_last}
 use Rattle.slot_store.proofs.Leftovers.{is_quiet}
 use Rattle.slot_store.proofs.Objects.{below_ones, standing_most}
 use Rattle.slot_store.proofs.Passing.{passes_collect}

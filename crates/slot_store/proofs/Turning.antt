@@ -1,7 +1,7 @@
 -- What is left to do after each turn of a settle: an entry or an object fewer, or a slot that is ripe at last.
-use Rattle.std.proofs.Common.{◌≡◌, ◌≢◌, ◌⊎◌, inl, inr, ⊎_elim, ℕ, ◌+◌, ◌*◌, ◌^◌, ◌<◌, ◌≤◌, Bool, true, false, List, [], ◌∷◌, ◌++◌, length, refl, ap, sym, ◌∙◌, subst, arith}
+use Rattle.std.proofs.Common.{◌≡◌, ◌≢◌, inl, inr, ⊎_elim, ℕ, ◌+◌, ◌*◌, ◌<◌, ◌≤◌, Bool, true, false, List, [], ◌∷◌, length, refl, ap, sym, subst, arith}
 use Rattle.std.specs.Bool.{MatchBool}
-use Rattle.std.specs.Prelude.{Option, None, Some, IsSome, if◌then◌else◌}
+use Rattle.std.specs.Prelude.{Option, None, Some, IsSome}
 use Rattle.std.proofs.lemmas.List.{length-append}
 use Rattle.plain_state.specs.declared.act.EventPlace.{EventPlace}
 use Rattle.plain_state.specs.declared.act.EventPlace.TheVariants.{Field, WeakField}
@@ -20,9 +20,9 @@ use Rattle.acquire_retire.specs.Calls.{IsSameView, Steps, same_view}
 use Rattle.acquire_retire.specs.Domains.{DomainState}
 use Rattle.acquire_retire.specs.Seats.{SeatState}
 use Rattle.retiring_stores.specs.Scanning.{Collected, IsBelow, IsDue}
-use Rattle.slot_store.specs.Reaping.{Answers, Clears, Destroys, FindsRipe, Reaps, Waits}
+use Rattle.slot_store.specs.Reaping.{Answers, Clears, FindsRipe, Reaps, Waits}
 use Rattle.slot_store.specs.Settling.{GoesOn, objects_known}
-use Rattle.slot_store.proofs.Lasting.{Lasts, MayLast, collect_lasts, destroy_stands, known_then, lasts_on, lasts_then, may_last_on, objects_last, objects_may, sees_last, stands, step_lasts, then_lasts}
+use Rattle.slot_store.proofs.Lasting.{Lasts, MayLast, collect_lasts, destroy_stands, known_then, lasts_then, may_last_on, objects_last, objects_may, sees_last, stands, step_lasts, then_lasts}
 use Rattle.slot_store.proofs.Objects.{below_less}
 use Rattle.slot_store.proofs.Passing.{listed_has}
 use Rattle.slot_store.proofs.Telling.{slot_there}

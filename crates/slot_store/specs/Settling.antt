@@ -1,5 +1,5 @@
 -- How a seat that is alone settles, turn by turn, and when nothing more may go.
-use Rattle.std.specs.Prelude.{ℕ, ◌≡◌, ◌≢◌, ◌⊎◌, ◌+◌, ◌*◌, ◌<◌, ◌≤◌, List, [], ◌∷◌, ◌++◌, length, sum_by, Option, Some, None, IsSome}
+use Rattle.std.specs.Prelude.{ℕ, ◌≡◌, ◌≢◌, ◌⊎◌, ◌+◌, ◌*◌, ◌<◌, ◌≤◌, List, [], ◌∷◌, ◌++◌, length, sum_by, Option, Some, None}
 use Rattle.plain_state.specs.declared.slot.Kind.TheVariants.{Disposal}
 use Rattle.plain_state.specs.declared.slot.SlotId.{SlotId}
 use Rattle.plain_state.specs.Lists.{times}
@@ -12,7 +12,7 @@ use Rattle.acquire_retire.specs.Domains.{DomainState}
 use Rattle.acquire_retire.specs.Seats.{SeatState}
 use Rattle.acquire_retire.specs.Wholes.{known_core}
 use Rattle.retiring_stores.specs.Scanning.{Collected}
-use Rattle.slot_store.specs.Reaping.{Answers, Waits}
+use Rattle.slot_store.specs.Reaping.{Answers}
 
 -- how many slots have an object that isn't destroyed
 abbrev pub objects_in : Shape → Core → ℕ
