@@ -56,6 +56,7 @@ pub fn settle<P: Protocol, F: Fn(&[u64; 16]) -> u64>(
     ensures room { HasRoom seat.new.view.core }
     ensures rest { IsAtRest domain.now seat.new }
 {
+    // The question tells that a seat which is alone knows the whole core, and so what is left to destroy.
     let _alone = domain.alone(seat);
     let mut weights = 0;
     loop {
