@@ -18,7 +18,6 @@ use Rattle.acquire_retire.specs.Seats.{SeatState}
 use Rattle.control_word.proofs.Owning.{some_more}
 use Rattle.protected_loads.specs.Loads.{FindsNull, Misses, Protects}
 use Rattle.protected_loads.specs.References.{Loads, loaded_by, with_reference}
-use Rattle.protected_loads.specs.Retries.{LoadsAtLast}
 
 -- a reference more takes no room
 room_beside : (k : Kind) (s : SlotId) (v : CoreView) (t : List Move) → HasRoom v
@@ -66,8 +65,3 @@ module _ {P V : Type 0} {fits : List ℕ → Type 0} {d : DomainState P} (place 
   loaded_owned (Some s) refers =
       subst (CanGive (place_kind place) (Some s)) (sym refers.core)
       (given_on place s old.view.core (old.view.core.trail ++ loaded_by place s))
-
-  pub at_last_room : (found : Option SlotId) → LoadsAtLast fits d place next allows found old new
-      → (HasRoom at.mid.view.core → HasRoom new.view.core) → HasRoom old.view.core
-      → HasRoom new.view.core
-  at_last_room found at more room = more (subst HasRoom (sym at.core) room)

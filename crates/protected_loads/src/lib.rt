@@ -28,6 +28,6 @@ mod where_null;
 
 pub use acquire_retire::SlotId;
 pub use acquiring::{Moved, acquire};
-pub use loading::try_load;
-pub use retrying::load;
+pub use loading::{in_words, try_load};
+pub use retrying::{acquire_at_last, load};
 pub use where_null::WhereNull;

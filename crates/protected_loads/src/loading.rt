@@ -87,8 +87,8 @@ pub(crate) fn load_once<P: Protocol, D: Deed<P>>(
     Ok(found)
 }
 
-/// The same contents as words of the place.
-fn in_words(moved: Moved) -> LoadError
+/// The same contents as words of the place, in the refusal of a load.
+pub fn in_words(moved: Moved) -> LoadError
     ensures words { (seen now : ℕ) → result ≡ refused.Moved seen now
         → (slot_in seen ≡ moved.seen) × (slot_in now ≡ moved.now) }
     ensures moves { result ≡ refused.Spent → ⊥ }
