@@ -9,7 +9,7 @@ use Rattle.core_events.specs.declared.view.Move.{Move}
 use Rattle.acquire_retire.specs.Domains.{DomainState}
 use Rattle.acquire_retire.specs.Seats.{SeatState}
 use Rattle.protected_loads.specs.Loads.{Acquires, IsReadyToAcquire, Misses, missed_by}
-use Rattle.protected_loads.specs.References.{IsReadyToLoad, Loads}
+use Rattle.protected_loads.specs.References.{Loads}
 
 -- a try that was lost: the slot that it announced, and what the place held then
 pub record Lost : Type 0 where
@@ -31,16 +31,14 @@ module _ {P V : Type 0} (fits : List ℕ → Type 0) (d : DomainState P) (place 
       (mid : SeatState V) × Loses j ts old mid
       × Misses fits d j place next allows (Some t.slot) t.now mid new
 
-  -- the deed is ready for a load, and for an acquire by note j, after whatever tries were lost
-  abbrev pub IsReadyToRetry : (OwnPart → V → PlainAct → Type 0) → SeatState V → Type 0
-  IsReadyToRetry ready old =
-      (ts : List Lost) (mid : SeatState V) → Loses 0 ts old mid
-      → IsReadyToLoad fits d place ready mid
-
+  -- the deed is ready for an acquire by note j, and for a load, after whatever tries were lost
   abbrev pub IsReadyToReacquire : ℕ → (OwnPart → V → PlainAct → Type 0) → SeatState V → Type 0
   IsReadyToReacquire j ready old =
       (ts : List Lost) (mid : SeatState V) → Loses j ts old mid
       → IsReadyToAcquire fits d j place ready mid
+
+  abbrev pub IsReadyToRetry : (OwnPart → V → PlainAct → Type 0) → SeatState V → Type 0
+  IsReadyToRetry = IsReadyToReacquire 0
 
   -- it has lost some tries by note j, by which only its trail has grown, and the last one went so
   pub record AtLast (j : ℕ) (Goes : SeatState V → SeatState V → Type 0) (old new : SeatState V)
