@@ -1,6 +1,6 @@
 -- What a load leaves: the room for entries to retire, and a reference that can be given on.
 use Rattle.std.proofs.Common.{ℕ, List, refl, sym, subst, ◌++◌, ◌∷◌, []}
-use Rattle.std.specs.Prelude.{Option, Some, None}
+use Rattle.std.specs.Prelude.{◌≡◌, IfSome, Option, Some, None}
 use Rattle.plain_state.specs.declared.act.EventPlace.{EventPlace}
 use Rattle.plain_state.specs.declared.act.EventPlace.TheVariants.{Cell, Field, WeakCell, WeakField}
 use Rattle.plain_state.specs.declared.act.PlainAct.{PlainAct}
@@ -16,7 +16,7 @@ use Rattle.core_events.specs.Steps.{CanGive, HasRoom}
 use Rattle.acquire_retire.specs.Domains.{DomainState}
 use Rattle.acquire_retire.specs.Seats.{SeatState}
 use Rattle.control_word.proofs.Owning.{some_more}
-use Rattle.protected_loads.specs.Loads.{FindsNull, Misses, Protects}
+use Rattle.protected_loads.specs.Loads.{Acquires, FindsNull, Misses, Protects}
 use Rattle.protected_loads.specs.References.{Loads, loaded_by, with_reference}
 
 -- a reference more takes no room
@@ -51,9 +51,12 @@ module _ {P V : Type 0} {fits : List ℕ → Type 0} {d : DomainState P} (place 
       → HasRoom new.view.core
   missed_room j seen now misses = subst HasRoom (sym misses.core)
 
+module _ {P V : Type 0} (fits : List ℕ → Type 0) (d : DomainState P) (place : EventPlace)
+    (next : OwnPart → OwnPart → V → PlainAct → ℕ → V)
+    (allows : Plain → Plain → ℕ → V → V → Type 0) (old new : SeatState V) where
   pub loaded_room : (found : Option SlotId) → Loads fits d place next allows found old new
       → HasRoom old.view.core → HasRoom new.view.core
-  loaded_room None null room = null_room null room
+  loaded_room None null room = null_room place old new null room
   loaded_room (Some s) refers room =
       subst HasRoom (sym refers.core)
       (room_beside (place_kind place) s old.view.core
@@ -65,3 +68,11 @@ module _ {P V : Type 0} {fits : List ℕ → Type 0} {d : DomainState P} (place 
   loaded_owned (Some s) refers =
       subst (CanGive (place_kind place) (Some s)) (sym refers.core)
       (given_on place s old.view.core (old.view.core.trail ++ loaded_by place s))
+
+  -- what was found tells which of both an acquire did
+  pub acquires : (j : ℕ) (found : Option SlotId)
+      → (found ≡ None → FindsNull fits d place next allows old new)
+      → IfSome found (λ s. Protects fits d j place next allows s old new)
+      → Acquires fits d j place next allows found old new
+  acquires j None null protects = null refl
+  acquires j (Some s) null protects = protects

@@ -21,6 +21,7 @@
 
 mod acquiring;
 mod loading;
+mod reacquiring;
 mod retrying;
 #[cfg(test)]
 mod tests;
@@ -29,5 +30,6 @@ mod where_null;
 pub use acquire_retire::SlotId;
 pub use acquiring::{Moved, acquire};
 pub use loading::{in_words, try_load};
-pub use retrying::{acquire_at_last, load};
+pub use reacquiring::acquire_at_last;
+pub use retrying::load;
 pub use where_null::WhereNull;

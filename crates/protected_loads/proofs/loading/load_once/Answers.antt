@@ -45,10 +45,14 @@ returns-in-Some-clause-rest g c =
 
 pub returns-in-Some-clause-owned : goal.returns-in-Some-clause-owned
 returns-in-Some-clause-owned g c =
-    loaded_owned c.args.place c.args.seat.now c.release.new.seat (Some c.in-Some.slot)
-    (returns-in-Some-clause-loaded g c)
+    loaded_owned g.P.Kind.PayloadKind.fits c.args.domain.now c.args.place
+    (g.D.Deed.next c.args.deed c.args.domain.now.protocol)
+    (g.D.Deed.allows c.args.deed c.args.domain.now.protocol) c.args.seat.now c.release.new.seat
+    (Some c.in-Some.slot) (returns-in-Some-clause-loaded g c)
 
 pub returns-in-Some-clause-room : goal.returns-in-Some-clause-room
 returns-in-Some-clause-room g c =
-    loaded_room c.args.place c.args.seat.now c.release.new.seat (Some c.in-Some.slot)
-    (returns-in-Some-clause-loaded g c)
+    loaded_room g.P.Kind.PayloadKind.fits c.args.domain.now c.args.place
+    (g.D.Deed.next c.args.deed c.args.domain.now.protocol)
+    (g.D.Deed.allows c.args.deed c.args.domain.now.protocol) c.args.seat.now c.release.new.seat
+    (Some c.in-Some.slot) (returns-in-Some-clause-loaded g c)

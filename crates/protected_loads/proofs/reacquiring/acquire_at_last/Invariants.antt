@@ -1,5 +1,5 @@
 use Rattle.protected_loads.proofs.Losing.{HasLost}
-use Rattle.protected_loads.proofs.retrying.acquire_at_last.Given as goal
+use Rattle.protected_loads.proofs.reacquiring.acquire_at_last.Given as goal
 
 abbrev pub invariant-loop : goal.invariant-loop
 invariant-loop g l =
