@@ -5,7 +5,6 @@ use Rattle.std.proofs.lemmas.Bool.Decides.{nat_tests}
 use Rattle.plain_state.specs.declared.slot.Kind.{Kind}
 use Rattle.plain_state.specs.declared.slot.Kind.TheVariants.{Strong, Weak, Disposal}
 use Rattle.plain_state.specs.declared.slot.SlotId.{SlotId}
-use Rattle.plain_state.specs.Lists.{entry_times}
 use Rattle.plain_state.proofs.Kit.{entry_loses}
 use Rattle.plain_protocol.specs.Owns.{HasSlot}
 use Rattle.core_events.specs.declared.act.Act.TheVariants as act

@@ -1,7 +1,6 @@
 -- Which snapshots a seat stays under.
-use Rattle.std.proofs.Common.{◌≡◌, ◌≢◌, ⊎_elim, ℕ, ◌<◌, ◌≤◌, ◌+◌, Bool, true, false, List, [], ◌∷◌, ◌++◌, length, refl, ap, sym, ◌∙◌, subst, arith}
+use Rattle.std.proofs.Common.{◌≡◌, ◌≢◌, ℕ, ◌<◌, ◌≤◌, Bool, true, false, List, length, refl, ap, ◌∙◌, arith}
 use Rattle.std.specs.Prelude.{Option, Some, None, slice_set}
-use Rattle.std.proofs.lemmas.Bool.{cases_eq}
 use Rattle.plain_state.specs.declared.slot.Kind.{Kind}
 use Rattle.plain_state.specs.declared.slot.Kind.TheVariants.{Strong, Weak, Disposal}
 use Rattle.plain_state.specs.declared.slot.SlotId.{SlotId}
@@ -17,7 +16,7 @@ use Rattle.control_word.specs.Calls.{with_ended, with_strong, without_strong}
 use Rattle.protected_loads.specs.References.{with_reference}
 use Rattle.protected_loads.proofs.Noting.{beside}
 use Rattle.snapshot_ptr.specs.Ending.{KeepsOthers}
-use Rattle.snapshot_ptr.specs.Handles.{IsHeldBy, IsUnder, Snap, StaysUnder}
+use Rattle.snapshot_ptr.specs.Handles.{IsHeldBy, IsUnder, StaysUnder}
 
 -- a seat with w owns what one with v owned, and its snapshots stand in the same words
 pub record Grows (v w : CoreView) : Type 0 where

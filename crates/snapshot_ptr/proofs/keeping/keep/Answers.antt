@@ -14,9 +14,11 @@ use Rattle.snapshot_ptr.proofs.keeping.keep.Goals as goal
 pub add-requires-clause-may : goal.add-requires-clause-may
 add-requires-clause-may g c =
     let strongly = has_strongly c.args.snapshot.now c.args.seat.now.view.core c.requires.under in
-    let holds : Holds c.args.seat.now.view.core c.args.snapshot.now.slot = omega arith in
-    ((c.requires.rest.idle), omega arith,
-      subst (Holds c.args.seat.now.view.core) (sym c.slot-slot.ensures) holds)
+    let holds : Holds c.args.seat.now.view.core c.args.snapshot.now.slot = omega arith in (
+      (c.requires.rest.idle),
+      omega arith,
+      subst (Holds c.args.seat.now.view.core) (sym c.slot-slot.ensures) holds,
+    )
 
 pub returns-clause-kept : goal.returns-clause-kept
 returns-clause-kept g c = (
