@@ -2,7 +2,7 @@
 ghost use Rattle.std.specs.Prelude.{ℕ, ◌≡◌, ◌^◌, ◌≤◌, ⊤, IfOk, IsTrue};
 ghost use Rattle.protected_loads.specs.Trials.{IsFree, IsFresh, weightless};
 
-use crate::{Snapshot, counted, end, keep, snapshot, try_snapshot};
+use crate::{counted, end, keep, snapshot, try_snapshot};
 use acquire_retire::{Domain, OpenError, Outcome, Quota, Seat, Shape, SlotId, open_domain};
 use counted_handles::{LoadError, Place, Spent};
 use plain_protocol::{AnyStep, NoLaw};
@@ -75,34 +75,49 @@ fn a_place_that_is_null_has_no_snapshot(rt: HostRuntime) -> Result<(), Fail> {
     Ok(())
 }
 
-/// Three uncounted snapshots and a counted one.
 #[test]
-fn a_fourth_snapshot_is_counted(rt: HostRuntime) -> Result<(), Fail> {
-    let (domain, mut seat) = open_alone(&rt, 3)?;
+fn a_snapshot_is_kept_and_ended(rt: HostRuntime) -> Result<(), Fail> {
+    let (domain, mut seat) = open_alone(&rt, 2)?;
     if !publish(&domain, &mut seat) {
         panic!(rt; "a free slot");
     }
-    let Ok(Some(first)) = try_snapshot(&domain, &mut seat, CELL, AnyStep) else {
+    let Ok(Some(seen)) = try_snapshot(&domain, &mut seat, CELL, AnyStep) else {
+        panic!(rt; "a snapshot");
+    };
+    assert_eq!(rt; (seen.slot(), counted(&seen)), (SLOT, false));
+    assert_eq!(rt; domain.free_note(&seat), Some(2));
+    let Ok(strong) = keep(&domain, &mut seat, &seen) else {
+        panic!(rt; "an add is left");
+    };
+    assert_eq!(rt; strong.slot(), SLOT);
+    end(&domain, &mut seat, seen);
+    assert_eq!(rt; domain.free_note(&seat), Some(1));
+    Ok(())
+}
+
+/// The object takes the first of two adds, and the fourth snapshot the second.
+#[test]
+fn a_fourth_snapshot_is_counted(rt: HostRuntime) -> Result<(), Fail> {
+    let (domain, mut seat) = open_alone(&rt, 2)?;
+    if !publish(&domain, &mut seat) {
+        panic!(rt; "a free slot");
+    }
+    let Ok(Some(first)) = snapshot(&rt, &domain, &mut seat, CELL, AnyStep) else {
         panic!(rt; "a snapshot");
     };
     let Ok(Some(second)) = snapshot(&rt, &domain, &mut seat, CELL, AnyStep) else {
         panic!(rt; "a snapshot");
     };
-    let Ok(Some(third)) = try_snapshot(&domain, &mut seat, CELL, AnyStep) else {
+    let Ok(Some(third)) = snapshot(&rt, &domain, &mut seat, CELL, AnyStep) else {
         panic!(rt; "a snapshot");
     };
-    assert_eq!(rt; domain.free_note(&seat), None);
-    assert_eq!(rt; domain.adds(&seat), 1);
-    let Ok(Some(fourth)) = snapshot(&rt, &domain, &mut seat, CELL, AnyStep) else {
+    assert!(rt; !counted(&first) && !counted(&second) && !counted(&third));
+    assert_eq!(rt; (domain.free_note(&seat), domain.adds(&seat)), (None, 1));
+    let Ok(Some(fourth)) = try_snapshot(&domain, &mut seat, CELL, AnyStep) else {
         panic!(rt; "a snapshot");
     };
-    assert!(rt; !counted(&first) && !counted(&second) && !counted(&third) && counted(&fourth));
-    assert_eq!(rt; domain.adds(&seat), 2);
-    let Ok(strong) = keep(&domain, &mut seat, &second) else {
-        panic!(rt; "an add is left");
-    };
-    assert_eq!(rt; strong.slot(), SLOT);
-    let Err(Spent) = keep(&domain, &mut seat, &first) else {
+    assert_eq!(rt; (counted(&fourth), domain.adds(&seat)), (true, 2));
+    let Err(Spent) = keep(&domain, &mut seat, &fourth) else {
         panic!(rt; "no add is left");
     };
     let Err(LoadError::Spent) = try_snapshot(&domain, &mut seat, CELL, AnyStep) else {
@@ -112,10 +127,6 @@ fn a_fourth_snapshot_is_counted(rt: HostRuntime) -> Result<(), Fail> {
         panic!(rt; "no word and no add is left");
     };
     end(&domain, &mut seat, fourth);
-    end(&domain, &mut seat, second);
-    assert_eq!(rt; domain.free_note(&seat), Some(2));
-    end(&domain, &mut seat, first);
-    end(&domain, &mut seat, third);
-    assert_eq!(rt; domain.free_note(&seat), Some(1));
+    assert_eq!(rt; domain.free_note(&seat), None);
     Ok(())
 }
