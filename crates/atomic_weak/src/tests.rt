@@ -1,13 +1,14 @@
 //! The calls on a domain of one seat with one object, once as expected and once for each refusal.
-ghost use Rattle.std.specs.Prelude.{◌≡◌, ◌≤◌, ⊤, IfOk, IfSome};
+ghost use Rattle.std.specs.Prelude.{◌≡◌, ◌^◌, ◌≤◌, ⊤, IfOk, IfSome};
 ghost use Rattle.core_events.specs.declared.act.Act.TheVariants as act;
 ghost use Rattle.core_events.specs.Steps.{May};
 ghost use Rattle.control_word.specs.Resting.{IsAtRest};
-ghost use Rattle.retiring_stores.specs.Trials.{HasMade, IsFresh, weightless};
+ghost use Rattle.retiring_stores.specs.Trials.{HasMade, weightless};
+ghost use Rattle.atomic_weak.specs.Trials.{IsFresh};
 
 use crate::{load_weak, store_weak, try_load_weak, try_replace_weak};
 use acquire_retire::{Domain, OpenError, Outcome, Quota, Seat, Shape, SlotId, open_domain};
-use control_word::{weak_count, weaken};
+use control_word::weaken;
 use counted_handles::{LoadError, Spent, Strong, WeakPlace};
 use plain_protocol::{AnyStep, NoLaw};
 use plain_state::PayloadKind;
@@ -42,11 +43,12 @@ const SMALL: Shape = Shape {
     batch: 1,
 };
 
-/// A domain of one seat, and that seat.
-fn open_alone(rt: &HostRuntime) -> Result<(Domain<Objects>, Seat<Objects>), OpenError>
-    ensures { IfOk result (λ r. IsFresh r.0 r.1) }
+/// A domain of one seat, which may make one object and use so many adds, and that seat.
+fn open_alone(rt: &HostRuntime, adds: u64) -> Result<(Domain<Objects>, Seat<Objects>), OpenError>
+    requires { adds ≤ 2 ^ 40 }
+    ensures { IfOk result (λ r. IsFresh r.0 adds r.1) }
 {
-    let quota = Quota { makes: 2, adds: 7 };
+    let quota = Quota { makes: 1, adds };
     let (domain, mut seats) = open_domain(rt.alloc(), SMALL, &[quota], Objects::new())?;
     Ok((domain, seats.remove(0)))
 }
@@ -68,7 +70,7 @@ fn make(domain: &Domain<Objects>, seat: &mut Seat<Objects>, slot: SlotId) -> Opt
 
 #[test]
 fn a_place_that_is_null_gives_no_reference(rt: HostRuntime) -> Result<(), Fail> {
-    let (domain, mut seat) = open_alone(&rt)?;
+    let (domain, mut seat) = open_alone(&rt, 1)?;
     let Ok(None) = try_load_weak(&domain, &mut seat, CELL, AnyStep) else {
         panic!(rt; "null");
     };
@@ -78,10 +80,9 @@ fn a_place_that_is_null_gives_no_reference(rt: HostRuntime) -> Result<(), Fail> 
     Ok(())
 }
 
-/// Of seven adds the object takes one, the first weak reference one, and the loads the others.
 #[test]
 fn a_weak_reference_goes_into_a_place_and_comes_out(rt: HostRuntime) -> Result<(), Fail> {
-    let (domain, mut seat) = open_alone(&rt)?;
+    let (domain, mut seat) = open_alone(&rt, 3)?;
     let strong = make(&domain, &mut seat, SLOT).expect(&rt, "a free slot");
     let weak = weaken(&domain, &mut seat, &strong).expect(&rt, "an add is left");
     store_weak(&domain, &mut seat, CELL, Some(weak), AnyStep);
@@ -99,27 +100,22 @@ fn a_weak_reference_goes_into_a_place_and_comes_out(rt: HostRuntime) -> Result<(
     Ok(())
 }
 
-/// The slot's own reference, the cell's, and those that were loaded.
+/// The object takes the first of three adds, and the reference that goes into the cell the second.
 #[test]
 fn weak_references_are_loaded_until_the_adds_are_spent(rt: HostRuntime) -> Result<(), Fail> {
-    let (domain, mut seat) = open_alone(&rt)?;
+    let (domain, mut seat) = open_alone(&rt, 3)?;
     let strong = make(&domain, &mut seat, SLOT).expect(&rt, "a free slot");
     let weak = weaken(&domain, &mut seat, &strong).expect(&rt, "an add is left");
     store_weak(&domain, &mut seat, CELL, Some(weak), AnyStep);
-    for _ in 0..4 {
-        let Ok(Some(_)) = load_weak(&rt, &domain, &mut seat, CELL, AnyStep) else {
-            panic!(rt; "a reference");
-        };
-    }
-    let Ok(Some(last)) = try_load_weak(&domain, &mut seat, CELL, AnyStep) else {
+    let Ok(Some(last)) = load_weak(&rt, &domain, &mut seat, CELL, AnyStep) else {
         panic!(rt; "a reference");
     };
+    assert_eq!(rt; last.slot(), SLOT);
     let Err(LoadError::Spent) = try_load_weak(&domain, &mut seat, CELL, AnyStep) else {
         panic!(rt; "no add is left");
     };
     let Err(Spent) = load_weak(&rt, &domain, &mut seat, CELL, AnyStep) else {
         panic!(rt; "no add is left");
     };
-    assert_eq!(rt; weak_count(&domain, &mut seat, last.slot()), 7);
     Ok(())
 }
