@@ -40,7 +40,8 @@ pub fn acquire_at_last<P: Protocol, D: Deed<P>, R: Wait>(
     ensures objects { KnowsStill seat.old.view.core seat.old seat.new }
     ensures room { HasRoom seat.old.view.core → HasRoom seat.new.view.core }
     ensures seat { IsOf domain.now seat.new }
-    ensures rest { ((slot : SlotId) → result ≡ Some slot → note ≢ 0) → IsAtRest domain.now seat.new }
+    ensures rest { ((slot : SlotId) → result ≡ Some slot → note ≢ 0)
+        → IsAtRest domain.now seat.new }
 {
     let backoff = Backoff::new();
     for _ in rt.forever() {

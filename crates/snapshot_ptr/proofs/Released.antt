@@ -1,6 +1,6 @@
 -- The release of a word that stood for a snapshot.
-use Rattle.std.proofs.Common.{◌≡◌, ◌≢◌, ℕ, ◌<◌, List, [], ◌∷◌, ◌++◌, length, refl, ap, sym, ◌∙◌, subst, arith}
-use Rattle.std.specs.Prelude.{Some, slice_set}
+use Rattle.std.proofs.Common.{◌≡◌, ◌≢◌, ℕ, ◌<◌, List, [], ◌∷◌, length, refl, ap, ◌∙◌, subst, arith}
+use Rattle.std.specs.Prelude.{slice_set}
 use Rattle.std.proofs.lemmas.Bool.Decides.{nat_tests}
 use Rattle.plain_state.specs.declared.slot.Kind.{Kind}
 use Rattle.plain_state.specs.declared.slot.Kind.TheVariants.{Strong, Weak, Disposal}
@@ -13,7 +13,7 @@ use Rattle.core_events.specs.declared.outcome.Outcome.TheVariants as outcome
 use Rattle.core_events.specs.declared.view.CoreView.{CoreView}
 use Rattle.core_events.specs.declared.view.Note.TheVariants as note
 use Rattle.core_events.specs.Shows.{show_seat}
-use Rattle.core_events.specs.Steps.{HasRoom, IsIdle, with_note}
+use Rattle.core_events.specs.Steps.{IsIdle, with_note}
 use Rattle.core_events.specs.Views.{note_of, valid_of}
 use Rattle.core_shows.proofs.Losing.{valid_loses}
 use Rattle.acquire_retire.specs.Calls.{IsSameView, Steps, same_view}
@@ -24,8 +24,6 @@ use Rattle.control_word.specs.Moves.{Becomes, KnowsStill}
 use Rattle.control_word.specs.Resting.{IsAtRest}
 use Rattle.control_word.proofs.Becoming.{Comes, calling, comes_one}
 use Rattle.protected_loads.proofs.Noting.{all_settled, beside, release_keeps, rests_noted}
-use Rattle.snapshot_ptr.specs.Ending.{KeepsOthers}
-use Rattle.snapshot_ptr.proofs.Staying.{others_beside}
 use Rattle.snapshot_ptr.proofs.Under.{noted_there}
 
 -- what a seat has without a snapshot it has with it
@@ -75,14 +73,3 @@ module _ {P V : Type 0} (d : DomainState P) (old : SeatState V) (j : ℕ)
           ∙ rest.first)
           (all_settled old.view.core j there note.Idle tt rest.others),
     )
-
-    pub room_released : HasRoom old.view.core → HasRoom new.view.core
-    room_released = subst HasRoom (sym comes.by.core)
-
-    pub others_released : KeepsOthers (record { slot = s; word = Some j }) old.view.core
-        new.view.core
-    others_released =
-        subst (KeepsOthers (record { slot = s; word = Some j }) old.view.core)
-        (sym comes.by.core)
-        (others_beside old.view.core (old.view.core.trail ++ move (act.Release j) outcome.Plain ∷ [])
-        j s there)

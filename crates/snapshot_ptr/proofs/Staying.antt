@@ -1,6 +1,6 @@
 -- Which snapshots a seat stays under.
-use Rattle.std.proofs.Common.{◌≡◌, ◌≢◌, ℕ, ◌<◌, ◌≤◌, Bool, true, false, List, length, refl, ap, ◌∙◌, arith}
-use Rattle.std.specs.Prelude.{Option, Some, None, slice_set}
+use Rattle.std.proofs.Common.{◌≡◌, ℕ, ◌<◌, ◌≤◌, List, length, ap, ◌∙◌, arith}
+use Rattle.std.specs.Prelude.{Option, Some, None}
 use Rattle.plain_state.specs.declared.slot.Kind.{Kind}
 use Rattle.plain_state.specs.declared.slot.Kind.TheVariants.{Strong, Weak, Disposal}
 use Rattle.plain_state.specs.declared.slot.SlotId.{SlotId}
@@ -12,11 +12,10 @@ use Rattle.core_events.specs.declared.view.Move.{Move}
 use Rattle.core_events.specs.Steps.{with_note}
 use Rattle.core_events.specs.Views.{note_of}
 use Rattle.core_invariant.proofs.Kit.{times_push}
-use Rattle.control_word.specs.Calls.{with_ended, with_strong, without_strong}
+use Rattle.control_word.specs.Calls.{with_strong}
 use Rattle.protected_loads.specs.References.{with_reference}
 use Rattle.protected_loads.proofs.Noting.{beside}
-use Rattle.snapshot_ptr.specs.Ending.{KeepsOthers}
-use Rattle.snapshot_ptr.specs.Handles.{IsHeldBy, IsUnder, StaysUnder}
+use Rattle.snapshot_ptr.specs.Handles.{IsHeldBy, StaysUnder}
 
 -- a seat with w owns what one with v owned, and its snapshots stand in the same words
 pub record Grows (v w : CoreView) : Type 0 where
@@ -61,32 +60,3 @@ module _ (v : CoreView) (t : List Move) where
             (λ (same : i ≡ j). absurd (cc (idle, ap (note_of v) same, is)))
             ∙ is;
       })
-
-  -- where one word stands for nothing, the others stand for what they did
-  pub others_beside : (j : ℕ) (s : SlotId) → j < length v.notes
-      → KeepsOthers (record { slot = s; word = Some j }) v
-      (record (with_note j note.Idle v) { trail = t })
-  others_beside j s there snap apart under = go snap.word apart under
-    where
-      go : (word : Option ℕ) → word ≢ Some j → IsHeldBy word snap.slot v.owned v.notes
-          → IsHeldBy word snap.slot v.owned (slice_set v.notes j note.Idle)
-      go None other owned = owned
-      go (Some i) other noted = (
-        noted.0,
-        noted.1,
-        beside v j there note.Idle i (λ (same : i ≡ j). other (ap Some same)) ∙ noted.2,
-      )
-
-  -- where a reference is given up, the words stay
-  pub others_without : (ended : Bool) (s : SlotId)
-      → KeepsOthers (record { slot = s; word = None }) v
-      (record (with_ended ended s (without_strong s v)) { trail = t })
-  others_without ended s snap apart under = go ended snap.word apart under
-    where
-      go : (b : Bool) (word : Option ℕ) → word ≢ None
-          → IsHeldBy word snap.slot v.owned v.notes
-          → IsUnder (record { slot = snap.slot; word = word })
-          (record (with_ended b s (without_strong s v)) { trail = t })
-      go b None other owned = absurd (other refl)
-      go true (Some i) other noted = noted
-      go false (Some i) other noted = noted

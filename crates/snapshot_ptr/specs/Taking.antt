@@ -35,7 +35,8 @@ module _ {P V : Type 0} (fits : List ℕ → Type 0) (d : DomainState P) (place 
     -- the same after whatever tries were lost
     abbrev pub IsReadyToRetake : (OwnPart → V → PlainAct → Type 0) → SeatState V → Type 0
     IsReadyToRetake ready old =
-        IsReadyToReacquire fits d place next allows (word_taken (least_free old.view.core)) ready old
+        IsReadyToReacquire fits d place next allows (word_taken (least_free old.view.core)) ready
+        old
 
     -- it found null, or protects by the word what the place held, and where there is no word it
     -- has gained a reference to it
