@@ -10,7 +10,7 @@ use Rattle.plain_state.specs.declared.slot.SlotId.{SlotId}
 use Rattle.plain_state.specs.Places.{place_kind}
 use Rattle.atomic_shared.specs.Places.{strong_place}
 
-strong_kind : (p : Place) → place_kind (strong_place p) ≡ Strong
+pub strong_kind : (p : Place) → place_kind (strong_place p) ≡ Strong
 strong_kind (place.Cell i) = refl
 strong_kind (place.Field s i) = refl
 

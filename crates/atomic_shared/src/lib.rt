@@ -30,4 +30,5 @@ mod tests_storing;
 
 pub use counted_handles::{LoadError, Place, SlotId, Spent, Strong};
 pub use loading::{load, try_load};
+pub use places::event_place;
 pub use storing::{Lost, store, try_replace};

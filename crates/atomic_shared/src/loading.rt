@@ -1,5 +1,7 @@
 //! A strong reference to what a strong place holds.
-ghost use Rattle.std.specs.Prelude.{ℕ, ◌≡◌, ◌↔◌, Err, IfOk, IsErr, OnErr};
+ghost use Rattle.std.specs.Prelude.{ℕ, ◌≡◌, ◌<◌, ◌↔◌, Err, IfOk, IfSome, IsErr, OnErr};
+ghost use Rattle.plain_state.specs.Lists.{times};
+ghost use Rattle.core_events.specs.Steps.{HasRoom};
 ghost use Rattle.core_events.specs.Words.{slot_in};
 ghost use Rattle.counted_handles.specs.declared.refusal.LoadError.TheVariants as refused;
 ghost use Rattle.control_word.specs.Moves.{KnowsStill};
@@ -39,7 +41,10 @@ pub fn try_load<P: Protocol, D: Deed<P>>(
     ensures moved { (seen now : ℕ) → result ≡ Err (refused.Moved seen now)
         → Misses P.Kind.fits domain.now 0 (strong_place place) (D.next deed domain.now.protocol)
         (D.allows deed domain.now.protocol) (slot_in seen) (slot_in now) seat.old seat.new }
+    ensures owned { IfOk result (λ found.
+        IfSome found (λ strong. 0 < times strong.slot seat.new.view.core.owned)) }
     ensures objects { KnowsStill seat.old.view.core seat.old seat.new }
+    ensures room { HasRoom seat.old.view.core → HasRoom seat.new.view.core }
     ensures rest { IsAtRest domain.now seat.new }
 {
     match protected_loads::try_load(domain, seat, event_place(place), deed)? {
@@ -69,7 +74,10 @@ pub fn load<P: Protocol, D: Deed<P>, R: Wait>(
     ensures loaded { IfOk result (λ found. LoadsAtLast P.Kind.fits domain.now (strong_place place)
         (D.next deed domain.now.protocol) (D.allows deed domain.now.protocol) (named found)
         seat.old seat.new) }
+    ensures owned { IfOk result (λ found.
+        IfSome found (λ strong. 0 < times strong.slot seat.new.view.core.owned)) }
     ensures objects { KnowsStill seat.old.view.core seat.old seat.new }
+    ensures room { HasRoom seat.old.view.core → HasRoom seat.new.view.core }
     ensures rest { IsAtRest domain.now seat.new }
 {
     match protected_loads::load(rt, domain, seat, event_place(place), deed)? {

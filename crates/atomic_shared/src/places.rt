@@ -6,7 +6,7 @@ use acquire_retire::{EventPlace, SlotId};
 use counted_handles::{Place, Strong};
 
 /// The place, as the domain names it.
-pub(crate) fn event_place(place: Place) -> EventPlace
+pub fn event_place(place: Place) -> EventPlace
     ensures { result ≡ strong_place place }
 {
     match place {

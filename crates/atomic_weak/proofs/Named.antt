@@ -8,7 +8,7 @@ use Rattle.plain_state.specs.declared.slot.Kind.{Kind}
 use Rattle.plain_state.specs.declared.slot.Kind.TheVariants.{Weak}
 use Rattle.plain_state.specs.declared.slot.SlotId.{SlotId}
 use Rattle.plain_state.specs.Places.{place_kind}
-use Rattle.atomic_weak.specs.Storing.{weak_place}
+use Rattle.atomic_weak.specs.Places.{weak_place}
 
 weak_kind : (p : WeakPlace) → place_kind (weak_place p) ≡ Weak
 weak_kind (place.Cell i) = refl

@@ -1,1 +1,3 @@
-pub mod Storing
+pub mod Places
+pub mod Loading
+pub mod Trials

@@ -9,9 +9,10 @@ ghost use Rattle.control_word.specs.Moves.{KnowsStill};
 ghost use Rattle.control_word.specs.Resting.{IsAtRest};
 ghost use Rattle.retiring_stores.specs.Exchanging.{LosesTo, Replaces, Stores};
 ghost use Rattle.retiring_stores.specs.Scanning.{IsBelow};
-ghost use Rattle.atomic_weak.specs.Storing.{named, weak_place};
+ghost use Rattle.atomic_weak.specs.Places.{named, weak_place};
 
-use acquire_retire::{Domain, EventPlace, Seat, SlotId};
+use crate::places::{event_place, slot_of};
+use acquire_retire::{Domain, Seat, SlotId};
 use core_functions::held_as;
 use counted_handles::{Weak, WeakPlace};
 use plain_protocol::{Deed, Protocol};
@@ -90,25 +91,5 @@ pub fn try_replace_weak<P: Protocol, D: Deed<P>>(
             now: held_as(found),
             back: new,
         }),
-    }
-}
-
-/// The place, as the domain names it.
-fn event_place(place: WeakPlace) -> EventPlace
-    ensures { result ≡ weak_place place }
-{
-    match place {
-        WeakPlace::Cell(cell) => EventPlace::WeakCell(cell),
-        WeakPlace::Field(slot) => EventPlace::WeakField(slot),
-    }
-}
-
-/// The slot that a handle names, if there is one.
-fn slot_of(handle: &Option<Weak>) -> Option<SlotId>
-    ensures { result ≡ named handle.now }
-{
-    match handle {
-        None => None,
-        Some(weak) => Some(weak.slot()),
     }
 }

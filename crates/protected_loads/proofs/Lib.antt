@@ -6,4 +6,5 @@ pub mod Protecting
 pub mod Publishing
 pub mod Counted
 pub mod Referring
+pub mod Remaining
 pub mod Losing

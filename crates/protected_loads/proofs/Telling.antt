@@ -1,5 +1,5 @@
 -- What a step on a place tells of the place, as the domain showed it then.
-use Rattle.std.proofs.Common.{◌≡◌, ⊎_elim, ℕ, ◌<◌, ◌+◌, List, [], ◌∷◌, length, ap, sym, ◌∙◌, subst, arith}
+use Rattle.std.proofs.Common.{◌≡◌, ⊎_elim, ℕ, ◌<◌, ◌+◌, List, length, ap, sym, ◌∙◌, subst, arith}
 use Rattle.std.specs.Prelude.{slice_index, Some}
 use Rattle.std.proofs.lemmas.Bool.Decides.{nat_tests}
 use Rattle.plain_state.specs.declared.act.EventPlace.{EventPlace}
@@ -13,24 +13,19 @@ use Rattle.core_events.specs.declared.act.Act.{Act}
 use Rattle.core_events.specs.declared.act.Act.TheVariants as act
 use Rattle.core_events.specs.declared.shape.Shape.{Shape}
 use Rattle.core_events.specs.declared.view.CoreView.{CoreView}
-use Rattle.core_events.specs.declared.view.Move.{Move}
 use Rattle.core_events.specs.Good.{SeatLaw}
 use Rattle.core_events.specs.Runs.{Enabled, after, view_at}
 use Rattle.core_events.specs.Shows.{show_seat, shows}
 use Rattle.core_events.specs.ShownSteps.{shown_act, shown_number}
 use Rattle.core_events.specs.Views.{Holds, Terms}
 use Rattle.core_events.specs.Words.{place_at, slot_in}
-use Rattle.core_invariant.specs.Sound.{Sound}
 use Rattle.core_invariant.proofs.InRange.{content_in}
 use Rattle.core_invariant.proofs.Writes.{IsPlace}
-use Rattle.core_law.proofs.Always.{history_sound}
 use Rattle.core_shows.proofs.Events.{event_shows}
 use Rattle.core_shows.proofs.ShownPlaces.{shown_content, word_slot}
 use Rattle.domain_rule.specs.declared.view.SeatView.{SeatView}
 use Rattle.domain_rule.specs.Told.{Told}
 use Rattle.domain_rule.specs.Views.{own_of}
-use Rattle.acquire_retire.specs.Domains.{DomainState}
-use Rattle.acquire_retire.specs.Seats.{SeatState}
 use Rattle.acquire_retire.proofs.Contents.{IsOn}
 use Rattle.control_word.proofs.Finding.{sound_before}
 

@@ -72,6 +72,12 @@ module _ {P V : Type 0} (fits : List ℕ → Type 0) (d : DomainState P) (j : �
         (s : SlotId) (mid : SeatState V) → Announces s old mid
         → IsReady ready d.shape (act.Check j place) mid.view
 
+    -- the deed is ready for the look, and for the check of whatever was found and announced
+    pub record IsReadyToAcquire (ready : OwnPart → V → PlainAct → Type 0) (old : SeatState V)
+        : Type 0 where
+      pub look : IsReady ready d.shape (act.Look place) old.view
+      pub check : IsReadyToCheck ready old
+
     module _ (next : OwnPart → OwnPart → V → PlainAct → ℕ → V)
         (allows : Plain → Plain → ℕ → V → V → Type 0) where
       -- It found s in the place, announced it, and found it there still, at a check with the deed.
@@ -115,3 +121,8 @@ module _ {P V : Type 0} (fits : List ℕ → Type 0) (d : DomainState P) (j : �
             }
         pub cleared : new.view.cleared ≡ old.view.cleared
         pub there : content (shows d.shape (last_core checks)) place ≡ now
+
+      -- it has found null, with the deed, or protects what the place held
+      abbrev pub Acquires : Option SlotId → SeatState V → SeatState V → Type 0
+      Acquires None old new = FindsNull fits d place next allows old new
+      Acquires (Some s) old new = Protects s old new

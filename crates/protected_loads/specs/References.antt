@@ -17,13 +17,13 @@ use Rattle.core_events.specs.declared.view.CoreView.{CoreView}
 use Rattle.core_events.specs.declared.view.Move.{Move}
 use Rattle.core_events.specs.Shows.{shows}
 use Rattle.domain_rule.specs.Views.{object_in}
-use Rattle.acquire_retire.specs.Calls.{IsReady, IsSameView, same_view}
+use Rattle.acquire_retire.specs.Calls.{IsSameView, same_view}
 use Rattle.acquire_retire.specs.Collecting.{move}
 use Rattle.acquire_retire.specs.Domains.{DomainState}
 use Rattle.acquire_retire.specs.Seats.{SeatState}
 use Rattle.control_word.specs.Calls.{with_strong, with_weak}
 use Rattle.control_word.specs.Moves.{Becomes, last_core}
-use Rattle.protected_loads.specs.Loads.{FindsNull, IsReadyToCheck, Protects, protected_by}
+use Rattle.protected_loads.specs.Loads.{FindsNull, IsReadyToAcquire, Protects, protected_by}
 
 -- the act that counts a reference of a kind, and what it answers where the slot is under a snapshot
 -- of that kind. No place holds one of the kind Disposal
@@ -54,10 +54,8 @@ loaded_by place s = protected_by 0 place s ++ kept_by (place_kind place) s
 
 module _ {P V : Type 0} (fits : List ℕ → Type 0) (d : DomainState P) (place : EventPlace) where
   -- the deed is ready for the look, and for the check of whatever was found and announced
-  pub record IsReadyToLoad (ready : OwnPart → V → PlainAct → Type 0) (old : SeatState V)
-      : Type 0 where
-    pub look : IsReady ready d.shape (act.Look place) old.view
-    pub check : IsReadyToCheck fits d 0 place ready old
+  abbrev pub IsReadyToLoad : (OwnPart → V → PlainAct → Type 0) → SeatState V → Type 0
+  IsReadyToLoad ready old = IsReadyToAcquire fits d 0 place ready old
 
   module _ (next : OwnPart → OwnPart → V → PlainAct → ℕ → V)
       (allows : Plain → Plain → ℕ → V → V → Type 0) where

@@ -1,4 +1,4 @@
--- A load that is tried again as long as the place changes under it.
+-- What is tried again as long as the place changes under it.
 use Rattle.std.specs.Prelude.{ℕ, ◌≡◌, List, [], ◌∷◌, ◌++◌, Option, Some}
 use Rattle.plain_state.specs.declared.act.EventPlace.{EventPlace}
 use Rattle.plain_state.specs.declared.act.PlainAct.{PlainAct}
@@ -8,43 +8,54 @@ use Rattle.plain_protocol.specs.Owns.{OwnPart}
 use Rattle.core_events.specs.declared.view.Move.{Move}
 use Rattle.acquire_retire.specs.Domains.{DomainState}
 use Rattle.acquire_retire.specs.Seats.{SeatState}
-use Rattle.protected_loads.specs.Loads.{Misses, missed_by}
-use Rattle.protected_loads.specs.References.{IsReadyToLoad, Loads}
+use Rattle.protected_loads.specs.Loads.{Acquires, IsReadyToAcquire, Misses, missed_by}
+use Rattle.protected_loads.specs.References.{Loads}
 
 -- a try that was lost: the slot that it announced, and what the place held then
 pub record Lost : Type 0 where
   pub slot : SlotId
   pub now : Option SlotId
 
--- All lists of tries have the newest first. The moves of these, the oldest first
-abbrev pub lost_by : EventPlace → List Lost → List Move
-lost_by place [] = []
-lost_by place (t ∷ ts) = lost_by place ts ++ missed_by 0 place t.slot t.now
+-- All lists of tries have the newest first. The moves of these by note j, the oldest first
+abbrev pub lost_by : ℕ → EventPlace → List Lost → List Move
+lost_by j place [] = []
+lost_by j place (t ∷ ts) = lost_by j place ts ++ missed_by j place t.slot t.now
 
 module _ {P V : Type 0} (fits : List ℕ → Type 0) (d : DomainState P) (place : EventPlace)
     (next : OwnPart → OwnPart → V → PlainAct → ℕ → V)
     (allows : Plain → Plain → ℕ → V → V → Type 0) where
-  -- the seat has lost these tries, each with the deed
-  abbrev pub Loses : List Lost → SeatState V → SeatState V → Type 0
-  Loses [] old new = new ≡ old
-  Loses (t ∷ ts) old new =
-      (mid : SeatState V) × Loses ts old mid
-      × Misses fits d 0 place next allows (Some t.slot) t.now mid new
+  -- the seat has lost these tries by note j, each with the deed
+  abbrev pub Loses : ℕ → List Lost → SeatState V → SeatState V → Type 0
+  Loses j [] old new = new ≡ old
+  Loses j (t ∷ ts) old new =
+      (mid : SeatState V) × Loses j ts old mid
+      × Misses fits d j place next allows (Some t.slot) t.now mid new
 
-  -- the deed is ready for a load after whatever tries were lost
+  -- the deed is ready for an acquire by note j, and for a load, after whatever tries were lost
+  abbrev pub IsReadyToReacquire : ℕ → (OwnPart → V → PlainAct → Type 0) → SeatState V → Type 0
+  IsReadyToReacquire j ready old =
+      (ts : List Lost) (mid : SeatState V) → Loses j ts old mid
+      → IsReadyToAcquire fits d j place ready mid
+
   abbrev pub IsReadyToRetry : (OwnPart → V → PlainAct → Type 0) → SeatState V → Type 0
-  IsReadyToRetry ready old =
-      (ts : List Lost) (mid : SeatState V) → Loses ts old mid
-      → IsReadyToLoad fits d place ready mid
+  IsReadyToRetry = IsReadyToReacquire 0
 
-  -- It has lost some tries, by which only its trail has grown, and at the last one it found null or
-  -- gained a reference.
-  pub record LoadsAtLast (found : Option SlotId) (old new : SeatState V) : Type 0 where
+  -- it has lost some tries by note j, by which only its trail has grown, and the last one went so
+  pub record AtLast (j : ℕ) (Goes : SeatState V → SeatState V → Type 0) (old new : SeatState V)
+      : Type 0 where
     pub lost : List Lost
     pub mid : SeatState V
-    pub loses : Loses lost old mid
+    pub loses : Loses j lost old mid
     pub core :
         mid.view.core
-        ≡ record old.view.core { trail = old.view.core.trail ++ lost_by place lost }
+        ≡ record old.view.core { trail = old.view.core.trail ++ lost_by j place lost }
     pub cleared : mid.view.cleared ≡ old.view.cleared
-    pub loads : Loads fits d place next allows found mid new
+    pub goes : Goes mid new
+
+  -- at the last try it found null or gained a reference
+  abbrev pub LoadsAtLast : Option SlotId → SeatState V → SeatState V → Type 0
+  LoadsAtLast found = AtLast 0 (Loads fits d place next allows found)
+
+  -- at the last try it found null or protected what the place held
+  abbrev pub AcquiresAtLast : ℕ → Option SlotId → SeatState V → SeatState V → Type 0
+  AcquiresAtLast j found = AtLast j (Acquires fits d j place next allows found)

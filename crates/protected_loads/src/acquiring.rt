@@ -3,6 +3,7 @@ ghost use Rattle.std.specs.Prelude.{◌≡◌, ◌≢◌, ◌<◌, IfErr, IfOk, 
 ghost use Rattle.plain_state.specs.declared.slot.SlotId.{SlotId};
 ghost use Rattle.core_events.specs.declared.act.Act.TheVariants as act;
 ghost use Rattle.core_events.specs.declared.view.Note.TheVariants as stands;
+ghost use Rattle.core_events.specs.Steps.{HasRoom};
 ghost use Rattle.core_events.specs.Views.{IsReadable, note_of};
 ghost use Rattle.acquire_retire.specs.Calls.{IsOf, IsReady};
 ghost use Rattle.control_word.specs.Moves.{KnowsStill};
@@ -52,6 +53,7 @@ pub fn acquire<P: Protocol, L: Deed<P>, C: Deed<P>>(
         (C.next check domain.now.protocol) (C.allows check domain.now.protocol) moved.seen
         moved.now seat.old seat.new) }
     ensures objects { KnowsStill seat.old.view.core seat.old seat.new }
+    ensures room { HasRoom seat.old.view.core → HasRoom seat.new.view.core }
     ensures seat { IsOf domain.now seat.new }
     ensures rest { ((slot : SlotId) → result ≡ Ok (Some slot) → note ≢ 0)
         → IsAtRest domain.now seat.new }

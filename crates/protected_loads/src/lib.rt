@@ -7,8 +7,8 @@
 //! and `load` does so again and again until the place holds still. Each clause says which events the call made, in
 //! which order and with which answers, and what the seat has afterwards: null where the look found null, a snapshot or
 //! a reference where the check was valid, and nothing but a longer trail where the place had changed. The client's deed
-//! holds at the event that decides, the look that finds null or the check. No call takes memory, and each returns but
-//! `load`, which may wait.
+//! holds at the event that decides, the look that finds null or the check. `acquire_at_last` is `acquire` again and
+//! again. No call takes memory, and each returns but `load` and `acquire_at_last`, which may wait.
 //!
 //! It isn't promised that the place still holds the slot when a call returns, nor that a place which changes all the
 //! time is ever loaded.
@@ -21,6 +21,7 @@
 
 mod acquiring;
 mod loading;
+mod reacquiring;
 mod retrying;
 #[cfg(test)]
 mod tests;
@@ -28,6 +29,7 @@ mod where_null;
 
 pub use acquire_retire::SlotId;
 pub use acquiring::{Moved, acquire};
-pub use loading::try_load;
+pub use loading::{in_words, try_load};
+pub use reacquiring::acquire_at_last;
 pub use retrying::load;
 pub use where_null::WhereNull;

@@ -1,7 +1,8 @@
 //! A reference to what a place holds, of the place's kind.
 ghost use Rattle.std.specs.Prelude.{ℕ, ◌≡◌, ◌<◌, ◌↔◌, Err, IfErr, IfOk};
 ghost use Rattle.plain_state.specs.Lists.{entry_times};
-ghost use Rattle.core_events.specs.Steps.{HasAdd, IsIdle};
+ghost use Rattle.plain_state.specs.Places.{place_kind};
+ghost use Rattle.core_events.specs.Steps.{CanGive, HasAdd, HasRoom, IsIdle};
 ghost use Rattle.core_events.specs.Views.{IsReadable, snapshots};
 ghost use Rattle.core_events.specs.Words.{slot_in};
 ghost use Rattle.counted_handles.specs.declared.refusal.LoadError.TheVariants as refused;
@@ -41,7 +42,9 @@ pub fn try_load<P: Protocol, D: Deed<P>>(
     ensures moved { (seen now : ℕ) → result ≡ Err (refused.Moved seen now)
         → Misses P.Kind.fits domain.now 0 place (D.next deed domain.now.protocol)
         (D.allows deed domain.now.protocol) (slot_in seen) (slot_in now) seat.old seat.new }
+    ensures owned { IfOk result (λ found. CanGive (place_kind place) found seat.new.view.core) }
     ensures objects { KnowsStill seat.old.view.core seat.old seat.new }
+    ensures room { HasRoom seat.old.view.core → HasRoom seat.new.view.core }
     ensures rest { IsAtRest domain.now seat.new }
 {
     if domain.adds_left(seat) == 0 {
@@ -71,7 +74,9 @@ pub(crate) fn load_once<P: Protocol, D: Deed<P>>(
     ensures moved { IfErr result (λ moved. Misses P.Kind.fits domain.now 0 place
         (D.next deed domain.now.protocol) (D.allows deed domain.now.protocol) moved.seen moved.now
         seat.old seat.new) }
+    ensures owned { IfOk result (λ found. CanGive (place_kind place) found seat.new.view.core) }
     ensures objects { KnowsStill seat.old.view.core seat.old seat.new }
+    ensures room { HasRoom seat.old.view.core → HasRoom seat.new.view.core }
     ensures rest { IsAtRest domain.now seat.new }
 {
     let found = acquire(domain, seat, 0, place, deed, deed)?;
@@ -82,8 +87,8 @@ pub(crate) fn load_once<P: Protocol, D: Deed<P>>(
     Ok(found)
 }
 
-/// The same contents as words of the place.
-fn in_words(moved: Moved) -> LoadError
+/// The same contents as words of the place, in the refusal of a load.
+pub fn in_words(moved: Moved) -> LoadError
     ensures words { (seen now : ℕ) → result ≡ refused.Moved seen now
         → (slot_in seen ≡ moved.seen) × (slot_in now ≡ moved.now) }
     ensures moves { result ≡ refused.Spent → ⊥ }

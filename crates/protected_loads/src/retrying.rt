@@ -1,5 +1,7 @@
 //! A load that goes on until the place holds still.
 ghost use Rattle.std.specs.Prelude.{◌≡◌, ◌↔◌, IfOk, IsErr, OnErr};
+ghost use Rattle.plain_state.specs.Places.{place_kind};
+ghost use Rattle.core_events.specs.Steps.{CanGive, HasRoom};
 ghost use Rattle.core_events.specs.Views.{IsReadable};
 ghost use Rattle.control_word.specs.Moves.{KnowsStill};
 ghost use Rattle.control_word.specs.Resting.{IsAtRest, IsSpent};
@@ -33,7 +35,9 @@ pub fn load<P: Protocol, D: Deed<P>, R: Wait>(
     ensures loaded { IfOk result (λ found. LoadsAtLast P.Kind.fits domain.now place
         (D.next deed domain.now.protocol) (D.allows deed domain.now.protocol) found
         seat.old seat.new) }
+    ensures owned { IfOk result (λ found. CanGive (place_kind place) found seat.new.view.core) }
     ensures objects { KnowsStill seat.old.view.core seat.old seat.new }
+    ensures room { HasRoom seat.old.view.core → HasRoom seat.new.view.core }
     ensures rest { IsAtRest domain.now seat.new }
 {
     if domain.adds_left(seat) == 0 {

@@ -5,7 +5,7 @@ use Rattle.core_events.specs.declared.act.Act.TheVariants as act
 use Rattle.acquire_retire.specs.Calls.{IsReady}
 use Rattle.retiring_stores.specs.Exchanging.{Swaps}
 use Rattle.retiring_stores.proofs.Opened.{stores}
-use Rattle.atomic_weak.specs.Storing.{named, weak_place}
+use Rattle.atomic_weak.specs.Places.{named, weak_place}
 use Rattle.atomic_weak.proofs.Named.{by_names, from_names}
 use Rattle.atomic_weak.proofs.storing.store_weak.Goals as goal
 

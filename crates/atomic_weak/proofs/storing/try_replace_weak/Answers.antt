@@ -6,7 +6,7 @@ use Rattle.core_events.specs.declared.act.Act.TheVariants as act
 use Rattle.core_events.specs.Steps.{without_given}
 use Rattle.acquire_retire.specs.Calls.{IsReady}
 use Rattle.control_word.specs.Moves.{KnowsStill}
-use Rattle.atomic_weak.specs.Storing.{named}
+use Rattle.atomic_weak.specs.Places.{named}
 use Rattle.atomic_weak.proofs.Named.{from_names, of_kind}
 use Rattle.atomic_weak.proofs.storing.try_replace_weak.Goals as goal
 

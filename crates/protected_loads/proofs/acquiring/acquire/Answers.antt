@@ -1,8 +1,10 @@
 use Rattle.std.proofs.Common.{refl, ap, ◌∙◌}
+use Rattle.std.specs.Prelude.{Some}
 use Rattle.core_events.specs.declared.outcome.Outcome.TheVariants as outcome
 use Rattle.protected_loads.proofs.Checking.{may_check}
 use Rattle.protected_loads.proofs.Looking.{announces, finds_null, may_announce}
 use Rattle.protected_loads.proofs.Protecting.{may_release, missed, protected}
+use Rattle.protected_loads.proofs.Remaining.{missed_room, null_room, protected_room}
 use Rattle.protected_loads.proofs.acquiring.acquire.Goals as goal
 
 pub look-requires-clause-deed : goal.look-requires-clause-deed
@@ -160,3 +162,18 @@ returns-clause-rest g c =
     {allows = g.C.Deed.allows c.args.check c.args.domain.now.protocol}
     c.check.new.seat c.check.result c.check.ensures c.in_default-check.not-Moved).3
     (other c.in-Some.slot refl)
+
+pub returns-in_default-found-clause-room : goal.returns-in_default-found-clause-room
+returns-in_default-found-clause-room g c =
+    null_room c.args.place c.args.seat.now c.look.new.seat
+    (returns-in_default-found-clause-null g c refl)
+
+pub returns-in-Moved-clause-room : goal.returns-in-Moved-clause-room
+returns-in-Moved-clause-room g c =
+    missed_room c.args.place c.args.seat.now c.release.new.seat c.args.note (Some c.in-Some.slot)
+    c.in-Moved.now (returns-in-Moved-clause-moved g c)
+
+pub returns-clause-room : goal.returns-clause-room
+returns-clause-room g c =
+    protected_room c.args.place c.args.seat.now c.check.new.seat c.args.note c.in-Some.slot
+    (returns-clause-protected g c)

@@ -1,8 +1,10 @@
 use Rattle.std.proofs.Common.{◌<◌, subst, sym}
+use Rattle.std.specs.Prelude.{Some}
 use Rattle.plain_state.specs.declared.slot.Kind.{Kind}
 use Rattle.plain_state.specs.Lists.{entry_times}
 use Rattle.core_events.specs.Views.{snapshots}
 use Rattle.protected_loads.proofs.Referring.{loaded, may_release, snapshot_there}
+use Rattle.protected_loads.proofs.Remaining.{loaded_owned, loaded_room}
 use Rattle.protected_loads.proofs.loading.load_once.Goals as goal
 
 pub count-requires-clause-protected : goal.count-requires-clause-protected
@@ -40,3 +42,17 @@ returns-in-Some-clause-rest g c =
     (loaded c.args.domain.now c.args.place c.in-Some.slot c.args.seat.now c.acquire.new.seat
     c.requires.rest protects c.kind_of.result c.kind_of.ensures c.count.new.seat c.count.ensures
     c.release.new.seat c.release.result c.release.ensures c.acquire.ensures.objects).2
+
+pub returns-in-Some-clause-owned : goal.returns-in-Some-clause-owned
+returns-in-Some-clause-owned g c =
+    loaded_owned g.P.Kind.PayloadKind.fits c.args.domain.now c.args.place
+    (g.D.Deed.next c.args.deed c.args.domain.now.protocol)
+    (g.D.Deed.allows c.args.deed c.args.domain.now.protocol) c.args.seat.now c.release.new.seat
+    (Some c.in-Some.slot) (returns-in-Some-clause-loaded g c)
+
+pub returns-in-Some-clause-room : goal.returns-in-Some-clause-room
+returns-in-Some-clause-room g c =
+    loaded_room g.P.Kind.PayloadKind.fits c.args.domain.now c.args.place
+    (g.D.Deed.next c.args.deed c.args.domain.now.protocol)
+    (g.D.Deed.allows c.args.deed c.args.domain.now.protocol) c.args.seat.now c.release.new.seat
+    (Some c.in-Some.slot) (returns-in-Some-clause-loaded g c)

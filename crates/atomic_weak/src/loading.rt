@@ -1,0 +1,87 @@
+//! A weak reference to what a weak place holds.
+ghost use Rattle.std.specs.Prelude.{ℕ, ◌≡◌, ◌<◌, ◌↔◌, Err, IfOk, IfSome, IsErr, OnErr};
+ghost use Rattle.plain_state.specs.Lists.{times};
+ghost use Rattle.core_events.specs.Steps.{HasRoom};
+ghost use Rattle.core_events.specs.Words.{slot_in};
+ghost use Rattle.counted_handles.specs.declared.refusal.LoadError.TheVariants as refused;
+ghost use Rattle.control_word.specs.Moves.{KnowsStill};
+ghost use Rattle.control_word.specs.Resting.{IsAtRest, IsSpent};
+ghost use Rattle.protected_loads.specs.Loads.{Misses};
+ghost use Rattle.protected_loads.specs.References.{IsReadyToLoad, Loads};
+ghost use Rattle.protected_loads.specs.Retries.{IsReadyToRetry, LoadsAtLast};
+ghost use Rattle.atomic_weak.specs.Loading.{CanLoad};
+ghost use Rattle.atomic_weak.specs.Places.{named, weak_place};
+
+use crate::places::event_place;
+use acquire_retire::{Domain, Seat};
+use counted_handles::{LoadError, Spent, Weak, WeakPlace};
+use plain_protocol::{Deed, Protocol};
+use std::sync::Wait;
+
+/// A weak reference to what the place holds. `Spent` comes first, exactly where the seat has used all adds of its
+/// quota, and then nothing has changed. `None` exactly where the first step found null, and it is the only step then.
+/// `Moved` exactly where the place held another content after the slot was announced; only the trail has grown then.
+/// The deed holds at the look where that finds null, else at the check. At most five steps, and one add where a handle
+/// is answered.
+pub fn try_load_weak<P: Protocol, D: Deed<P>>(
+    domain: &Domain<P>,
+    seat: &mut Seat<P>,
+    place: WeakPlace,
+    deed: D,
+) -> Result<Option<Weak>, LoadError>
+    requires rest { IsAtRest domain.now seat.old }
+    requires place { CanLoad domain.now.shape seat.old.view.core place }
+    requires deed { IsReadyToLoad P.Kind.fits domain.now (weak_place place)
+        (D.ready deed domain.now.protocol) seat.old }
+    ensures spent { (result ≡ Err refused.Spent) ↔ IsSpent seat.old.view.core }
+    ensures refused { result ≡ Err refused.Spent → seat.new ≡ seat.old }
+    ensures loaded { IfOk result (λ found. Loads P.Kind.fits domain.now (weak_place place)
+        (D.next deed domain.now.protocol) (D.allows deed domain.now.protocol) (named found)
+        seat.old seat.new) }
+    ensures moved { (seen now : ℕ) → result ≡ Err (refused.Moved seen now)
+        → Misses P.Kind.fits domain.now 0 (weak_place place) (D.next deed domain.now.protocol)
+        (D.allows deed domain.now.protocol) (slot_in seen) (slot_in now) seat.old seat.new }
+    ensures owned { IfOk result (λ found.
+        IfSome found (λ weak. 0 < times weak.slot seat.new.view.core.weaks)) }
+    ensures objects { KnowsStill seat.old.view.core seat.old seat.new }
+    ensures room { HasRoom seat.old.view.core → HasRoom seat.new.view.core }
+    ensures rest { IsAtRest domain.now seat.new }
+{
+    match protected_loads::try_load(domain, seat, event_place(place), deed)? {
+        Some(slot) => Ok(Some(Weak::of(slot))),
+        None => Ok(None),
+    }
+}
+
+/// A weak reference to what the place holds. It tries again as long as the place changes between its look and its
+/// check, so it may wait for other threads. `Spent` comes first, exactly where the seat has used all adds of its quota,
+/// and then nothing has changed. `None` exactly where the last try found null. At most five steps for each try, and one
+/// add where a handle is answered.
+pub fn load_weak<P: Protocol, D: Deed<P>, R: Wait>(
+    rt: &R,
+    domain: &Domain<P>,
+    seat: &mut Seat<P>,
+    place: WeakPlace,
+    deed: D,
+) -> Result<Option<Weak>, Spent>
+    requires rest { IsAtRest domain.now seat.old }
+    requires place { CanLoad domain.now.shape seat.old.view.core place }
+    requires deed { IsReadyToRetry P.Kind.fits domain.now (weak_place place)
+        (D.next deed domain.now.protocol) (D.allows deed domain.now.protocol)
+        (D.ready deed domain.now.protocol) seat.old }
+    ensures spent { IsErr result ↔ IsSpent seat.old.view.core }
+    ensures refused { OnErr result (seat.new ≡ seat.old) }
+    ensures loaded { IfOk result (λ found. LoadsAtLast P.Kind.fits domain.now (weak_place place)
+        (D.next deed domain.now.protocol) (D.allows deed domain.now.protocol) (named found)
+        seat.old seat.new) }
+    ensures owned { IfOk result (λ found.
+        IfSome found (λ weak. 0 < times weak.slot seat.new.view.core.weaks)) }
+    ensures objects { KnowsStill seat.old.view.core seat.old seat.new }
+    ensures room { HasRoom seat.old.view.core → HasRoom seat.new.view.core }
+    ensures rest { IsAtRest domain.now seat.new }
+{
+    match protected_loads::load(rt, domain, seat, event_place(place), deed)? {
+        Some(slot) => Ok(Some(Weak::of(slot))),
+        None => Ok(None),
+    }
+}

@@ -1,0 +1,54 @@
+//! An acquire that goes on until the place holds still.
+ghost use Rattle.std.specs.Prelude.{◌≡◌, ◌≢◌, ◌<◌, Some};
+ghost use Rattle.plain_state.specs.declared.slot.SlotId.{SlotId};
+ghost use Rattle.core_events.specs.declared.view.Note.TheVariants as stands;
+ghost use Rattle.core_events.specs.Steps.{HasRoom};
+ghost use Rattle.core_events.specs.Views.{IsReadable, note_of};
+ghost use Rattle.acquire_retire.specs.Calls.{IsOf};
+ghost use Rattle.control_word.specs.Moves.{KnowsStill};
+ghost use Rattle.control_word.specs.Resting.{IsAtRest};
+ghost use Rattle.protected_loads.specs.Retries.{AcquiresAtLast, IsReadyToReacquire};
+
+use crate::acquiring::acquire;
+use acquire_retire::{Domain, Seat, SlotId};
+use crossbeam_utils::Backoff;
+use plain_protocol::{Deed, Protocol};
+use plain_state::EventPlace;
+use std::sync::Wait;
+
+/// Protects what the place holds by a note of the seat that stands for nothing, as `acquire` does, which it tries again
+/// as long as the place changes between its look and its check; so it may wait for other threads. `None` exactly where
+/// the last try found null. At most four steps for each try.
+pub fn acquire_at_last<P: Protocol, D: Deed<P>, R: Wait>(
+    rt: &R,
+    domain: &Domain<P>,
+    seat: &mut Seat<P>,
+    note: u32,
+    place: EventPlace,
+    deed: D,
+) -> Option<SlotId>
+    requires rest { IsAtRest domain.now seat.old }
+    requires note { note < 4 }
+    requires free { note_of seat.old.view.core note ≡ stands.Idle }
+    requires place { IsReadable domain.now.shape seat.old.view.core place }
+    requires deed { IsReadyToReacquire P.Kind.fits domain.now place
+        (D.next deed domain.now.protocol) (D.allows deed domain.now.protocol) note
+        (D.ready deed domain.now.protocol) seat.old }
+    ensures acquired { AcquiresAtLast P.Kind.fits domain.now place
+        (D.next deed domain.now.protocol) (D.allows deed domain.now.protocol) note result
+        seat.old seat.new }
+    ensures objects { KnowsStill seat.old.view.core seat.old seat.new }
+    ensures room { HasRoom seat.old.view.core → HasRoom seat.new.view.core }
+    ensures seat { IsOf domain.now seat.new }
+    ensures rest { ((slot : SlotId) → result ≡ Some slot → note ≢ 0)
+        → IsAtRest domain.now seat.new }
+{
+    let backoff = Backoff::new();
+    for _ in rt.forever() {
+        if let Ok(found) = acquire(domain, seat, note, place, deed, deed) {
+            return found;
+        }
+        backoff.spin();
+    }
+    unreachable!()
+}

@@ -1,0 +1,4 @@
+pub mod Under
+pub mod Staying
+pub mod Taken
+pub mod Released
