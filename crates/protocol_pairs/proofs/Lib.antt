@@ -1,3 +1,4 @@
 pub mod Leaves
 pub mod Held
 pub mod Notes
+pub mod Owning
