@@ -8,6 +8,7 @@ use Rattle.plain_state.specs.declared.slot.SlotId.{SlotId}
 use Rattle.plain_state.specs.Lists.{times}
 use Rattle.plain_state.specs.State.{Plain}
 use Rattle.plain_state.specs.Steps.{word_of}
+use Rattle.plain_protocol.specs.Acts.{IsCalm}
 use Rattle.plain_protocol.specs.Owns.{Object, OwnPart}
 use Rattle.protocol_pairs.specs.Spared.{HasOneOf}
 use Rattle.example_stack.specs.Views.{View}
@@ -52,10 +53,16 @@ see_next own after v step zero = v
 see_next own after v step (suc s) =
     record v { seen = v.seen ++ value_of (after.objects (record { 0 = s })) }
 
--- LINK. A node that isn't in the stack yet gets null below it, or a node that was in the stack
+-- the seat sees nodes alone
+abbrev pub SeeTells : (List ℕ → Type 0) → Plain → Plain → ℕ → View → View → Type 0
+SeeTells kind p q n v w = (value : List ℕ) → Contains w.seen value → kind value
+
+-- LINK. Field 0 of an object gets null, or a node that was in the stack; or the step is calm
 abbrev pub LinkReady : OwnPart → View → PlainAct → Type 0
 LinkReady own v step =
-    (x : SlotId) × (new : Option SlotId) × (step ≡ act.Replace (Field x 0) new) × SawIt own v new
+    IsCalm step
+    ⊎ ((x : SlotId) × (new : Option SlotId) × (step ≡ act.Replace (Field x 0) new)
+    × SawIt own v new)
 
 -- PUSH. The cell gets a node, where it holds what is expected
 abbrev pub PushReady : ℕ → (List ℕ → Type 0) → OwnPart → View → PlainAct → Type 0
@@ -85,6 +92,6 @@ popped_by own step found = []
 abbrev pub pop_next : OwnPart → OwnPart → View → PlainAct → ℕ → View
 pop_next own after v step found = record v { popped = v.popped ++ popped_by own step found }
 
--- what the deeds leave is told by the views alone
+-- the next view tells all
 abbrev pub TellsNothing : Plain → Plain → ℕ → View → View → Type 0
 TellsNothing p q n v w = Unit {0}

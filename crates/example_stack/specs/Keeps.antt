@@ -10,7 +10,10 @@ use Rattle.plain_protocol.specs.Laws.{Keeps}
 use Rattle.plain_protocol.specs.Owns.{OwnPart, own_part}
 use Rattle.example_stack.specs.Views.{View, no_view, view_at}
 use Rattle.example_stack.specs.Stack.{Stack}
-use Rattle.example_stack.specs.Deeds.{LinkReady, MakeReady, PopReady, PushReady, SeeReady, TellsNothing, pop_next, push_next, same_next, see_next}
+use Rattle.example_stack.specs.Deeds.{LinkReady, MakeReady, PopReady, PushReady, SeeReady, SeeTells, TellsNothing, pop_next, push_next, same_next, see_next}
+use Rattle.std.proofs.lemmas.List.{set-get_or}
+use Rattle.protocol_pairs.proofs.Notes.{noted_here}
+use Rattle.example_stack.specs.Kept.{stack_calm}
 use Rattle.example_stack.specs.Makes.{found_in, links, makes, pops, pushes, sees}
 
 -- the law with the view that a deed tells, at this step
@@ -30,8 +33,12 @@ module _ (cell : ℕ) (kind : List ℕ → Type 0) where
 
   pub link_keeps : Keeps (Stack cell kind) no_view LinkReady same_next TellsNothing
   link_keeps p q views n step found meets low is does = (
-    links cell kind p q views n found meets low is.0 is.1 is.3
-        (subst (λ a. Does p n a found q) is.2 does),
+    ⊎_elim
+        (λ calm. subst (Stack cell kind q) (sym (set-get_or views n no_view))
+        (stack_calm cell kind p q n step found views meets calm does))
+        (λ link. links cell kind p q views n found meets low link.0 link.1 link.3
+        (subst (λ a. Does p n a found q) link.2 does))
+        is,
     tt,
   )
 
@@ -51,15 +58,19 @@ module _ (cell : ℕ) (kind : List ℕ → Type 0) where
     tt,
   )
 
-  pub see_keeps : Keeps (Stack cell kind) no_view (SeeReady cell kind) see_next TellsNothing
+  pub see_keeps : Keeps (Stack cell kind) no_view (SeeReady cell kind) see_next (SeeTells kind)
   see_keeps p q views n step found meets low is does = (
-    ⊎_elim
-        (λ look. let d = subst (λ a. Does p n a found q) look does in
-        sees cell kind p q views n found meets low step (subst IsCalm (sym look) tt) does
-        (content p is.0) (found_in cell kind p q views n found meets low is.0 is.1) found d.1.1)
-        (λ check. let d = subst (λ a. Does p n a found q) check.1 does in
-        sees cell kind p q views n found meets low step (subst IsCalm (sym check.1) tt) does
-        (content p is.0) (found_in cell kind p q views n found meets low is.0 is.1) found d.1.1)
-        is.2,
-    tt,
+    kept,
+    λ value has. kept.nodes value (kept.seen value
+        (noted_here no_view (λ (z : View). z.seen) views n _ low value has)),
   )
+    where
+      kept : After see_next cell kind p q views n found step
+      kept = ⊎_elim
+          (λ look. let d = subst (λ a. Does p n a found q) look does in
+          sees cell kind p q views n found meets low step (subst IsCalm (sym look) tt) does
+          (content p is.0) (found_in cell kind p q views n found meets low is.0 is.1) found d.1.1)
+          (λ check. let d = subst (λ a. Does p n a found q) check.1 does in
+          sees cell kind p q views n found meets low step (subst IsCalm (sym check.1) tt) does
+          (content p is.0) (found_in cell kind p q views n found meets low is.0 is.1) found d.1.1)
+          is.2

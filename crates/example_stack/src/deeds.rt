@@ -1,5 +1,5 @@
 //! The deeds by which seats make nodes, push and pop them.
-ghost use Rattle.example_stack.specs.Deeds.{LinkReady, MakeReady, PopReady, PushReady, SeeReady, TellsNothing, pop_next, push_next, same_next, see_next};
+ghost use Rattle.example_stack.specs.Deeds.{LinkReady, MakeReady, PopReady, PushReady, SeeReady, SeeTells, TellsNothing, pop_next, push_next, same_next, see_next};
 ghost use Rattle.example_stack.specs.Keeps.{link_keeps, make_keeps, pop_keeps, push_keeps, see_keeps};
 
 use crate::law::StackLaw;
@@ -21,7 +21,7 @@ impl<K: PayloadKind> Deed<StackLaw<K>> for MakeNode {
 }
 
 /// What the cell holds, or field 0 of a node that the seat owns, by a look or a check. If the seat has the object
-/// afterwards, as under a snapshot, its value joins those that the seat saw in the stack.
+/// afterwards, as under a snapshot, its value joins those that the seat saw in the stack; and what it saw are values of nodes.
 #[derive(Clone, Copy, Debug, Drop)]
 pub struct SeeNode;
 
@@ -30,12 +30,12 @@ impl<K: PayloadKind> Deed<StackLaw<K>> for SeeNode {
 
     ghost next = { λ it of. see_next };
 
-    ghost allows = { λ it of. TellsNothing };
+    ghost allows = { λ it of. SeeTells K.fits };
 
     ghost keeps = { λ it of. see_keeps of.cell K.fits };
 }
 
-/// Field 0 of an object gets null, or a node that the seat saw in the stack.
+/// Field 0 of an object gets null, or a node that the seat saw in the stack; or the step is calm.
 #[derive(Clone, Copy, Debug, Drop)]
 pub struct LinkNode;
 
