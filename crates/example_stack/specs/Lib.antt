@@ -6,3 +6,4 @@ pub mod Leave
 pub mod Moves
 pub mod Makes
 pub mod Keeps
+pub mod Calls

@@ -14,12 +14,20 @@
 
 mod deeds;
 mod law;
+mod making;
+mod popping;
 mod promises;
+mod pushing;
+mod seeing;
 #[cfg(test)]
 mod tests;
 mod view;
 
 pub use deeds::{LinkNode, MakeNode, PopNode, PushNode, SeeNode};
 pub use law::StackLaw;
+pub use atomic_shared::LoadError;
+pub use making::make_node;
+pub use popping::try_pop;
 pub use promises::each_value_was_pushed;
+pub use pushing::{NotPushed, try_push};
 pub use view::View;
