@@ -1,0 +1,5 @@
+pub mod Views
+pub mod Cache
+pub mod Deeds
+pub mod Kept
+pub mod Makes
