@@ -1,1 +1,6 @@
 pub mod Depths
+pub mod Knowing
+pub mod Sights
+pub mod Exchanging
+pub mod NewNodes
+pub mod Takes

@@ -30,13 +30,10 @@ abbrev pub IsNodeOf : (List ℕ → Type 0) → Option SlotId → SeatState View
 IsNodeOf kind None seat = Unit {0}
 IsNodeOf kind (Some s) seat = kind (object_in seat.view s).payload
 
--- The seat found null, or owns a reference to the node that it found, whose value it saw in the stack. It pushed and
--- popped nothing.
+-- The seat found null, or owns a reference to the node that it found, whose value it saw in the stack.
 pub record Sees {P : Type 0} (kind : List ℕ → Type 0) (d : DomainState P) (found : Option SlotId)
     (old new : SeatState View) : Type 0 where
   pub owned : new.view.core.owned ≡ with_found found old.view.core.owned
-  pub pushed : new.view.client.pushed ≡ old.view.client.pushed
-  pub popped : new.view.client.popped ≡ old.view.client.popped
   pub node : IsNodeOf kind found new
   pub saw : SawIt (own_of new.view) new.view.client found
   pub there : IsContent d.shape found

@@ -1,5 +1,5 @@
 -- The deeds on a stack: when each is ready, and the next view.
-use Rattle.std.specs.Prelude.{ℕ, zero, suc, ◌≡◌, ◌<◌, ◌⊎◌, ◌==◌, List, [], ◌∷◌, ◌++◌, Contains, Option, Some, None, if◌then◌else◌}
+use Rattle.std.specs.Prelude.{ℕ, zero, suc, ◌≡◌, ◌<◌, ◌⊎◌, ◌==◌, List, [], ◌++◌, Contains, Option, Some, None, if◌then◌else◌}
 use Rattle.plain_state.specs.declared.act.EventPlace.{EventPlace}
 use Rattle.plain_state.specs.declared.act.EventPlace.TheVariants.{Cell, Field}
 use Rattle.plain_state.specs.declared.act.PlainAct.{PlainAct}
@@ -11,12 +11,8 @@ use Rattle.plain_state.specs.Steps.{word_of}
 use Rattle.plain_protocol.specs.Acts.{IsCalm}
 use Rattle.plain_protocol.specs.Owns.{Object, OwnPart}
 use Rattle.protocol_pairs.specs.Spared.{HasOneOf}
+use Rattle.protocol_pairs.specs.Values.{value_of}
 use Rattle.example_stack.specs.Views.{View}
-
--- what the seat's own part says of a slot
-abbrev pub value_of : Option Object → List (List ℕ)
-value_of None = []
-value_of (Some o) = o.payload ∷ []
 
 -- the seat owns a reference to a node
 abbrev pub OwnsNode : (List ℕ → Type 0) → OwnPart → SlotId → Type 0

@@ -21,12 +21,14 @@ use Rattle.protocol_pairs.specs.Untouched.{IsUntouched}
 use Rattle.protocol_pairs.proofs.Held.{cell_live, first_live}
 use Rattle.protocol_pairs.proofs.Leaves.{calm_is_foreign, foreign_leaves}
 use Rattle.protocol_pairs.proofs.Owning.{owned_live}
+use Rattle.protocol_pairs.specs.Values.{value_of}
+use Rattle.protocol_pairs.proofs.Values.{one_of_value, value_in}
 use Rattle.protocol_pairs.proofs.Notes.{none_in, noted_here, noted_still}
 use Rattle.example_stack.specs.Views.{View, WasPushed, no_view, view_at}
 use Rattle.example_stack.specs.Stack.{Stack, below, owns, top}
-use Rattle.example_stack.specs.Deeds.{IsStackPlace, SawIt, pop_next, push_next, see_next, value_of}
+use Rattle.example_stack.specs.Deeds.{IsStackPlace, SawIt, pop_next, push_next, see_next}
 use Rattle.example_stack.specs.Kept.{untouched_keeps}
-use Rattle.example_stack.specs.Moves.{cell_moves, held_is, one_of_value, saw_value, slot_moves, value_in, view_grows}
+use Rattle.example_stack.specs.Moves.{cell_moves, held_is, saw_value, slot_moves, view_grows}
 
 module _ (cell : ℕ) (kind : List ℕ → Type 0) (p q : Plain) (views : List View) (n found : ℕ)
     (meets : Meets (Stack cell kind) p views) (low : n < length views) where

@@ -1,10 +1,9 @@
 -- What one step does to a stack's nodes: how the law goes with a view that grows, and with a cell or a slot that is
 -- written.
-use Rattle.std.proofs.Common.{◌≡◌, ◌≢◌, ◌⊎◌, inl, inr, ⊎_elim, ℕ, ◌+◌, ◌<◌, Bool, true, false, List, [], ◌∷◌, length, get_or, refl, sym, ap, subst, ◌∙◌, arith, Option, Some, None}
+use Rattle.std.proofs.Common.{◌≡◌, ◌≢◌, ◌⊎◌, inl, inr, ⊎_elim, ℕ, ◌+◌, ◌<◌, Bool, true, false, List, length, get_or, sym, ap, subst, ◌∙◌, arith, Option, Some, None}
 use Rattle.std.specs.Prelude.{Contains, slice_set, if◌then◌else◌}
 use Rattle.std.proofs.lemmas.Bool.{cases_lt}
 use Rattle.std.proofs.lemmas.List.{get_or-set_same, get_or-set_other, set_past}
-use Rattle.std.proofs.lemmas.List.Elements.{Contains-push_cases}
 use Rattle.plain_state.specs.declared.slot.PlainSlot.{PlainSlot}
 use Rattle.plain_state.specs.declared.slot.SlotId.{SlotId}
 use Rattle.plain_state.specs.declared.slot.Stage.TheVariants.{Live}
@@ -12,29 +11,16 @@ use Rattle.plain_state.specs.State.{Plain, new_slot, slot_at}
 use Rattle.plain_state.specs.Steps.{word_of}
 use Rattle.plain_state.proofs.Kit.{cases_slot, slot_is}
 use Rattle.plain_protocol.specs.Owns.{Object}
-use Rattle.protocol_pairs.specs.Spared.{HasOneOf}
-use Rattle.protocol_pairs.proofs.Notes.{noted_cases, noted_still, none_in}
+use Rattle.protocol_pairs.proofs.Notes.{noted_cases, noted_still}
 use Rattle.example_stack.specs.Views.{View, WasPushed, no_view, view_at}
 use Rattle.example_stack.specs.Stack.{IsNode, Stack, below, top}
-use Rattle.example_stack.specs.Deeds.{SawObject, value_of}
+use Rattle.example_stack.specs.Deeds.{SawObject}
 
 -- WHAT A SEAT KNOWS OF A SLOT
 pub saw_value : (v : View) (b : Bool) (o : Object) → SawObject v (if b then Some o else None)
     → Contains v.seen o.payload
 saw_value v true o saw = saw
 saw_value v false o saw = absurd saw
-
-pub one_of_value : (kind : List ℕ → Type 0) (b : Bool) (o : Object)
-    → HasOneOf kind (if b then Some o else None)
-    → (value_of (if b then Some o else None) ≡ o.payload ∷ []) × kind o.payload
-one_of_value kind true o has = (refl, has)
-one_of_value kind false o has = absurd has
-
-pub value_in : (b : Bool) (o : Object) (value : List ℕ)
-    → Contains (value_of (if b then Some o else None)) value → o.payload ≡ value
-value_in true o value has = ⊎_elim (λ none. absurd (none_in value none)) (λ is. is)
-    (Contains-push_cases [] o.payload value has)
-value_in false o value has = absurd (none_in value has)
 
 -- WORDS OF PLACES
 pub held_is : (o : Option SlotId) (s : SlotId) → word_of o ≡ s.0 + 1 → o ≡ Some s

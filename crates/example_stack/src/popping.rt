@@ -1,5 +1,5 @@
 //! A node is taken off a stack.
-ghost use Rattle.std.specs.Prelude.{ℕ, ◌≡◌, ◌<◌, ◌∷◌, ◌++◌, [], IfErr, IfOk, IsErr};
+ghost use Rattle.std.specs.Prelude.{ℕ, ◌≡◌, ◌<◌, ◌∷◌, ◌++◌, [], IfErr, IfOk, OnErr};
 ghost use Rattle.plain_state.specs.declared.slot.Kind.TheVariants as kind;
 ghost use Rattle.core_events.specs.Steps.{CanGive, HasRoom, without_given};
 ghost use Rattle.atomic_shared.specs.Places.{named};
@@ -32,7 +32,7 @@ pub fn try_pop<K: PayloadKind>(
     requires cell { cell ≡ domain.now.protocol.cell }
     requires there { cell < domain.now.shape.cells }
     ensures popped { IfOk result (λ found. Pops K.fits (named found) seat.old seat.new) }
-    ensures refused { IsErr result → seat.new.view.client.popped ≡ seat.old.view.client.popped }
+    ensures refused { OnErr result (seat.new.view.client.popped ≡ seat.old.view.client.popped) }
     ensures pushed { seat.new.view.client.pushed ≡ seat.old.view.client.pushed }
     ensures room { HasRoom seat.new.view.core }
     ensures rest { IsAtRest domain.now seat.new }

@@ -117,12 +117,13 @@ fn put_on<K: PayloadKind>(
         Ok(()) => return Ok(()),
         Err(lost) => lost,
     };
-    let Some(node) = lost.back else {
-        unreachable!()
-    };
     let error = LoadError::Moved {
         seen: held_as(expected),
         now: lost.now,
+    };
+    let back = lost.back;
+    let Some(node) = back else {
+        unreachable!()
     };
     Err(NotPushed { error, node })
 }

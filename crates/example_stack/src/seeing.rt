@@ -1,5 +1,5 @@
 //! What a seat sees in a stack, and what it gives up of that.
-ghost use Rattle.std.specs.Prelude.{ℕ, ◌≡◌, ◌↔◌, Err, IfOk, IsErr};
+ghost use Rattle.std.specs.Prelude.{◌≡◌, IfOk, OnErr};
 ghost use Rattle.plain_state.specs.declared.slot.Kind.TheVariants as kind;
 ghost use Rattle.core_events.specs.Steps.{CanGive, HasRoom, without_given};
 ghost use Rattle.atomic_shared.specs.Loading.{CanLoad};
@@ -27,8 +27,9 @@ pub(crate) fn see<K: PayloadKind>(
     requires place { CanLoad domain.now.shape seat.old.view.core place }
     requires stack { IsPlaceOf domain.now.protocol.cell K.fits seat.old place }
     ensures saw { IfOk result (λ found. Sees K.fits domain.now (named found) seat.old seat.new) }
-    ensures owned { IsErr result → seat.new.view.core.owned ≡ seat.old.view.core.owned }
-    ensures client { IsErr result → seat.new.view.client ≡ seat.old.view.client }
+    ensures owned { OnErr result (seat.new.view.core.owned ≡ seat.old.view.core.owned) }
+    ensures pushed { seat.new.view.client.pushed ≡ seat.old.view.client.pushed }
+    ensures popped { seat.new.view.client.popped ≡ seat.old.view.client.popped }
     ensures objects { KnowsStill seat.old.view.core seat.old seat.new }
     ensures room { HasRoom seat.new.view.core }
     ensures rest { IsAtRest domain.now seat.new }

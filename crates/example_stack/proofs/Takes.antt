@@ -1,0 +1,72 @@
+-- What a seat has on its way through a push and a pop.
+use Rattle.std.proofs.Common.{◌≡◌, ℕ, ◌<◌, List, [], ◌∷◌, ◌++◌, refl, sym, ap, subst, ◌∙◌, arith, Option, Some, None}
+use Rattle.plain_state.specs.declared.slot.SlotId.{SlotId}
+use Rattle.plain_state.specs.declared.slot.Kind.TheVariants.{Strong}
+use Rattle.plain_state.specs.Lists.{times}
+use Rattle.plain_protocol.specs.Owns.{Object}
+use Rattle.core_events.specs.declared.view.CoreView.{CoreView}
+use Rattle.core_events.specs.Steps.{CanGive, without_given}
+use Rattle.core_invariant.proofs.Kit.{one_same, times_push}
+use Rattle.domain_rule.specs.Views.{object_in}
+use Rattle.acquire_retire.specs.Domains.{DomainState}
+use Rattle.acquire_retire.specs.Seats.{SeatState}
+use Rattle.control_word.specs.Moves.{KnowsStill}
+use Rattle.example_stack.specs.Views.{View}
+use Rattle.example_stack.specs.Calls.{HasNode, Sees, popped_too, pushed_too}
+use Rattle.example_stack.proofs.Knowing.{gives_found, has_owned, node_still, owns_again, owns_found}
+
+module _ {P : Type 0} {kind : List ℕ → Type 0} {d : DomainState P} where
+  -- the seat owns the node that it found
+  pub found_node : (s : SlotId) (old new : SeatState View) → Sees kind d (Some s) old new
+      → HasNode kind s new
+  found_node s old new sees = (
+    let push = times_push s s old.view.core.owned in
+        let one = one_same s s refl in
+        let at = ap (times s) sees.owned in omega arith,
+    sees.node,
+  )
+
+  -- A seat that has the node x looks for what is below
+  module _ (x : SlotId) (below : Option SlotId) (old mid : SeatState View) (has : HasNode kind x old)
+      (sees : Sees kind d below old mid) (knows : KnowsStill old.view.core old mid) where
+    known : object_in mid.view x ≡ object_in old.view x
+    known = knows x (has_owned old.view.core x has.0)
+
+    pub has_still : HasNode kind x mid
+    has_still = node_still kind x old mid has
+        (owns_found below mid.view.core old.view.core.owned x sees.owned has.0) known
+
+    pub can_give : (late : SeatState View) → late.view.core.owned ≡ mid.view.core.owned
+        → CanGive Strong below late.view.core
+    can_give late same = gives_found below late.view.core old.view.core.owned (same ∙ sees.owned)
+
+    pub owns_still : (late : SeatState View) → late.view.core.owned ≡ mid.view.core.owned
+        → 0 < times x (without_given Strong below late.view.core).owned
+    owns_still late same =
+        owns_again below late.view.core old.view.core.owned x (same ∙ sees.owned) has.0
+
+    -- and gives up again what it found
+    module _ (new : SeatState View)
+        (given : new.view.core.owned ≡ (without_given Strong below mid.view.core).owned)
+        (still : KnowsStill (without_given Strong below mid.view.core) mid new) where
+      pub known_since : object_in new.view x ≡ object_in mid.view x
+      known_since = still x
+          (has_owned (without_given Strong below mid.view.core) x (owns_still mid refl))
+
+      pub node_again : HasNode kind x new
+      node_again = node_still kind x mid new has_still
+          (subst (λ l. 0 < times x l) (sym given) (owns_still mid refl)) known_since
+
+      pub known_always : object_in new.view x ≡ object_in old.view x
+      known_always = known_since ∙ known
+
+-- what it pushed, told of the views
+pub pushes : (value known : List ℕ) (old mid new : View) → new ≡ pushed_too known mid
+    → known ≡ value → mid.pushed ≡ old.pushed → new.pushed ≡ old.pushed ++ value ∷ []
+pushes value known old mid new is same before =
+    ap (λ (v : View). v.pushed) is ∙ λ i. before i ++ same i ∷ []
+
+pub pops : (value known : List ℕ) (old mid new : View) → new ≡ popped_too known mid
+    → known ≡ value → mid.popped ≡ old.popped → new.popped ≡ old.popped ++ value ∷ []
+pops value known old mid new is same before =
+    ap (λ (v : View). v.popped) is ∙ λ i. before i ++ same i ∷ []
