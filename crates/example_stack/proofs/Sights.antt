@@ -2,23 +2,20 @@
 use Rattle.std.proofs.Common.{◌≡◌, inl, inr, ℕ, suc, zero, ◌+◌, ◌<◌, List, [], ◌∷◌, ◌++◌, length, refl, sym, ap, subst, ◌∙◌, arith, Option, Some, None}
 use Rattle.std.specs.Prelude.{Contains, Err, IfOk, OnErr, Ok, Result, if◌then◌else◌}
 use Rattle.std.proofs.lemmas.List.Elements.{Contains-push}
-use Rattle.plain_state.specs.declared.act.EventPlace.{EventPlace}
 use Rattle.plain_state.specs.declared.act.EventPlace.TheVariants.{Cell, Field}
 use Rattle.plain_state.specs.declared.act.PlainAct.{PlainAct}
 use Rattle.plain_state.specs.declared.act.PlainAct.TheVariants as plain
 use Rattle.plain_state.specs.declared.slot.SlotId.{SlotId}
 use Rattle.plain_state.specs.declared.slot.Kind.{Kind}
 use Rattle.plain_state.specs.declared.slot.Kind.TheVariants.{Strong, Weak, Disposal}
-use Rattle.plain_state.specs.Lists.{Entry, times}
+use Rattle.plain_state.specs.Lists.{times}
 use Rattle.plain_state.specs.Places.{place_kind}
 use Rattle.plain_state.specs.Steps.{word_of}
 use Rattle.plain_protocol.specs.Owns.{Object, OwnPart, HasSlot}
 use Rattle.core_events.specs.declared.act.Act.TheVariants as act
 use Rattle.core_events.specs.declared.outcome.Outcome.TheVariants as outcome
 use Rattle.core_events.specs.declared.view.CoreView.{CoreView}
-use Rattle.core_events.specs.declared.view.Move.{Move}
 use Rattle.core_events.specs.Shows.{show_seat}
-use Rattle.core_events.specs.Steps.{HasRoom}
 use Rattle.core_events.specs.Words.{slot_in}
 use Rattle.core_invariant.proofs.Kit.{one_same, times_push}
 use Rattle.core_shows.proofs.ShownPlaces.{word_slot}
@@ -33,7 +30,6 @@ use Rattle.acquire_retire.specs.Domains.{DomainState}
 use Rattle.acquire_retire.specs.Seats.{SeatState}
 use Rattle.acquire_retire.proofs.Contents.{check_on}
 use Rattle.atomic_shared.specs.Places.{named, strong_place}
-use Rattle.control_word.specs.Moves.{Becomes}
 use Rattle.control_word.specs.Resting.{IsAtRest}
 use Rattle.protected_loads.specs.Loads.{Announces, FindsNull, Misses, Protects}
 use Rattle.protected_loads.specs.References.{IsReadyToLoad, Loads, Refers, with_reference}
@@ -43,8 +39,8 @@ use Rattle.protected_loads.proofs.Telling.{four_notes, holds_has, slot_found}
 use Rattle.protocol_pairs.specs.Values.{value_of}
 use Rattle.example_stack.specs.Views.{View}
 use Rattle.example_stack.specs.Deeds.{IsStackPlace, SeeReady, SeeTells, see_next}
-use Rattle.example_stack.specs.Calls.{HasNode, IsPlaceOf, Sees}
-use Rattle.example_stack.proofs.Knowing.{batch, has_owned, node_still, own_node, room_as, saw_owned}
+use Rattle.example_stack.specs.Calls.{IsPlaceOf, Sees}
+use Rattle.example_stack.proofs.Knowing.{batch, has_owned, node_still, own_node, saw_owned}
 
 kind_of : (q : Place) → place_kind (strong_place q) ≡ Strong
 kind_of (place.Cell i) = refl

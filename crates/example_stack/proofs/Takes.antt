@@ -1,12 +1,12 @@
 -- What a seat has on its way through a push and a pop.
-use Rattle.std.proofs.Common.{◌≡◌, ℕ, ◌<◌, List, [], ◌∷◌, ◌++◌, refl, sym, ap, subst, ◌∙◌, arith, Option, Some, None}
+use Rattle.std.proofs.Common.{◌≡◌, ℕ, ◌<◌, List, [], ◌∷◌, ◌++◌, refl, sym, ap, subst, ◌∙◌, arith, Option, Some}
 use Rattle.plain_state.specs.declared.slot.SlotId.{SlotId}
 use Rattle.plain_state.specs.declared.slot.Kind.TheVariants.{Strong}
 use Rattle.plain_state.specs.Lists.{times}
-use Rattle.plain_protocol.specs.Owns.{Object}
-use Rattle.core_events.specs.declared.view.CoreView.{CoreView}
 use Rattle.core_events.specs.Steps.{CanGive, without_given}
 use Rattle.core_invariant.proofs.Kit.{one_same, times_push}
+use Rattle.counted_handles.specs.Handles.{Handle}
+use Rattle.atomic_shared.specs.Places.{named}
 use Rattle.domain_rule.specs.Views.{object_in}
 use Rattle.acquire_retire.specs.Domains.{DomainState}
 use Rattle.acquire_retire.specs.Seats.{SeatState}
@@ -25,6 +25,13 @@ module _ {P : Type 0} {kind : List ℕ → Type 0} {d : DomainState P} where
         let at = ap (times s) sees.owned in omega arith,
     sees.node,
   )
+
+  -- the same, of a handle
+  pub handle_node : (found : Option Handle) (h : Handle) (t : SlotId) (old new : SeatState View)
+      → found ≡ Some h → t ≡ h.slot → Sees kind d (named found) old new → HasNode kind t new
+  handle_node found h t old new is same sees =
+      subst (λ x. HasNode kind x new) (sym same)
+      (found_node h.slot old new (subst (λ o. Sees kind d (named o) old new) is sees))
 
   -- A seat that has the node x looks for what is below
   module _ (x : SlotId) (below : Option SlotId) (old mid : SeatState View) (has : HasNode kind x old)
