@@ -68,12 +68,12 @@ module _ {P : Type 0} {kind : List ℕ → Type 0} {d : DomainState P} where
       known_always = known_since ∙ known
 
 -- what it pushed, told of the views
-pub pushes : (value known : List ℕ) (old mid new : View) → new ≡ pushed_too known mid
-    → known ≡ value → mid.pushed ≡ old.pushed → new.pushed ≡ old.pushed ++ value ∷ []
-pushes value known old mid new is same before =
+pub pushes : (value told : List ℕ) (old mid new : View) → new ≡ pushed_too told mid
+    → told ≡ value → mid.pushed ≡ old.pushed → new.pushed ≡ old.pushed ++ value ∷ []
+pushes value told old mid new is same before =
     ap (λ (v : View). v.pushed) is ∙ λ i. before i ++ same i ∷ []
 
-pub pops : (value known : List ℕ) (old mid new : View) → new ≡ popped_too known mid
-    → known ≡ value → mid.popped ≡ old.popped → new.popped ≡ old.popped ++ value ∷ []
-pops value known old mid new is same before =
+pub pops : (value told : List ℕ) (old mid new : View) → new ≡ popped_too told mid
+    → told ≡ value → mid.popped ≡ old.popped → new.popped ≡ old.popped ++ value ∷ []
+pops value told old mid new is same before =
     ap (λ (v : View). v.popped) is ∙ λ i. before i ++ same i ∷ []
