@@ -3,3 +3,4 @@ pub mod Cache
 pub mod Deeds
 pub mod Kept
 pub mod Makes
+pub mod Calls

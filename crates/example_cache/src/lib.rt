@@ -9,13 +9,16 @@
 //! told.
 //!
 //! ```text
-//! let cache = CacheLaw::<RecordKind>::new(0);     // weak cell 0
+//! remember(&domain, &mut seat, 0, &object)?;            // weak cell 0; or Spent
+//! let Some(object) = recall(&domain, &mut seat, 0)? else { .. };   // null; or Ended, Moved, Spent
 //! ```
 #![tactic(auto)]
 
 mod deeds;
 mod law;
 mod promises;
+mod recalling;
+mod remembering;
 #[cfg(test)]
 mod tests;
 mod view;
@@ -23,4 +26,6 @@ mod view;
 pub use deeds::{RecallValue, RememberValue};
 pub use law::CacheLaw;
 pub use promises::each_value_was_remembered;
+pub use recalling::{RecallError, recall};
+pub use remembering::remember;
 pub use view::View;
