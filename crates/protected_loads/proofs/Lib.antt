@@ -7,3 +7,4 @@ pub mod Publishing
 pub mod Counted
 pub mod Referring
 pub mod Losing
+pub mod Learning
