@@ -11,6 +11,7 @@ use Rattle.acquire_retire.specs.Calls.{IsSameView, same_view}
 use Rattle.acquire_retire.specs.Domains.{DomainState}
 use Rattle.acquire_retire.specs.Seats.{SeatState}
 use Rattle.control_word.specs.Calls.{FindsEnded}
+use Rattle.protected_loads.specs.Loads.{Misses}
 use Rattle.protected_loads.specs.References.{Loads}
 use Rattle.example_cache.specs.Views.{View}
 use Rattle.example_cache.specs.Deeds.{RecallTells, recall_next}
@@ -48,6 +49,12 @@ pub record Finds {P : Type 0} (kind : List ℕ → Type 0) (d : DomainState P) (
   pub adds :
       (new.view.core.adds ≤ old.view.core.adds + 1)
       × (new.view.core.quota.adds ≡ old.view.core.quota.adds)
+
+-- at its check the cell held another content than at its look
+abbrev pub Moves : {P : Type 0} → (List ℕ → Type 0) → DomainState P → ℕ → Option SlotId
+    → Option SlotId → SeatState View → SeatState View → Type 0
+Moves kind d cell seen now old new =
+    Misses kind d 0 (WeakCell cell) recall_next (RecallTells cell) seen now old new
 
 -- nothing was remembered; or the seat owns the object of the value that it recalled
 abbrev pub Recalls : Option SlotId → SeatState View → SeatState View → Type 0

@@ -2,13 +2,10 @@
 ghost use Rattle.std.specs.Prelude.{ℕ, ◌≡◌, ◌≤◌, ◌+◌, ◌<◌, ◌↔◌, Err, IfOk};
 ghost use Rattle.core_events.specs.Steps.{HasRoom};
 ghost use Rattle.core_events.specs.Words.{slot_in};
-ghost use Rattle.plain_state.specs.declared.act.EventPlace.TheVariants.{WeakCell};
 ghost use Rattle.counted_handles.specs.declared.refusal.LoadError.TheVariants as refused;
 ghost use Rattle.control_word.specs.Moves.{KnowsStill};
 ghost use Rattle.control_word.specs.Resting.{IsAtRest, IsSpent};
-ghost use Rattle.protected_loads.specs.Loads.{Misses};
-ghost use Rattle.example_cache.specs.Deeds.{RecallTells, recall_next};
-ghost use Rattle.example_cache.specs.Calls.{Finds, FoundEnded, Recalls, strong_named, weak_named};
+ghost use Rattle.example_cache.specs.Calls.{Finds, FoundEnded, Moves, Recalls, strong_named, weak_named};
 ghost use Rattle.example_cache.specs.declared.recalling.RecallError.TheVariants as no_recall;
 
 use crate::deeds::RecallValue;
@@ -45,10 +42,11 @@ pub fn recall<K: PayloadKind>(
     requires cell { cell ≡ domain.now.protocol.cell }
     requires there { cell < domain.now.shape.weak_cells }
     ensures recalled { IfOk result (λ found. Recalls (strong_named found) seat.old seat.new) }
-    ensures ended { result ≡ Err no_recall.Ended → FoundEnded K.fits domain.now cell seat.old }
+    ensures ended { result ≡ Err no_recall.Ended → FoundEnded K.fits domain.now
+        domain.now.protocol.cell seat.old }
     ensures moved { (seen now : ℕ) → result ≡ Err (no_recall.Moved seen now)
-        → Misses K.fits domain.now 0 (WeakCell cell) recall_next
-        (RecallTells domain.now.protocol.cell) (slot_in seen) (slot_in now) seat.old seat.new }
+        → Moves K.fits domain.now domain.now.protocol.cell (slot_in seen) (slot_in now)
+        seat.old seat.new }
     ensures spent { result ≡ Err no_recall.Spent
         → seat.old.view.core.quota.adds ≤ seat.old.view.core.adds + 1 }
     ensures remembered { seat.new.view.client.remembered ≡ seat.old.view.client.remembered }
@@ -94,11 +92,11 @@ fn find<K: PayloadKind>(
     requires room { HasRoom seat.old.view.core }
     requires cell { cell ≡ domain.now.protocol.cell }
     requires there { cell < domain.now.shape.weak_cells }
-    ensures found { IfOk result (λ found. Finds K.fits domain.now cell (weak_named found)
-        seat.old seat.new) }
+    ensures found { IfOk result (λ found. Finds K.fits domain.now
+        domain.now.protocol.cell (weak_named found) seat.old seat.new) }
     ensures moved { (seen now : ℕ) → result ≡ Err (refused.Moved seen now)
-        → Misses K.fits domain.now 0 (WeakCell cell) recall_next
-        (RecallTells domain.now.protocol.cell) (slot_in seen) (slot_in now) seat.old seat.new }
+        → Moves K.fits domain.now domain.now.protocol.cell (slot_in seen) (slot_in now)
+        seat.old seat.new }
     ensures spent { (result ≡ Err refused.Spent) ↔ IsSpent seat.old.view.core }
     ensures remembered { seat.new.view.client.remembered ≡ seat.old.view.client.remembered }
     ensures objects { KnowsStill seat.old.view.core seat.old seat.new }

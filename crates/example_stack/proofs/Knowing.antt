@@ -41,14 +41,6 @@ pub node_still : (kind : List ℕ → Type 0) (x : SlotId) (old new : SeatState 
     → object_in new.view x ≡ object_in old.view x → HasNode kind x new
 node_still kind x old new has owns same = (owns, subst (λ o. kind o.payload) (sym same) has.1)
 
--- ROOM depends on the batch alone
-abbrev pub batch : CoreView → List Entry × List Entry × ℕ
-batch v = (v.retired, v.owed, v.room)
-
-pub room_as : (v w : CoreView) → batch w ≡ batch v → HasRoom v → HasRoom w
-room_as v w same room =
-    subst (λ (b : List Entry × List Entry × ℕ). length b.0 + length b.1 < b.2) (sym same) room
-
 -- WHAT WAS FOUND AND GIVEN AGAIN leaves a seat what it owned
 pub gives_found : (found : Option SlotId) (v : CoreView) (xs : List SlotId)
     → v.owned ≡ with_found found xs → CanGive Strong found v

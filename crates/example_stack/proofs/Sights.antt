@@ -1,6 +1,6 @@
 -- What a load with the deed SeeNode leaves of a seat.
 use Rattle.std.proofs.Common.{◌≡◌, inl, inr, ℕ, suc, zero, ◌+◌, ◌<◌, List, [], ◌∷◌, ◌++◌, length, refl, sym, ap, subst, ◌∙◌, arith, Option, Some, None}
-use Rattle.std.specs.Prelude.{Contains, Err, IfOk, OnErr, Ok, Result, if◌then◌else◌}
+use Rattle.std.specs.Prelude.{Contains, Err, IfErr, IfOk, OnErr, Ok, Result, if◌then◌else◌}
 use Rattle.std.proofs.lemmas.List.Elements.{Contains-push}
 use Rattle.plain_state.specs.declared.act.EventPlace.TheVariants.{Cell, Field}
 use Rattle.plain_state.specs.declared.act.PlainAct.{PlainAct}
@@ -30,12 +30,10 @@ use Rattle.acquire_retire.specs.Domains.{DomainState}
 use Rattle.acquire_retire.specs.Seats.{SeatState}
 use Rattle.acquire_retire.proofs.Contents.{check_on}
 use Rattle.atomic_shared.specs.Places.{named, strong_place}
-use Rattle.control_word.specs.Resting.{IsAtRest}
+use Rattle.control_word.specs.Resting.{IsAtRest, IsSpent}
 use Rattle.protected_loads.specs.Loads.{Announces, FindsNull, Misses, Protects}
 use Rattle.protected_loads.specs.References.{IsReadyToLoad, Loads, Refers, with_reference}
-use Rattle.protected_loads.proofs.Checking.{valid_word}
-use Rattle.protected_loads.proofs.Protecting.{holds_snapshot}
-use Rattle.protected_loads.proofs.Telling.{four_notes, holds_has, slot_found}
+use Rattle.protected_loads.proofs.Learning.{allowed, batch, batch_loaded, batch_moved, checked, client_found, client_moved, client_null, has_found, known_found, slot_there}
 use Rattle.protocol_pairs.specs.Values.{value_of}
 use Rattle.example_stack.specs.Views.{View}
 use Rattle.example_stack.specs.Deeds.{IsStackPlace, SeeReady, SeeTells, see_next}
@@ -91,93 +89,48 @@ module _ {P : Type 0} (kind : List ℕ → Type 0) (d : DomainState P) (cell : �
         (strong_place q, ready_place mid (place_still mid s announces is), inr (0, refl));
   }
 
-  -- THE BATCH is as it was
-  with_batch : (k : Kind) (s : SlotId) (v : CoreView) → batch (with_reference k s v) ≡ batch v
-  with_batch Strong s v = refl
-  with_batch Weak s v = refl
-  with_batch Disposal s v = refl
-
   -- WHAT IT LEAVES
   module _ (rest : IsAtRest d old) (new : SeatState View) where
-    abbrev Found : Option SlotId → Type 0
-    Found found =
-        Sees kind d found old new × (deeds new.view.client ≡ deeds old.view.client)
-        × (batch new.view.core ≡ batch old.view.core)
-
-    finds_null : FindsNull kind d (strong_place q) see_next (SeeTells kind) old new → Found None
-    finds_null null =
-        let step = null.becomes.walks.1 in (
-          record {
-            owned = ap (λ (v : CoreView). v.owned) null.becomes.core;
-            node = tt;
-            saw = tt;
-            there = tt;
-          },
-          ap (λ (z : SeatState View). deeds z.view.client) null.becomes.walks.2
-              ∙ ap deeds step.told.client
-              ∙ see_same (own_of old.view) (own_of null.becomes.walks.0.view) old.view.client
-              (plain.Look (strong_place q)) step.word,
-          ap batch null.becomes.core,
-        )
+    finds_null : FindsNull kind d (strong_place q) see_next (SeeTells kind) old new
+        → Sees kind d None old new
+    finds_null null = record {
+      owned = ap (λ (v : CoreView). v.owned) null.becomes.core;
+      node = tt;
+      saw = tt;
+      there = tt;
+      spent = λ e.
+          let adds = ap (λ (v : CoreView). v.adds) null.becomes.core in
+          let quota = ap (λ (v : CoreView). v.quota.adds) null.becomes.core in omega arith;
+    }
 
     refers : (s : SlotId) → Refers kind d (strong_place q) see_next (SeeTells kind) s old new
-        → Found (Some s)
-    refers s r = (
-      record {
-        owned = owned;
-        node = subst (λ (o : Object). kind o.payload) (sym known) (step.told.happened.fact.2 _ seen);
-        saw = saw_owned s new (has_owned new.view.core s own) (subst (λ (l : List (List ℕ) × Object).
-            Contains l.0 l.1.payload) (λ i. ((sym client i).seen, sym known i)) seen);
-        there = slot_found step.told (strong_place q) (check_on d.shape 0 (strong_place q)) s word;
-      },
-      ap deeds client ∙ ap deeds step.told.client ∙ see_same (own_of pr.mid.view) (own_of mid.view) pr.mid.view.client
-              (plain.Check 0 (strong_place q)) step.word
-          ∙ ap deeds pr.announces.client,
-      ap batch r.core ∙ with_batch (place_kind (strong_place q)) s old.view.core,
-    )
+        → Sees kind d (Some s) old new
+    refers s r = record {
+      owned = owned;
+      node = (allowed d (strong_place q) old new s rest r).2 _ seen;
+      saw = saw_owned s new (has_owned new.view.core s own) seen;
+      there = slot_there d (strong_place q) old new s rest r;
+      spent = λ e.
+          let adds = ap (λ (v : CoreView). v.adds) r.core
+          ∙ ap (λ k. (with_reference k s old.view.core).adds) (kind_of q) in
+          let quota = ap (λ (v : CoreView). v.quota.adds) r.core
+          ∙ ap (λ k. (with_reference k s old.view.core).quota.adds) (kind_of q) in omega arith;
+    }
       where
-        pr : Protects kind d 0 (strong_place q) see_next (SeeTells kind) s old r.mid
-        pr = r.protects
-
-        there : 0 < length old.view.core.notes
-        there = let four = four_notes pr.announces.becomes.walks.1.told in omega arith
-
         mid : SeatState View
-        mid = pr.checks.walks.0
+        mid = checked d (strong_place q) old new s rest r
 
-        step : Steps kind d see_next (SeeTells kind) (act.Check 0 (strong_place q)) pr.mid mid
-            outcome.Valid
-        step = pr.checks.walks.1
-
-        word : slot_in step.word ≡ Some s
-        word = valid_word d (strong_place q) 0 (omega arith) s old pr.mid rest rest.first pr.announces
-            mid step
-
-        is_next : step.word ≡ suc s.0
-        is_next = let e : s.0 + 1 ≡ step.word = ap word_of (sym word) ∙ word_slot step.word in
-            omega arith
-
-        client : new.view.client ≡ mid.view.client
-        client = r.client ∙ ap (λ (z : SeatState View). z.view.client) pr.checks.walks.2
-
-        known : object_in new.view s ≡ object_in mid.view s
-        known = r.object ∙ sym pr.object
-            ∙ ap (λ (z : SeatState View). object_in z.view s) pr.checks.walks.2
-
-        has : HasSlot (show_seat mid.view.core) s
-        has = subst (λ (z : SeatState View). HasSlot (show_seat z.view.core) s) pr.checks.walks.2
-            (holds_has r.mid.view.core s (holds_snapshot (strong_place q) 0 s
-            old.view.core there rest.first r.mid _ pr.core))
-
-        seen : Contains mid.view.client.seen (object_in mid.view s).payload
-        seen = subst (λ (v : View). Contains v.seen (object_in mid.view s).payload)
-            (sym (step.told.client
-            ∙ ap (see_next (own_of pr.mid.view) (own_of mid.view) pr.mid.view.client
-            (plain.Check 0 (strong_place q))) is_next))
-            (subst (λ b. Contains (pr.mid.view.client.seen
+        seen : Contains new.view.client.seen (object_in new.view s).payload
+        seen = subst (λ (x : View × Object). Contains x.0.seen x.1.payload)
+            (λ i. (
+              sym (client_found d (strong_place q) old new s rest r) i,
+              sym (known_found d (strong_place q) old new s rest r) i,
+            ))
+            (subst (λ b. Contains (r.protects.mid.view.client.seen
             ++ value_of (if b then Some (object_in mid.view s) else None))
-            (object_in mid.view s).payload) (sym has)
-            (Contains-push pr.mid.view.client.seen (object_in mid.view s).payload))
+            (object_in mid.view s).payload)
+            (sym (has_found d (strong_place q) old new s rest r))
+            (Contains-push r.protects.mid.view.client.seen (object_in mid.view s).payload))
 
         owned : new.view.core.owned ≡ old.view.core.owned ++ s ∷ []
         owned = ap (λ (v : CoreView). v.owned) r.core
@@ -188,30 +141,31 @@ module _ {P : Type 0} (kind : List ℕ → Type 0) (d : DomainState P) (cell : �
             let one = one_same s s refl in
             let at = ap (times s) owned in omega arith
 
-    pub loads : (found : Option SlotId)
-        → Loads kind d (strong_place q) see_next (SeeTells kind) found old new → Found found
-    loads None null = finds_null null
-    loads (Some s) r = refers s r
+    sees : (found : Option SlotId)
+        → Loads kind d (strong_place q) see_next (SeeTells kind) found old new
+        → Sees kind d found old new
+    sees None null = finds_null null
+    sees (Some s) r = refers s r
 
-    -- where the place has moved
-    pub misses : (seen now : Option SlotId)
+    -- it pushed and popped nothing
+    same_deeds : (found : Option SlotId)
+        → Loads kind d (strong_place q) see_next (SeeTells kind) found old new
+        → deeds new.view.client ≡ deeds old.view.client
+    same_deeds None null = ap deeds (client_null d (strong_place q) old new null)
+    same_deeds (Some s) r = ap deeds (client_found d (strong_place q) old new s rest r)
+        ∙ ap deeds r.protects.announces.client
+
+    moved_deeds : (seen now : Option SlotId)
         → Misses kind d 0 (strong_place q) see_next (SeeTells kind) seen now old new
-        → (new.view.core.owned ≡ old.view.core.owned)
-        × (deeds new.view.client ≡ deeds old.view.client)
-        × (batch new.view.core ≡ batch old.view.core)
-    misses seen now m =
-        let step = m.checks.walks.1 in (
-          ap (λ (v : CoreView). v.owned) m.core,
-          ap deeds m.client
-              ∙ ap (λ (z : SeatState View). deeds z.view.client) m.checks.walks.2
-              ∙ ap deeds step.told.client ∙ see_same (own_of m.mid.view) (own_of m.checks.walks.0.view) m.mid.view.client
-              (plain.Check 0 (strong_place q)) step.word
-              ∙ ap deeds m.announces.client,
-          ap batch m.core,
-        )
+        → deeds new.view.client ≡ deeds old.view.client
+    moved_deeds seen now m = ap deeds (client_moved d (strong_place q) old new seen now m)
+        ∙ (see_same (own_of m.mid.view) (own_of m.checks.walks.0.view) m.mid.view.client
+        (plain.Check 0 (strong_place q)) m.checks.walks.1.word
+        ∙ ap deeds m.announces.client)
 
     -- whatever the load answers
     module _ (r : Result (Option Handle) LoadError) (same : r ≡ Err refused.Spent → new ≡ old)
+        (spent : r ≡ Err refused.Spent → IsSpent old.view.core)
         (loaded : IfOk r (λ found.
         Loads kind d (strong_place q) see_next (SeeTells kind) (named found) old new))
         (moved : (seen now : ℕ) → r ≡ Err (refused.Moved seen now)
@@ -223,6 +177,7 @@ module _ {P : Type 0} (kind : List ℕ → Type 0) (d : DomainState P) (cell : �
           × OnErr r (new.view.core.owned ≡ old.view.core.owned)
           × (deeds new.view.client ≡ deeds old.view.client)
           × (batch new.view.core ≡ batch old.view.core)
+          × IfErr r (λ error. IsWhy kind d (IsSpent old.view.core) error)
 
       pub answered : After r
       answered = go r refl loaded
@@ -231,14 +186,27 @@ module _ {P : Type 0} (kind : List ℕ → Type 0) (d : DomainState P) (cell : �
               → IfOk o (λ found.
               Loads kind d (strong_place q) see_next (SeeTells kind) (named found) old new)
               → After o
-          go (Ok found) is l = let f = loads (named found) l in (f.0, tt, f.1, f.2)
+          go (Ok found) is l = (
+            sees (named found) l,
+            tt,
+            same_deeds (named found) l,
+            batch_loaded kind d (strong_place q) see_next (SeeTells kind) old new (named found) l,
+            tt,
+          )
           go (Err refused.Spent) is l =
               let e = same is in (
                 tt,
                 ap (λ (z : SeatState View). z.view.core.owned) e,
                 ap (λ (z : SeatState View). deeds z.view.client) e,
                 ap (λ (z : SeatState View). batch z.view.core) e,
+                spent is,
               )
           go (Err (refused.Moved seen now)) is l =
-              let m = misses (slot_in seen) (slot_in now) (moved seen now is) in
-              (tt, m.0, m.1, m.2)
+              let m = moved seen now is in (
+                tt,
+                ap (λ (v : CoreView). v.owned) m.core,
+                moved_deeds (slot_in seen) (slot_in now) m,
+                batch_moved kind d (strong_place q) see_next (SeeTells kind) old new (slot_in seen)
+                    (slot_in now) m,
+                (strong_place q, old, new, inl m),
+              )

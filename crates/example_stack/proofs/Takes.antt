@@ -1,5 +1,8 @@
 -- What a seat has on its way through a push and a pop.
-use Rattle.std.proofs.Common.{◌≡◌, ℕ, ◌<◌, List, [], ◌∷◌, ◌++◌, refl, sym, ap, subst, ◌∙◌, arith, Option, Some}
+use Rattle.std.proofs.Common.{◌≡◌, inr, ℕ, ◌<◌, List, [], ◌∷◌, ◌++◌, refl, sym, ap, subst, ◌∙◌, arith, Option, Some}
+use Rattle.std.specs.Prelude.{Err, IfErr, Ok, Result}
+use Rattle.plain_state.specs.declared.act.EventPlace.{EventPlace}
+use Rattle.plain_state.specs.declared.act.PlainAct.{PlainAct}
 use Rattle.plain_state.specs.declared.slot.SlotId.{SlotId}
 use Rattle.plain_state.specs.declared.slot.Kind.TheVariants.{Strong}
 use Rattle.plain_state.specs.Lists.{times}
@@ -12,7 +15,7 @@ use Rattle.acquire_retire.specs.Domains.{DomainState}
 use Rattle.acquire_retire.specs.Seats.{SeatState}
 use Rattle.control_word.specs.Moves.{KnowsStill}
 use Rattle.example_stack.specs.Views.{View}
-use Rattle.example_stack.specs.Calls.{HasNode, Sees, popped_too, pushed_too}
+use Rattle.example_stack.specs.Calls.{Changes, HasNode, IsWhy, Sees, popped_too, pushed_too}
 use Rattle.example_stack.proofs.Knowing.{gives_found, has_owned, node_still, owns_again, owns_found}
 
 module _ {P : Type 0} {kind : List ℕ → Type 0} {d : DomainState P} where
@@ -77,3 +80,37 @@ pub pops : (value told : List ℕ) (old mid new : View) → new ≡ popped_too t
     → told ≡ value → mid.popped ≡ old.popped → new.popped ≡ old.popped ++ value ∷ []
 pops value told old mid new is same before =
     ap (λ (v : View). v.popped) is ∙ λ i. before i ++ same i ∷ []
+
+-- WHY A CALL WAS REFUSED
+module _ {P : Type 0} (kind : List ℕ → Type 0) (d : DomainState P) where
+  pub why_as : {S T : Type 0} → (S → T) → (error : LoadError) → IsWhy kind d S error
+      → IsWhy kind d T error
+  why_as as refused.Spent why = as why
+  why_as as (refused.Moved seen now) why = why
+
+  pub lost_changes : (place : EventPlace) (next : OwnPart → OwnPart → View → PlainAct → ℕ → View)
+      (given expected found : Option SlotId) (seen now : ℕ) (old new : SeatState View)
+      → Loses kind d next TellsNothing place given expected found old new
+      → seen ≡ word_of expected → now ≡ word_of found → Changes kind d seen now
+  lost_changes place next given expected found seen now old new loses is at = (
+    place,
+    old,
+    new,
+    inr (
+          next,
+          given,
+          subst (λ (e : Option SlotId × Option SlotId).
+              Loses kind d next TellsNothing place given e.0 e.1 old new)
+              (λ i. (
+                sym (ap slot_in is ∙ slot_word expected) i,
+                sym (ap slot_in at ∙ slot_word found) i,
+              ))
+              loses,
+        ),
+  )
+
+-- what follows for each error follows for that of a result
+pub then_err : {T E : Type 0} (P Q : E → Type 0) (r : Result T E) → ((e : E) → P e → Q e)
+    → IfErr r P → IfErr r Q
+then_err P Q (Ok x) follows p = tt
+then_err P Q (Err e) follows p = follows e p

@@ -1,5 +1,5 @@
 //! A node is taken off a stack.
-ghost use Rattle.std.specs.Prelude.{ℕ, ◌≡◌, ◌<◌, ◌∷◌, ◌++◌, [], IfErr, IfOk, OnErr};
+ghost use Rattle.std.specs.Prelude.{◌≡◌, ◌<◌, ◌+◌, ◌∷◌, ◌++◌, [], IfErr, IfOk, OnErr};
 ghost use Rattle.plain_state.specs.declared.slot.Kind.TheVariants as kind;
 ghost use Rattle.core_events.specs.Steps.{CanGive, HasRoom, without_given};
 ghost use Rattle.atomic_shared.specs.Places.{named};
@@ -7,7 +7,7 @@ ghost use Rattle.control_word.specs.Moves.{KnowsStill};
 ghost use Rattle.control_word.specs.Resting.{IsAtRest};
 ghost use Rattle.domain_rule.specs.Views.{object_in, own_of};
 ghost use Rattle.example_stack.specs.Deeds.{SawIt};
-ghost use Rattle.example_stack.specs.Calls.{HasNode, Pops, popped_too};
+ghost use Rattle.example_stack.specs.Calls.{Changes, HasFewAdds, HasNode, IsWhy, Pops, popped_too};
 
 use crate::deeds::PopNode;
 use crate::law::StackLaw;
@@ -32,6 +32,8 @@ pub fn try_pop<K: PayloadKind>(
     requires cell { cell ≡ domain.now.protocol.cell }
     requires there { cell < domain.now.shape.cells }
     ensures popped { IfOk result (λ found. Pops K.fits (named found) seat.old seat.new) }
+    ensures why { IfErr result (λ error. IsWhy K.fits domain.now
+        (HasFewAdds seat.old.view.core) error) }
     ensures refused { OnErr result (seat.new.view.client.popped ≡ seat.old.view.client.popped) }
     ensures pushed { seat.new.view.client.pushed ≡ seat.old.view.client.pushed }
     ensures room { HasRoom seat.new.view.core }
@@ -83,6 +85,7 @@ fn take_top<K: PayloadKind>(
         ≡ (without_given kind.Strong (named below) seat.old.view.core).owned) }
     ensures refused { IfErr result (λ lost. seat.new.view.client ≡ seat.old.view.client) }
     ensures owned { IfErr result (λ lost. seat.new.view.core.owned ≡ seat.old.view.core.owned) }
+    ensures why { IfErr result (λ lost. Changes K.fits domain.now (top.0 + 1) lost.now) }
     ensures back { IfErr result (λ lost. lost.back ≡ below) }
     ensures objects { KnowsStill (without_given kind.Strong (named below) seat.old.view.core)
         seat.old seat.new }

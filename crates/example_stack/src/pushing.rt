@@ -5,10 +5,10 @@ ghost use Rattle.plain_state.specs.Lists.{times};
 ghost use Rattle.core_events.specs.Steps.{CanGive, HasRoom, IsContent, without_given};
 ghost use Rattle.atomic_shared.specs.Places.{named};
 ghost use Rattle.control_word.specs.Moves.{KnowsStill};
-ghost use Rattle.control_word.specs.Resting.{IsAtRest};
+ghost use Rattle.control_word.specs.Resting.{IsAtRest, IsSpent};
 ghost use Rattle.domain_rule.specs.Views.{object_in, own_of};
 ghost use Rattle.example_stack.specs.Deeds.{SawIt};
-ghost use Rattle.example_stack.specs.Calls.{HasNode, pushed_too};
+ghost use Rattle.example_stack.specs.Calls.{HasNode, IsWhy, pushed_too};
 
 use crate::deeds::{LinkNode, PushNode};
 use crate::law::StackLaw;
@@ -43,6 +43,8 @@ pub fn try_push<K: PayloadKind>(
         ≡ seat.old.view.client.pushed ++ (object_in seat.old.view node.slot).payload ∷ []) }
     ensures refused { IfErr result (λ not. seat.new.view.client.pushed
         ≡ seat.old.view.client.pushed) }
+    ensures why { IfErr result (λ not. IsWhy K.fits domain.now (IsSpent seat.old.view.core)
+        not.error) }
     ensures back { IfErr result (λ not. not.node ≡ node) }
     ensures still { IfErr result (λ not. HasNode K.fits not.node.slot seat.new) }
     ensures popped { seat.new.view.client.popped ≡ seat.old.view.client.popped }
@@ -108,6 +110,7 @@ fn put_on<K: PayloadKind>(
     ensures pushed { IfOk result (λ done. seat.new.view.client
         ≡ pushed_too (object_in seat.old.view node.slot).payload seat.old.view.client) }
     ensures refused { IfErr result (λ not. seat.new.view.client ≡ seat.old.view.client) }
+    ensures why { IfErr result (λ not. IsWhy K.fits domain.now ⊥ not.error) }
     ensures back { IfErr result (λ not. not.node ≡ node) }
     ensures still { IfErr result (λ not. HasNode K.fits not.node.slot seat.new) }
     ensures room { HasRoom seat.new.view.core }

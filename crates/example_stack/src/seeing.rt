@@ -1,12 +1,12 @@
 //! What a seat sees in a stack, and what it gives up of that.
-ghost use Rattle.std.specs.Prelude.{◌≡◌, IfOk, OnErr};
+ghost use Rattle.std.specs.Prelude.{◌≡◌, IfErr, IfOk, OnErr};
 ghost use Rattle.plain_state.specs.declared.slot.Kind.TheVariants as kind;
 ghost use Rattle.core_events.specs.Steps.{CanGive, HasRoom, without_given};
 ghost use Rattle.atomic_shared.specs.Loading.{CanLoad};
 ghost use Rattle.atomic_shared.specs.Places.{named};
 ghost use Rattle.control_word.specs.Moves.{KnowsStill};
-ghost use Rattle.control_word.specs.Resting.{IsAtRest};
-ghost use Rattle.example_stack.specs.Calls.{IsPlaceOf, Sees};
+ghost use Rattle.control_word.specs.Resting.{IsAtRest, IsSpent};
+ghost use Rattle.example_stack.specs.Calls.{IsPlaceOf, IsWhy, Sees};
 
 use crate::deeds::SeeNode;
 use crate::law::StackLaw;
@@ -27,6 +27,8 @@ pub(crate) fn see<K: PayloadKind>(
     requires place { CanLoad domain.now.shape seat.old.view.core place }
     requires stack { IsPlaceOf domain.now.protocol.cell K.fits seat.old place }
     ensures saw { IfOk result (λ found. Sees K.fits domain.now (named found) seat.old seat.new) }
+    ensures why { IfErr result (λ error. IsWhy K.fits domain.now (IsSpent seat.old.view.core)
+        error) }
     ensures owned { OnErr result (seat.new.view.core.owned ≡ seat.old.view.core.owned) }
     ensures pushed { seat.new.view.client.pushed ≡ seat.old.view.client.pushed }
     ensures popped { seat.new.view.client.popped ≡ seat.old.view.client.popped }
