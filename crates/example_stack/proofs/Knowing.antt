@@ -1,13 +1,13 @@
 -- What a seat knows of its own slots by its view.
-use Rattle.std.proofs.Common.{◌≡◌, ℕ, ◌+◌, ◌<◌, List, length, refl, sym, ap, subst, arith, Option, Some, None}
+use Rattle.std.proofs.Common.{◌≡◌, ℕ, ◌<◌, List, refl, sym, ap, subst, arith, Option, Some, None}
 use Rattle.std.specs.Prelude.{Contains, if◌then◌else◌}
 use Rattle.plain_state.specs.declared.slot.SlotId.{SlotId}
 use Rattle.plain_state.specs.declared.slot.Kind.TheVariants.{Strong}
-use Rattle.plain_state.specs.Lists.{Entry, times}
+use Rattle.plain_state.specs.Lists.{times}
 use Rattle.plain_protocol.specs.Owns.{HasSlot}
 use Rattle.core_events.specs.declared.view.CoreView.{CoreView}
 use Rattle.core_events.specs.Shows.{show_seat}
-use Rattle.core_events.specs.Steps.{CanGive, HasRoom, without_given}
+use Rattle.core_events.specs.Steps.{CanGive, without_given}
 use Rattle.core_invariant.proofs.Kit.{one_same, times_push, times_without}
 use Rattle.domain_rule.specs.Views.{object_in, own_of}
 use Rattle.acquire_retire.specs.Seats.{SeatState}

@@ -1,44 +1,36 @@
 -- What a load with the deed SeeNode leaves of a seat.
-use Rattle.std.proofs.Common.{◌≡◌, inl, inr, ℕ, suc, zero, ◌+◌, ◌<◌, List, [], ◌∷◌, ◌++◌, length, refl, sym, ap, subst, ◌∙◌, arith, Option, Some, None}
+use Rattle.std.proofs.Common.{◌≡◌, inl, inr, ℕ, suc, zero, ◌<◌, List, [], ◌∷◌, ◌++◌, refl, sym, ap, subst, ◌∙◌, arith, Option, Some, None}
 use Rattle.std.specs.Prelude.{Contains, Err, IfErr, IfOk, OnErr, Ok, Result, if◌then◌else◌}
 use Rattle.std.proofs.lemmas.List.Elements.{Contains-push}
 use Rattle.plain_state.specs.declared.act.EventPlace.TheVariants.{Cell, Field}
 use Rattle.plain_state.specs.declared.act.PlainAct.{PlainAct}
 use Rattle.plain_state.specs.declared.act.PlainAct.TheVariants as plain
 use Rattle.plain_state.specs.declared.slot.SlotId.{SlotId}
-use Rattle.plain_state.specs.declared.slot.Kind.{Kind}
-use Rattle.plain_state.specs.declared.slot.Kind.TheVariants.{Strong, Weak, Disposal}
+use Rattle.plain_state.specs.declared.slot.Kind.TheVariants.{Strong}
 use Rattle.plain_state.specs.Lists.{times}
 use Rattle.plain_state.specs.Places.{place_kind}
-use Rattle.plain_state.specs.Steps.{word_of}
-use Rattle.plain_protocol.specs.Owns.{Object, OwnPart, HasSlot}
-use Rattle.core_events.specs.declared.act.Act.TheVariants as act
-use Rattle.core_events.specs.declared.outcome.Outcome.TheVariants as outcome
+use Rattle.plain_protocol.specs.Owns.{Object, OwnPart}
 use Rattle.core_events.specs.declared.view.CoreView.{CoreView}
-use Rattle.core_events.specs.Shows.{show_seat}
 use Rattle.core_events.specs.Words.{slot_in}
 use Rattle.core_invariant.proofs.Kit.{one_same, times_push}
-use Rattle.core_shows.proofs.ShownPlaces.{word_slot}
 use Rattle.counted_handles.specs.Handles.{Handle}
 use Rattle.counted_handles.specs.declared.place.Place.{Place}
 use Rattle.counted_handles.specs.declared.refusal.LoadError.{LoadError}
 use Rattle.counted_handles.specs.declared.refusal.LoadError.TheVariants as refused
 use Rattle.counted_handles.specs.declared.place.Place.TheVariants as place
 use Rattle.domain_rule.specs.Views.{object_in, own_of}
-use Rattle.acquire_retire.specs.Calls.{Steps}
 use Rattle.acquire_retire.specs.Domains.{DomainState}
 use Rattle.acquire_retire.specs.Seats.{SeatState}
-use Rattle.acquire_retire.proofs.Contents.{check_on}
 use Rattle.atomic_shared.specs.Places.{named, strong_place}
 use Rattle.control_word.specs.Resting.{IsAtRest, IsSpent}
-use Rattle.protected_loads.specs.Loads.{Announces, FindsNull, Misses, Protects}
+use Rattle.protected_loads.specs.Loads.{Announces, FindsNull, Misses}
 use Rattle.protected_loads.specs.References.{IsReadyToLoad, Loads, Refers, with_reference}
 use Rattle.protected_loads.proofs.Learning.{allowed, batch, batch_loaded, batch_moved, checked, client_found, client_moved, client_null, has_found, known_found, slot_there}
 use Rattle.protocol_pairs.specs.Values.{value_of}
 use Rattle.example_stack.specs.Views.{View}
 use Rattle.example_stack.specs.Deeds.{IsStackPlace, SeeReady, SeeTells, see_next}
-use Rattle.example_stack.specs.Calls.{IsPlaceOf, Sees}
-use Rattle.example_stack.proofs.Knowing.{batch, has_owned, node_still, own_node, saw_owned}
+use Rattle.example_stack.specs.Calls.{IsPlaceOf, IsWhy, Sees}
+use Rattle.example_stack.proofs.Knowing.{has_owned, node_still, own_node, saw_owned}
 
 kind_of : (q : Place) → place_kind (strong_place q) ≡ Strong
 kind_of (place.Cell i) = refl

@@ -6,9 +6,17 @@ use Rattle.plain_state.specs.declared.act.PlainAct.{PlainAct}
 use Rattle.plain_state.specs.declared.slot.SlotId.{SlotId}
 use Rattle.plain_state.specs.declared.slot.Kind.TheVariants.{Strong}
 use Rattle.plain_state.specs.Lists.{times}
+use Rattle.plain_state.specs.Steps.{word_of}
+use Rattle.plain_protocol.specs.Owns.{OwnPart}
 use Rattle.core_events.specs.Steps.{CanGive, without_given}
+use Rattle.core_events.specs.Words.{slot_in}
 use Rattle.core_invariant.proofs.Kit.{one_same, times_push}
+use Rattle.core_shows.proofs.ShownPlaces.{slot_word}
 use Rattle.counted_handles.specs.Handles.{Handle}
+use Rattle.counted_handles.specs.declared.refusal.LoadError.{LoadError}
+use Rattle.counted_handles.specs.declared.refusal.LoadError.TheVariants as refused
+use Rattle.retiring_stores.specs.Exchanging.{Loses}
+use Rattle.example_stack.specs.Deeds.{TellsNothing}
 use Rattle.atomic_shared.specs.Places.{named}
 use Rattle.domain_rule.specs.Views.{object_in}
 use Rattle.acquire_retire.specs.Domains.{DomainState}
@@ -85,8 +93,8 @@ pops value told old mid new is same before =
 module _ {P : Type 0} (kind : List ℕ → Type 0) (d : DomainState P) where
   pub why_as : {S T : Type 0} → (S → T) → (error : LoadError) → IsWhy kind d S error
       → IsWhy kind d T error
-  why_as as refused.Spent why = as why
-  why_as as (refused.Moved seen now) why = why
+  why_as follows refused.Spent why = follows why
+  why_as follows (refused.Moved seen now) why = why
 
   pub lost_changes : (place : EventPlace) (next : OwnPart → OwnPart → View → PlainAct → ℕ → View)
       (given expected found : Option SlotId) (seen now : ℕ) (old new : SeatState View)

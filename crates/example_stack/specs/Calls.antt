@@ -31,6 +31,10 @@ abbrev pub IsPlaceOf : ℕ → (List ℕ → Type 0) → SeatState View → Plac
 IsPlaceOf cell kind seat (place.Cell i) = i ≡ cell
 IsPlaceOf cell kind seat (place.Field x i) = (i ≡ 0) × HasNode kind x seat
 
+-- at most one add is left
+abbrev pub HasFewAdds : CoreView → Type 0
+HasFewAdds v = v.quota.adds ≤ v.adds + 1
+
 abbrev pub with_found : Option SlotId → List SlotId → List SlotId
 with_found None xs = xs
 with_found (Some s) xs = xs ++ s ∷ []
@@ -61,10 +65,6 @@ Changes kind d seen now =
 abbrev pub IsWhy : {P : Type 0} → (List ℕ → Type 0) → DomainState P → Type 0 → LoadError → Type 0
 IsWhy kind d spent refused.Spent = spent
 IsWhy kind d spent (refused.Moved seen now) = Changes kind d seen now
-
--- at most one add is left
-abbrev pub HasFewAdds : CoreView → Type 0
-HasFewAdds v = v.quota.adds ≤ v.adds + 1
 
 -- a view that has pushed one value more; that has popped one value more
 abbrev pub pushed_too : List ℕ → View → View

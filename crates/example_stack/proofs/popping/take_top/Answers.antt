@@ -1,4 +1,4 @@
-use Rattle.std.proofs.Common.{◌≡◌, ℕ, ◌+◌, refl, Some}
+use Rattle.std.proofs.Common.{◌+◌, refl, Some}
 use Rattle.plain_state.specs.declared.act.EventPlace.TheVariants.{Cell}
 use Rattle.atomic_shared.specs.Places.{named}
 use Rattle.retiring_stores.specs.Exchanging.{LosesTo}

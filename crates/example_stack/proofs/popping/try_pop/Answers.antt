@@ -1,4 +1,4 @@
-use Rattle.std.proofs.Common.{◌<◌, refl, sym, ap, subst, ◌∙◌, arith}
+use Rattle.std.proofs.Common.{◌+◌, ◌<◌, refl, sym, ap, subst, ◌∙◌, arith}
 use Rattle.plain_state.specs.declared.slot.SlotId.{SlotId}
 use Rattle.plain_state.specs.declared.slot.Kind.TheVariants.{Strong}
 use Rattle.plain_state.specs.Lists.{times}
@@ -6,6 +6,7 @@ use Rattle.plain_protocol.specs.Owns.{Object}
 use Rattle.core_events.specs.Steps.{CanGive, without_given}
 use Rattle.atomic_shared.specs.Places.{named}
 use Rattle.domain_rule.specs.Views.{object_in}
+use Rattle.example_stack.specs.Calls.{Changes}
 use Rattle.example_stack.proofs.Takes.{can_give, handle_node, has_still, known_since, node_again, owns_still, pops}
 use Rattle.example_stack.proofs.popping.try_pop.Goals as goal
 
@@ -83,3 +84,10 @@ returns-in-Ok-take_top-clause-popped g c =
           ∙ ap (λ (o : Object). o.payload) (sym known))
           (c.see-2.ensures.popped ∙ c.see.ensures.popped),
     )
+
+pub returns-in-Err-take_top-clause-why : goal.returns-in-Err-take_top-clause-why
+returns-in-Err-take_top-clause-why g c =
+    subst (λ n. Changes g.K.PayloadKind.fits c.args.domain.now n c.in-Err-take_top.lost.now)
+    (ap (λ (s : SlotId). s.0 + 1) (c.slot-2.ensures ∙ sym c.slot-in-Err-take_top.ensures)
+    ∙ sym c.held_as.ensures)
+    c.in-Err-take_top.ensures.why

@@ -5,8 +5,9 @@ use Rattle.acquire_retire.proofs.Wholes.{then_ok}
 use Rattle.atomic_shared.specs.Places.{named}
 use Rattle.domain_rule.specs.Views.{object_in}
 use Rattle.example_stack.specs.Views.{View}
-use Rattle.example_stack.specs.Calls.{pushed_too}
-use Rattle.example_stack.proofs.Takes.{can_give, has_still, known_always, node_again, pushes}
+use Rattle.control_word.specs.Resting.{IsSpent}
+use Rattle.example_stack.specs.Calls.{IsWhy, pushed_too}
+use Rattle.example_stack.proofs.Takes.{can_give, has_still, known_always, node_again, pushes, then_err, why_as}
 use Rattle.example_stack.proofs.pushing.try_push.Goals as goal
 
 pub link-requires-clause-node : goal.link-requires-clause-node
@@ -45,3 +46,13 @@ returns-clause-pushed g c =
     (ap (λ (o : Object). o.payload) known)
     (ap (λ (v : View). v.pushed) c.link.ensures.client ∙ c.see.ensures.pushed))
     c.put_on.ensures.pushed
+
+pub returns-clause-why : goal.returns-clause-why
+returns-clause-why g c =
+    then_err
+    (λ not. IsWhy g.K.PayloadKind.fits c.args.domain.now ⊥ not.error)
+    (λ not. IsWhy g.K.PayloadKind.fits c.args.domain.now (IsSpent c.args.seat.now.view.core)
+    not.error)
+    c.put_on.result
+    (λ not why. why_as g.K.PayloadKind.fits c.args.domain.now (λ none. absurd none) not.error why)
+    c.put_on.ensures.why
