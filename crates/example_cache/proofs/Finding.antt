@@ -1,12 +1,12 @@
 -- What a load of the cache's cell with the deed RecallValue asks, and what it leaves of a seat.
-use Rattle.std.proofs.Common.{◌≡◌, inl, inr, ℕ, suc, zero, ◌+◌, ◌<◌, ◌≤◌, List, [], ◌∷◌, ◌++◌, length, refl, sym, ap, subst, ◌∙◌, arith, Option, Some, None}
+use Rattle.std.proofs.Common.{◌≡◌, inl, inr, ℕ, suc, zero, List, [], ◌∷◌, ◌++◌, refl, sym, ap, subst, ◌∙◌, arith, Option, Some, None}
 use Rattle.std.specs.Prelude.{Err, IfOk, Ok, Result, if◌then◌else◌}
 use Rattle.plain_state.specs.declared.act.EventPlace.TheVariants.{WeakCell}
 use Rattle.plain_state.specs.declared.act.PlainAct.{PlainAct}
 use Rattle.plain_state.specs.declared.act.PlainAct.TheVariants as plain
 use Rattle.plain_state.specs.declared.slot.SlotId.{SlotId}
 use Rattle.plain_state.specs.Lists.{times}
-use Rattle.plain_protocol.specs.Owns.{Object, OwnPart, HasSlot}
+use Rattle.plain_protocol.specs.Owns.{OwnPart, HasSlot}
 use Rattle.core_events.specs.declared.view.CoreView.{CoreView}
 use Rattle.core_events.specs.Shows.{show_seat}
 use Rattle.core_events.specs.Words.{slot_in}
@@ -18,7 +18,7 @@ use Rattle.acquire_retire.specs.Domains.{DomainState}
 use Rattle.acquire_retire.specs.Seats.{SeatState}
 use Rattle.control_word.specs.Resting.{IsAtRest}
 use Rattle.protected_loads.specs.Loads.{Misses}
-use Rattle.protected_loads.specs.References.{IsReadyToLoad, Loads, Refers}
+use Rattle.protected_loads.specs.References.{IsReadyToLoad, Loads}
 use Rattle.protected_loads.proofs.Learning.{batch, batch_loaded, batch_moved, checked, client_found, client_moved, client_null, has_found, known_found}
 use Rattle.protocol_pairs.specs.Values.{value_of}
 use Rattle.example_cache.specs.Views.{View}
@@ -47,7 +47,7 @@ module _ {P : Type 0} (kind : List ℕ → Type 0) (d : DomainState P) (cell : �
 
   -- WHAT IT LEAVES
   module _ (rest : IsAtRest d old) (new : SeatState View) where
-    finds : (found : Option SlotId)
+    pub finds : (found : Option SlotId)
         → Loads kind d (WeakCell cell) recall_next (RecallTells cell) found old new
         → Finds kind d cell found old new
     finds None null = record {
@@ -129,3 +129,37 @@ module _ {P : Type 0} (kind : List ℕ → Type 0) (d : DomainState P) (cell : �
                 batch_moved kind d (WeakCell cell) recall_next (RecallTells cell) old new
                     (slot_in seen) (slot_in now) m,
               )
+
+-- the same of a cell with another name
+module _ {P : Type 0} (kind : List ℕ → Type 0) (d : DomainState P) (i cell : ℕ) (is : i ≡ cell)
+    (old : SeatState View) where
+  pub ready_at : IsReadyToLoad kind d (WeakCell i) (RecallReady cell) old
+  ready_at = subst (λ j. IsReadyToLoad kind d (WeakCell j) (RecallReady cell) old) (sym is)
+      (ready kind d cell old)
+
+  module _ (rest : IsAtRest d old) (new : SeatState View) where
+    pub finds_at : (found here : Option SlotId) → found ≡ here
+        → Loads kind d (WeakCell i) recall_next (RecallTells cell) found old new
+        → Finds kind d cell here old new
+    finds_at found here at loads =
+        subst (λ o. Finds kind d cell o old new) at (finds kind d cell old rest new found
+        (subst (λ j. Loads kind d (WeakCell j) recall_next (RecallTells cell) found old new) is
+        loads))
+
+    pub answered_at : (r : Result (Option SlotId) LoadError)
+        → (r ≡ Err refused.Spent → new ≡ old)
+        → IfOk r (λ found.
+        Loads kind d (WeakCell i) recall_next (RecallTells cell) found old new)
+        → ((seen now : ℕ) → r ≡ Err (refused.Moved seen now)
+        → Misses kind d 0 (WeakCell i) recall_next (RecallTells cell) (slot_in seen) (slot_in now)
+        old new)
+        → (new.view.client.remembered ≡ old.view.client.remembered)
+        × (batch new.view.core ≡ batch old.view.core)
+    answered_at r same loaded moved =
+        let a = answered kind d cell old rest new r same
+        (subst (λ j. IfOk r (λ found.
+        Loads kind d (WeakCell j) recall_next (RecallTells cell) found old new)) is loaded)
+        (λ seen now e.
+        subst (λ j. Misses kind d 0 (WeakCell j) recall_next (RecallTells cell) (slot_in seen)
+        (slot_in now) old new) is (moved seen now e)) in
+        (a.1, a.2)

@@ -62,6 +62,11 @@ Recalls None old new = new.view.client ≡ old.view.client
 Recalls (Some s) old new =
     (0 < times s new.view.core.owned) × RecallsValue (Some s) old new
 
+-- at a later step of the seat's there was no strong reference to s
+abbrev pub HasEnded : {P : Type 0} → (List ℕ → Type 0) → DomainState P → SlotId → SeatState View
+    → Type 0
+HasEnded kind d s mid = (late : SeatState View) × FindsEnded kind d same_view IsSameView s mid late
+
 -- the cell held a slot to which, at a later step of the seat's, there was no strong reference
 pub record FoundEnded {P : Type 0} (kind : List ℕ → Type 0) (d : DomainState P) (cell : ℕ)
     (old : SeatState View) : Type 0 where
@@ -69,5 +74,4 @@ pub record FoundEnded {P : Type 0} (kind : List ℕ → Type 0) (d : DomainState
   pub mid : SeatState View
   pub loads :
       Loads kind d (WeakCell cell) recall_next (RecallTells cell) (Some slot) old mid
-  pub late : SeatState View
-  pub ended : FindsEnded kind d same_view IsSameView slot mid late
+  pub ended : HasEnded kind d slot mid

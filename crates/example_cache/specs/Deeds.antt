@@ -6,7 +6,6 @@ use Rattle.plain_state.specs.declared.act.PlainAct.TheVariants as act
 use Rattle.plain_state.specs.declared.slot.SlotId.{SlotId}
 use Rattle.plain_state.specs.Lists.{times}
 use Rattle.plain_state.specs.State.{Plain, seat_at, slot_at}
-use Rattle.plain_protocol.specs.Acts.{IsCalm}
 use Rattle.plain_protocol.specs.Owns.{OwnPart, HasSlot}
 use Rattle.protocol_pairs.specs.Values.{value_of}
 use Rattle.example_cache.specs.Views.{View}

@@ -5,8 +5,11 @@ ghost use Rattle.core_events.specs.Words.{slot_in};
 ghost use Rattle.counted_handles.specs.declared.refusal.LoadError.TheVariants as refused;
 ghost use Rattle.control_word.specs.Moves.{KnowsStill};
 ghost use Rattle.control_word.specs.Resting.{IsAtRest, IsSpent};
-ghost use Rattle.example_cache.specs.Calls.{Finds, FoundEnded, Moves, Recalls, strong_named, weak_named};
+ghost use Rattle.example_cache.specs.Calls.{Finds, FoundEnded, HasEnded, Moves, Recalls, strong_named, weak_named};
 ghost use Rattle.example_cache.specs.declared.recalling.RecallError.TheVariants as no_recall;
+ghost use Rattle.control_word.specs.declared.upgrading.UpgradeError.TheVariants as no_raise;
+ghost use Rattle.domain_rule.specs.Views.{object_in};
+ghost use Rattle.plain_state.specs.Lists.{times};
 
 use crate::deeds::RecallValue;
 use crate::law::CacheLaw;
@@ -60,13 +63,35 @@ pub fn recall<K: PayloadKind>(
     let Some(weak) = found else {
         return Ok(None);
     };
-    let upgraded = upgrade(domain, seat, &weak, Still);
-    drop_weak(domain, seat, weak);
-    match upgraded {
+    match raise(domain, seat, weak) {
         Ok(strong) => Ok(Some(strong)),
         Err(UpgradeError::Ended) => Err(RecallError::Ended),
         Err(UpgradeError::Spent) => Err(RecallError::Spent),
     }
+}
+
+/// A strong reference in place of a weak one.
+fn raise<K: PayloadKind>(
+    domain: &Domain<CacheLaw<K>>,
+    seat: &mut Seat<CacheLaw<K>>,
+    weak: Weak,
+) -> Result<Strong, UpgradeError>
+    requires rest { IsAtRest domain.now seat.old }
+    requires room { HasRoom seat.old.view.core }
+    requires owned { 0 < times weak.slot seat.old.view.core.weaks }
+    ensures same { IfOk result (λ strong. strong.slot ≡ weak.slot) }
+    ensures owned { IfOk result (λ strong. 0 < times strong.slot seat.new.view.core.owned) }
+    ensures known { IfOk result (λ strong. object_in seat.new.view strong.slot
+        ≡ object_in seat.old.view weak.slot) }
+    ensures ended { result ≡ Err no_raise.Ended → HasEnded K.fits domain.now weak.slot seat.old }
+    ensures spent { result ≡ Err no_raise.Spent → IsSpent seat.old.view.core }
+    ensures client { seat.new.view.client ≡ seat.old.view.client }
+    ensures room { HasRoom seat.new.view.core }
+    ensures rest { IsAtRest domain.now seat.new }
+{
+    let raised = upgrade(domain, seat, &weak, Still);
+    drop_weak(domain, seat, weak);
+    raised
 }
 
 /// The same refusal, of a recall.
