@@ -23,7 +23,7 @@ use Rattle.protected_loads.proofs.Learning.{batch, batch_loaded, batch_moved, ch
 use Rattle.protocol_pairs.specs.Values.{value_of}
 use Rattle.example_cache.specs.Views.{View}
 use Rattle.example_cache.specs.Deeds.{RecallReady, RecallTells, recall_next}
-use Rattle.example_cache.specs.Calls.{Finds, recalled_too}
+use Rattle.example_cache.specs.Calls.{Finds, FoundEnded, HasEnded, recalled_too}
 
 -- a seat knows the value of what it has
 pub value_known : (s : SlotId) (seat : SeatState View) → HasSlot (show_seat seat.view.core) s
@@ -163,3 +163,10 @@ module _ {P : Type 0} (kind : List ℕ → Type 0) (d : DomainState P) (i cell :
         subst (λ j. Misses kind d 0 (WeakCell j) recall_next (RecallTells cell) (slot_in seen)
         (slot_in now) old new) is (moved seen now e)) in
         (a.1, a.2)
+
+-- what the seat found has ended
+pub ended_found : {P : Type 0} (kind : List ℕ → Type 0) (d : DomainState P) (cell : ℕ)
+    (old mid : SeatState View) (s : SlotId) → Finds kind d cell (Some s) old mid
+    → HasEnded kind d s mid → FoundEnded kind d cell old
+ended_found kind d cell old mid s finds ended =
+    record { slot = s; mid = mid; loads = finds.loads; ended = ended }
