@@ -55,9 +55,9 @@ module _ {P : Type 0} (kind : List ℕ → Type 0) (d : DomainState P) (cell : �
       recalls = client_null d (WeakCell cell) old new null;
       owns = tt;
       adds = (
-            let e = ap (λ (v : CoreView). v.adds) null.becomes.core in omega arith,
-            ap (λ (v : CoreView). v.quota.adds) null.becomes.core,
-          );
+        let e = ap (λ (v : CoreView). v.adds) null.becomes.core in omega arith,
+        ap (λ (v : CoreView). v.quota.adds) null.becomes.core,
+      );
     }
     finds (Some s) r = record {
       loads = r;
@@ -73,9 +73,9 @@ module _ {P : Type 0} (kind : List ℕ → Type 0) (d : DomainState P) (cell : �
           let one = one_same s s refl in
           let at = ap (λ (v : CoreView). times s v.weaks) r.core in omega arith;
       adds = (
-            let e = ap (λ (v : CoreView). v.adds) r.core in omega arith,
-            ap (λ (v : CoreView). v.quota.adds) r.core,
-          );
+        let e = ap (λ (v : CoreView). v.adds) r.core in omega arith,
+        ap (λ (v : CoreView). v.quota.adds) r.core,
+      );
     }
 
     same_remembered : (found : Option SlotId)

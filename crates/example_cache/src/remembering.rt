@@ -40,6 +40,12 @@ pub fn remember<K: PayloadKind>(
     ensures rest { IsAtRest domain.now seat.new }
 {
     let weak = weaken(domain, seat, object)?;
-    store_weak(domain, seat, WeakPlace::Cell(cell), Some(weak), RememberValue);
+    store_weak(
+        domain,
+        seat,
+        WeakPlace::Cell(cell),
+        Some(weak),
+        RememberValue,
+    );
     Ok(())
 }

@@ -105,16 +105,16 @@ module _ {P : Type 0} (kind : List ℕ → Type 0) (d : DomainState P) where
     old,
     new,
     inr (
-          next,
-          given,
-          subst (λ (e : Option SlotId × Option SlotId).
-              Loses kind d next TellsNothing place given e.0 e.1 old new)
-              (λ i. (
-                sym (ap slot_in is ∙ slot_word expected) i,
-                sym (ap slot_in at ∙ slot_word found) i,
-              ))
-              loses,
-        ),
+      next,
+      given,
+      subst (λ (e : Option SlotId × Option SlotId).
+          Loses kind d next TellsNothing place given e.0 e.1 old new)
+          (λ i. (
+            sym (ap slot_in is ∙ slot_word expected) i,
+            sym (ap slot_in at ∙ slot_word found) i,
+          ))
+          loses,
+    ),
   )
 
 -- what follows for each error follows for that of a result

@@ -23,9 +23,9 @@ mod seeing;
 mod tests;
 mod view;
 
+pub use atomic_shared::LoadError;
 pub use deeds::{LinkNode, MakeNode, PopNode, PushNode, SeeNode};
 pub use law::StackLaw;
-pub use atomic_shared::LoadError;
 pub use making::make_node;
 pub use popping::try_pop;
 pub use promises::each_value_was_pushed;

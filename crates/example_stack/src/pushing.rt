@@ -116,7 +116,14 @@ fn put_on<K: PayloadKind>(
     ensures room { HasRoom seat.new.view.core }
     ensures rest { IsAtRest domain.now seat.new }
 {
-    let lost = match try_replace(domain, seat, Place::Cell(cell), expected, Some(node), PushNode) {
+    let lost = match try_replace(
+        domain,
+        seat,
+        Place::Cell(cell),
+        expected,
+        Some(node),
+        PushNode,
+    ) {
         Ok(()) => return Ok(()),
         Err(lost) => lost,
     };
@@ -125,8 +132,6 @@ fn put_on<K: PayloadKind>(
         now: lost.now,
     };
     let back = lost.back;
-    let Some(node) = back else {
-        unreachable!()
-    };
+    let Some(node) = back else { unreachable!() };
     Err(NotPushed { error, node })
 }
