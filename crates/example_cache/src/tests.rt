@@ -1,4 +1,5 @@
-ghost use Rattle.std.specs.Prelude.{◌≡◌, IfOk};
+ghost use Rattle.std.specs.Prelude.{◌≡◌, ◌<◌, IfOk, IfSome};
+ghost use Rattle.plain_state.specs.Lists.{times};
 ghost use Rattle.core_events.specs.Steps.{HasRoom};
 ghost use Rattle.control_word.specs.Resting.{IsAtRest};
 ghost use Rattle.plain_protocol.specs.Laws.{Starts, KeptByCalm, KeptByLeave, KeptByForeign, Keeps};
@@ -8,6 +9,7 @@ use crate::{
 };
 use acquire_retire::{Domain, OpenError, Quota, Seat, Shape, open_domain};
 use control_word::drop_strong;
+use counted_handles::Strong;
 use plain_protocol::{Deed, Protocol, Still};
 use plain_state::{RecordKind, record_of};
 use protocol_pairs::Spares;
@@ -60,13 +62,28 @@ fn open_alone(rt: &HostRuntime) -> Result<(Domain<Cache>, Seat<Cache>), OpenErro
     Ok((domain, seats.remove(0)))
 }
 
+/// Makes an object, by a step that is foreign to the cache.
+fn make_value(domain: &Domain<Cache>, seat: &mut Seat<Cache>) -> Option<Strong>
+    requires rest { IsAtRest domain.now seat.old }
+    requires room { HasRoom seat.old.view.core }
+    ensures owned { IfSome result (λ object. 0 < times object.slot seat.new.view.core.owned) }
+    ensures room { HasRoom seat.new.view.core }
+    ensures rest { IsAtRest domain.now seat.new }
+{
+    let value = record_of(b"value");
+    match make(domain, seat, &value, Spares) {
+        Ok(object) => Some(object),
+        Err(_) => None,
+    }
+}
+
 #[test]
-fn a_value_is_recalled_until_its_object_ends(rt: HostRuntime) -> Result<(), Fail> {
+fn a_value_that_lives_is_recalled(rt: HostRuntime) -> Result<(), Fail> {
     let (domain, mut seat) = open_alone(&rt)?;
     let Ok(None) = recall(&domain, &mut seat, CELL) else {
         panic!(rt; "nothing")
     };
-    let object = make(&domain, &mut seat, &record_of(b"value"), Spares).expect(&rt, "a free slot");
+    let object = make_value(&domain, &mut seat).expect(&rt, "a free slot");
     let Ok(()) = remember(&domain, &mut seat, CELL, &object) else {
         panic!(rt; "an add is left")
     };
@@ -74,7 +91,16 @@ fn a_value_is_recalled_until_its_object_ends(rt: HostRuntime) -> Result<(), Fail
         panic!(rt; "the value")
     };
     assert_eq!(rt; read(&domain, &mut seat, again.slot(), 0), 5);
-    drop_strong(&domain, &mut seat, again);
+    Ok(())
+}
+
+#[test]
+fn a_value_that_has_ended_is_not_recalled(rt: HostRuntime) -> Result<(), Fail> {
+    let (domain, mut seat) = open_alone(&rt)?;
+    let object = make_value(&domain, &mut seat).expect(&rt, "a free slot");
+    let Ok(()) = remember(&domain, &mut seat, CELL, &object) else {
+        panic!(rt; "an add is left")
+    };
     drop_strong(&domain, &mut seat, object);
     let Err(error) = recall(&domain, &mut seat, CELL) else {
         panic!(rt; "a value that has ended")

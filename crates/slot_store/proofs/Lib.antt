@@ -13,3 +13,4 @@ pub mod SeeingAll
 pub mod Destroying
 pub mod Ripening
 pub mod Reaps
+pub mod Sparing
