@@ -23,3 +23,4 @@ pub mod Cycles
 pub mod CyclesLeft
 pub mod Settles
 pub mod Chaining
+pub mod Sparing

@@ -1,5 +1,5 @@
 use Rattle.example_setting.specs.Setting.{owns}
-use Rattle.example_setting.proofs.Making.{make_is_spared}
+use Rattle.slot_store.proofs.Sparing.{make_is_spared}
 use Rattle.example_setting.proofs.client.store_value.Goals as goal
 
 pub make-requires-clause-deed : goal.make-requires-clause-deed
