@@ -1,9 +1,7 @@
 -- The words of a scan: there is room for each, and the last one splits the batch as the table of
 -- events does.
 use Rattle.std.proofs.Common.{◌≡◌, ℕ, ◌+◌, ◌*◌, ◌<◌, true, false, List, [], ◌∷◌, ◌++◌, length, refl, ap, sym, ◌∙◌, arith}
-use Rattle.std.specs.Prelude.{◌==◌, not}
 use Rattle.std.proofs.lemmas.Bool.Decides.{nat_tests}
-use Rattle.std.proofs.lemmas.List.Elements.{filter-append}
 use Rattle.atomic_table.specs.declared.shared.Seat.{Seat as TableSeat}
 use Rattle.plain_state.specs.declared.act.PlainAct.{PlainAct}
 use Rattle.plain_state.specs.State.{Plain}
@@ -16,9 +14,8 @@ use Rattle.core_events.specs.declared.view.Phase.TheVariants as phase
 use Rattle.core_events.specs.Good.{SeatLaw}
 use Rattle.core_events.specs.Steps.{all_seen, answer, is_last, moved}
 use Rattle.plain_state.specs.Ejection.{ripened, ripens, Announcements}
-use Rattle.eject_scan.specs.Seen.{announcements}
-use Rattle.announce_slots.specs.Seen.{announced_in}
-use Rattle.eject_scan.proofs.Announcements.{announced_alike, fewer}
+use Rattle.eject_scan.specs.Seen.{announced, noted, total, with_word}
+use Rattle.eject_scan.proofs.Announcements.{announced_alike, fewer, noted_more}
 use Rattle.plain_state.specs.Ejection as batch
 use Rattle.domain_rule.specs.declared.view.SeatView.{SeatView}
 use Rattle.acquire_retire.specs.Calls.{Stepped}
@@ -29,27 +26,26 @@ use Rattle.acquire_retire.proofs.Calls.{kept, seat_after}
 -- there is room for the word that comes next
 pub room_to_read : (v : CoreView) (s : Stored) (batch_room seen_room dying_room ripe_room : ℕ)
     → SeatLaw v.shape v.seat v → s ≡ stored v → HasRooms v batch_room seen_room dying_room ripe_room
-    → length s.seen < seen_room
+    → total s.seen < seen_room
 room_to_read v s batch_room seen_room dying_room ripe_room law stores rooms =
     let few = fewer v.seen in
-    let had = ap (λ (t : Stored). length t.seen) stores in
+    let had = ap (λ (t : Stored). total t.seen) stores in
     let reads = law.reads in
     let room = rooms.seen in omega arith
 
 -- what a seat has noted of the words that it read, the last one among them, announces what they do
 seen_alike : (v : CoreView) (w : ℕ)
-    → announced_in (announcements v.seen ++ announcements (w ∷ [])) ≡ all_seen w v
+    → announced (with_word w (noted v.seen)) ≡ all_seen w v
 seen_alike v w =
-    ap announced_in (sym (filter-append (λ (x : ℕ). not (x == 0)) v.seen (w ∷ [])))
-    ∙ announced_alike (v.seen ++ w ∷ [])
+    ap announced (sym (noted_more v.seen w)) ∙ announced_alike (v.seen ++ w ∷ [])
 
 -- what a seat stores after the last word of a scan
 abbrev pub last_stored : ℕ → Stored → Stored
 last_stored w s = record s {
   phase = phase.Idle;
-  retired = batch.kept s.retired (announced_in (s.seen ++ announcements (w ∷ [])));
-  owed = batch.ejected s.retired (announced_in (s.seen ++ announcements (w ∷ [])));
-  ripe = ripened s.ripe s.dying (announced_in (s.seen ++ announcements (w ∷ [])));
+  retired = batch.kept s.retired (announced (with_word w s.seen));
+  owed = batch.ejected s.retired (announced (with_word w s.seen));
+  ripe = ripened s.ripe s.dying (announced (with_word w s.seen));
   seen = [];
   read = 0;
 }
@@ -96,11 +92,11 @@ module _ {P V : Type 0} {fits : List ℕ → Type 0} (d : DomainState P) (next_v
     (same : old.me.0.core.shape ≡ d.shape) (last : is_last d.shape old.me.0.core ≡ true) where
   -- the ripe slots after the last word are those that the seat finds
   pub ripe_after : (moved d.shape act.Scan w old.me.0.core).ripe
-      ≡ ripened s.ripe s.dying (announced_in (s.seen ++ announcements (w ∷ [])))
+      ≡ ripened s.ripe s.dying (announced (with_word w s.seen))
   ripe_after = rw last
       (ap (ripened old.me.0.core.ripe old.me.0.core.dying) (sym (seen_alike old.me.0.core w))
       ∙ ap (λ (t : Stored). ripened t.ripe t.dying
-      (announced_in (t.seen ++ announcements (w ∷ [])))) (sym seat.stores))
+      (announced (with_word w t.seen))) (sym seat.stores))
 
   -- the seat is one after the last word
   pub scan_ends : IsSeat new.me (last_stored w s) batch_room seen_room dying_room ripe_room

@@ -11,7 +11,8 @@ use Rattle.core_events.specs.declared.view.Phase.{Phase}
 use Rattle.core_events.specs.Good.{SeatLaw}
 use Rattle.core_events.specs.Runs.{IsShape}
 use Rattle.core_events.specs.Views.{granted, room_of}
-use Rattle.eject_scan.specs.Seen.{announcements}
+use Rattle.eject_scan.specs.Seen.{noted}
+use Rattle.eject_scan.specs.declared.seen.Row.{Row}
 use Rattle.domain_rule.specs.declared.view.SeatView.{SeatView}
 use Rattle.domain_rule.specs.Views.{KnowsAll}
 
@@ -31,14 +32,14 @@ pub record Stored : Type 0 where
   pub notes : List Note
   pub retired : List Entry
   pub owed : List Entry
-  pub seen : List ℕ
+  pub seen : List Row
   pub read : ℕ
   pub dying : List SlotId
   pub ripe : List SlotId
   pub left : ℕ
 
--- of the words that its scan has read it stores those that announce something, of its tickets how
--- many makes they grant, and of the seats that have left their number
+-- of the words that its scan has read it stores how often it read each that announces something, of
+-- its tickets how many makes they grant, and of the seats that have left their number
 abbrev pub stored : CoreView → Stored
 stored v = record {
   number = v.seat;
@@ -50,7 +51,7 @@ stored v = record {
   notes = v.notes;
   retired = v.retired;
   owed = v.owed;
-  seen = announcements v.seen;
+  seen = noted v.seen;
   read = length v.seen;
   dying = v.dying;
   ripe = v.ripe;

@@ -52,7 +52,7 @@ impl<W> Model for SeatOf<W> {
       notes = s.notes;
       retired = s.batch.retired;
       owed = s.batch.owed;
-      seen = s.seen.words;
+      seen = s.seen.rows;
       read = s.read;
       dying = s.dying.items;
       ripe = s.ripe.items;

@@ -4,7 +4,7 @@ ghost use Rattle.std.specs.List.{filter};
 ghost use Rattle.plain_state.specs.Steps.{joined};
 ghost use Rattle.plain_state.specs.Ejection.{kept, ejected, ripened, ripens};
 ghost use Rattle.retire_batch.specs.Entries.{entry_count};
-ghost use Rattle.announce_slots.specs.Seen.{announced_in};
+ghost use Rattle.eject_scan.specs.Seen.{announced};
 
 use core_events::{Kind, SlotId};
 use core_functions::has_slot;
@@ -16,10 +16,10 @@ use retire_batch::Batch;
 #[tactic(auto, using(plain_state::proofs::Ejections::split_length))]
 pub(crate) fn split(batch: &mut Batch, seen: &Seen) -> (u32, u32)
     requires { batch.old.owed ≡ [] }
-    ensures batch { let announced = announced_in seen.now.words in
+    ensures batch { let by = announced seen.now.rows in
         batch.new ≡ record batch.old {
-          retired = kept batch.old.retired announced;
-          owed = ejected batch.old.retired announced;
+          retired = kept batch.old.retired by;
+          owed = ejected batch.old.retired by;
         } }
     ensures stay { result.0 ≡ length batch.new.retired }
     ensures go { result.1 ≡ length batch.new.owed }

@@ -44,7 +44,6 @@ module _ {V : Type 0} {fits : List ℕ → Type 0} {z : Shape} {ts : Terms}
     {next : OwnPart → OwnPart → V → PlainAct → ℕ → V}
     {allows : Plain → Plain → ℕ → V → V → Type 0} {a : Act} {v v' : SeatView V} {w : ℕ}
     (told : Told fits z ts next allows a v w v') (s : SlotId) where
-
   abbrev mine : CoreView
   mine = view_at told.happened.before v.core.seat
 

@@ -5,4 +5,5 @@ pub mod Following
 pub mod Dropping
 pub mod WeaklyDropping
 pub mod CountSteps
+pub mod Beginning
 pub mod Owning

@@ -19,6 +19,7 @@
 #![tactic(auto)]
 
 mod counting;
+mod opened;
 mod strong_handles;
 #[cfg(test)]
 mod tests;
@@ -27,6 +28,7 @@ mod weak_handles;
 
 pub use counted_handles::{SlotId, Spent, Strong, Weak};
 pub use counting::{strong_count, weak_count};
+pub use opened::opened_seats_are_at_rest;
 pub use strong_handles::{copy_strong, drop_strong};
 pub use upgrading::{UpgradeError, upgrade};
 pub use weak_handles::{copy_weak, drop_weak, weaken};

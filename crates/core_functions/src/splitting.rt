@@ -4,6 +4,7 @@ ghost use Rattle.std.specs.VecDeque.{deque_len};
 ghost use Rattle.std.specs.List.{filter};
 ghost use Rattle.plain_state.specs.Ejection.{kept, ejected, ripened, ripens};
 ghost use Rattle.announce_slots.specs.Seen.{announced_in};
+ghost use Rattle.eject_scan.specs.Seen.{announced};
 
 use crate::lists::has_slot;
 use core_events::{Kind, SlotId};
@@ -24,7 +25,7 @@ pub struct Parts {
 /// What the words of a scan announce: those that it read before, and the last one.
 pub fn announced_by(alloc: Global, seen: &[u64], last: u64) -> Result<Seen, OutOfMemory>
     requires { length seen.now < 2 ^ 32 - 1 }
-    ensures { IfOk result (λ all. announced_in all.words ≡ announced_in (seen.now ++ last ∷ [])) }
+    ensures { IfOk result (λ all. announced all.rows ≡ announced_in (seen.now ++ last ∷ [])) }
 {
     let mut all = Seen::with_room(alloc, seen.len() as u32 + 1)?;
     for word in seen {
@@ -38,9 +39,9 @@ pub fn announced_by(alloc: Global, seen: &[u64], last: u64) -> Result<Seen, OutO
 /// earlier ones.
 pub fn split(alloc: Global, retired: &[(Kind, SlotId)], seen: &Seen) -> Result<Parts, OutOfMemory>
     ensures kept { IfOk result (λ p. p.kept.items
-        ≡ kept retired.now (announced_in seen.now.words)) }
+        ≡ kept retired.now (announced seen.now.rows)) }
     ensures ejected { IfOk result (λ p. p.ejected.items
-        ≡ ejected retired.now (announced_in seen.now.words)) }
+        ≡ ejected retired.now (announced seen.now.rows)) }
     ensures lengths { IfOk result (λ p. vec_len p.kept + deque_len p.ejected
         ≡ length retired.now) }
 {
@@ -53,7 +54,7 @@ pub fn split(alloc: Global, retired: &[(Kind, SlotId)], seen: &Seen) -> Result<P
 
 /// Whether a dying slot becomes ripe: it isn't yet, and nothing announces it for disposal.
 fn ripens(ripe: &[SlotId], seen: &Seen, slot: SlotId) -> bool
-    ensures { result ≡ ripens ripe.now (announced_in seen.now.words) slot }
+    ensures { result ≡ ripens ripe.now (announced seen.now.rows) slot }
 {
     !has_slot(ripe, slot) && seen.times(Kind::Disposal, slot) == 0
 }
@@ -61,10 +62,10 @@ fn ripens(ripe: &[SlotId], seen: &Seen, slot: SlotId) -> bool
 /// A dying slot joins those that are ripe, of which the first `were` were so before, if it becomes so.
 fn ripen_one(ripe: &mut Vec<SlotId>, were: usize, seen: &Seen, slot: SlotId)
     requires were { were ≤ vec_len ripe.old }
-    requires room { ripens (take were ripe.old.items) (announced_in seen.now.words) slot ≡ true
+    requires room { ripens (take were ripe.old.items) (announced seen.now.rows) slot ≡ true
         → vec_len ripe.old < vec_capacity ripe.old }
     ensures joined { ripe.new.items ≡ ripe.old.items
-        ++ filter (ripens (take were ripe.old.items) (announced_in seen.now.words))
+        ++ filter (ripens (take were ripe.old.items) (announced seen.now.rows))
         (slot ∷ []) }
     ensures capacity { vec_capacity ripe.new ≡ vec_capacity ripe.old }
 {
@@ -75,10 +76,10 @@ fn ripen_one(ripe: &mut Vec<SlotId>, were: usize, seen: &Seen, slot: SlotId)
 
 /// The dying slots that become ripe join those that are, for which there is room.
 pub fn ripen(ripe: &mut Vec<SlotId>, dying: &[SlotId], seen: &Seen)
-    requires { length (ripened ripe.old.items dying.now (announced_in seen.now.words))
+    requires { length (ripened ripe.old.items dying.now (announced seen.now.rows))
         ≤ vec_capacity ripe.old }
     ensures ripened { ripe.new.items
-        ≡ ripened ripe.old.items dying.now (announced_in seen.now.words) }
+        ≡ ripened ripe.old.items dying.now (announced seen.now.rows) }
     ensures capacity { vec_capacity ripe.new ≡ vec_capacity ripe.old }
 {
     let were = ripe.len();
@@ -96,7 +97,7 @@ pub fn ripened(
     seen: &Seen,
 ) -> Result<Vec<SlotId>, OutOfMemory>
     ensures { IfOk result (λ slots. slots.items
-        ≡ ripened ripe.now dying.now (announced_in seen.now.words)) }
+        ≡ ripened ripe.now dying.now (announced seen.now.rows)) }
 {
     let mut slots = Vec::new(alloc);
     slots.extend_from_slice(ripe)?;

@@ -1,1 +1,3 @@
 pub mod Announcements
+pub mod Rows
+pub mod Searches

@@ -1,15 +1,13 @@
-//! Words of 0 may be left out.
-ghost use Rattle.std.specs.Prelude.{◌≡◌, ◌≤◌, ◌++◌, ℕ, List, length};
-ghost use Rattle.plain_state.specs.declared.slot.Kind.{Kind};
-ghost use Rattle.plain_state.specs.declared.slot.SlotId.{SlotId};
+//! What is noted of some words tells what a split asks of them.
+ghost use Rattle.std.specs.Prelude.{◌≡◌, ◌≤◌, ◌++◌, ◌∷◌, [], ℕ, List, length};
 ghost use Rattle.announce_slots.specs.Seen.{announced_in};
-ghost use Rattle.eject_scan.specs.Seen.{announcements};
+ghost use Rattle.eject_scan.specs.Seen.{announced, noted, total, with_word};
 
-/// Of all words that a scan reads, those other than 0 tell how often each slot is announced. It does nothing.
+/// What is noted of the words that a scan reads tells how often each slot is announced, in whichever order they were
+/// read. It does nothing.
 pub fn laws_of_announcements()
-    ensures times { (words : List ℕ) (kind : Kind) (slot : SlotId)
-        → announced_in (announcements words) kind slot ≡ announced_in words kind slot }
-    ensures one_more { (words more : List ℕ)
-        → announcements (words ++ more) ≡ announcements words ++ announcements more }
-    ensures fewer { (words : List ℕ) → length (announcements words) ≤ length words }
+    ensures times { (words : List ℕ) → announced (noted words) ≡ announced_in words }
+    ensures one_more { (words : List ℕ) (word : ℕ)
+        → noted (words ++ word ∷ []) ≡ with_word word (noted words) }
+    ensures fewer { (words : List ℕ) → total (noted words) ≤ length words }
 {}

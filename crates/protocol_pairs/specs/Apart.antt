@@ -12,6 +12,8 @@ pub spares_keep : {V : Type 0} (law : Plain → List V → Type 0) (gone : V) (o
     → Keeps law gone (λ own v act. IsSpared owned own act) (λ own after v act found. v)
     (λ p q n v w. w ≡ v)
 spares_keep law gone owned foreign p q views n act found meets at ready does =
-    let same = set-get_or views n gone in
-    (subst (law q) (sym same)
-      (foreign p q n act found views meets (spared_is_foreign owned p n act ready) does), refl)
+    let same = set-get_or views n gone in (
+      subst (law q) (sym same)
+          (foreign p q n act found views meets (spared_is_foreign owned p n act ready) does),
+      refl,
+    )

@@ -94,13 +94,16 @@ module _ {P V : Type 0} (fits : List ℕ → Type 0) (d : DomainState P) (s : Sl
       let ripe : walks.0.view.core.ripe ≡ ripened v.ripe v.dying (all_seen step.word v) =
       ap (λ (u : CoreView). u.ripe) step.told.core ∙ rw is.0 refl in
       let words : v.seen ++ step.word ∷ [] ≡ (acc ++ []) ++ last ∷ [] =
-      (λ i. begins i ++ sym is.1 i ∷ []) ∙ ap (λ (xs : List ℕ). xs ++ last ∷ []) (sym (append_nil acc)) in
-      (walks.0, walks.2, ⊎_elim
-      (λ (now : 0 < times s (ripened v.ripe v.dying (all_seen step.word v))).
-      inl (subst (λ (xs : List SlotId). 0 < times s xs) (sym ripe) now))
-      (λ (held : 0 < announced_in (v.seen ++ step.word ∷ []) Disposal s).
-      inr (subst (λ (xs : List ℕ). 0 < announced_in xs Disposal s) words held))
-      (ripened_or s v.ripe v.dying (all_seen step.word v) some))
+      (λ i. begins i ++ sym is.1 i ∷ []) ∙ ap (λ (xs : List ℕ). xs ++ last ∷ []) (sym (append_nil acc)) in (
+        walks.0,
+        walks.2,
+        ⊎_elim
+            (λ (now : 0 < times s (ripened v.ripe v.dying (all_seen step.word v))).
+            inl (subst (λ (xs : List SlotId). 0 < times s xs) (sym ripe) now))
+            (λ (held : 0 < announced_in (v.seen ++ step.word ∷ []) Disposal s).
+            inr (subst (λ (xs : List ℕ). 0 < announced_in xs Disposal s) words held))
+            (ripened_or s v.ripe v.dying (all_seen step.word v) some),
+      )
   after_scan (w ∷ ws) acc old new begins some walks =
       let step = walks.1 in
       let v = old.view.core in
@@ -110,11 +113,14 @@ module _ {P V : Type 0} (fits : List ℕ → Type 0) (d : DomainState P) (s : Sl
       let dying : walks.0.view.core.dying ≡ v.dying =
       ap (λ (u : CoreView). u.dying) step.told.core ∙ rw is.0 refl in
       let r = after_scan ws (acc ++ w ∷ []) walks.0 new seen
-      (subst (λ (xs : List SlotId). 0 < times s xs) (sym dying) some) walks.2 in
-      (r.0, r.1, subst
-      (λ (xs : List ℕ). (0 < times s r.0.view.core.ripe)
-      ⊎ (0 < announced_in (xs ++ last ∷ []) Disposal s))
-      (append_assoc acc (w ∷ []) ws) r.2)
+      (subst (λ (xs : List SlotId). 0 < times s xs) (sym dying) some) walks.2 in (
+        r.0,
+        r.1,
+        subst
+            (λ (xs : List ℕ). (0 < times s r.0.view.core.ripe)
+            ⊎ (0 < announced_in (xs ++ last ∷ []) Disposal s))
+            (append_assoc acc (w ∷ []) ws) r.2,
+      )
 
 -- an idle seat is in no scan
 unread : (z : Shape) (n : ℕ) (v : CoreView) → SeatLaw z n v → v.phase ≡ phase.Idle → v.seen ≡ []
