@@ -3,7 +3,7 @@ ghost use Rattle.std.specs.Prelude.{◌≡◌, ◌≤◌, ◌↔◌, ◌+◌, fa
 ghost use Rattle.plain_state.specs.declared.slot.SlotId.{SlotId};
 ghost use Rattle.plain_state.specs.Lists.{times};
 ghost use Rattle.core_events.specs.Views.{allowed_makes};
-ghost use Rattle.domain_rule.specs.Views.{IsAlone};
+ghost use Rattle.domain_rule.specs.Views.{IsAlone, KnowsAll};
 ghost use Rattle.acquire_retire.specs.Calls.{IsOf};
 ghost use Rattle.acquire_retire.specs.Notes.{is_free, least_free};
 ghost use Rattle.acquire_retire.specs.Seats.{HasBatch};
@@ -24,10 +24,11 @@ fn is_free(note: Note) -> bool
 }
 
 impl<P: Protocol> Domain<P> {
-    /// Whether the seat is seat 0, and every other one has left.
+    /// Whether the seat is seat 0, and every other one has left. It knows the whole core then.
     pub fn alone(&self, seat: &Seat<P>) -> bool
         requires { IsOf self.now seat.now }
-        ensures { IsTrue result ↔ IsAlone seat.now.view }
+        ensures alone { IsTrue result ↔ IsAlone seat.now.view }
+        ensures knows { KnowsAll seat.now.view }
     {
         seat.number == 0 && seat.left == self.shape.seats - 1
     }
