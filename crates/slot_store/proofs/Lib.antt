@@ -13,3 +13,13 @@ pub mod SeeingAll
 pub mod Destroying
 pub mod Ripening
 pub mod Reaps
+pub mod Objects
+pub mod Lasting
+pub mod Turning
+pub mod OwnNotes
+pub mod Quieting
+pub mod Leftovers
+pub mod Cycles
+pub mod CyclesLeft
+pub mod Settles
+pub mod Chaining

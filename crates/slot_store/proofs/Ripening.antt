@@ -66,13 +66,13 @@ ripened_or s ripe dying seen some = go (ripens ripe seen s) refl
         (few (times s ripe))
 
 -- what a scan answers tells whether it was the last
-word_read : (b : Bool) (w x : ℕ) (o : Outcome)
+pub word_read : (b : Bool) (w x : ℕ) (o : Outcome)
     → outcome.Word w ≡ (if b then o else outcome.Word x) → o ≢ outcome.Word w
     → (b ≡ false) × (w ≡ x)
 word_read true w x o is not = absurd (not (sym is))
 word_read false w x o is not = (refl, cc (is))
 
-split_read : (b : Bool) (last stay go x m n : ℕ)
+pub split_read : (b : Bool) (last stay go x m n : ℕ)
     → outcome.Split last stay go ≡ (if b then outcome.Split x m n else outcome.Word x)
     → (b ≡ true) × (last ≡ x)
 split_read true last stay go x m n is = (refl, cc (is))
@@ -142,37 +142,38 @@ module _ {P V : Type 0} {fits : List ℕ → Type 0} (d : DomainState P) (old ne
       idle
 
   -- the first step of a collect tells what holds of the seat
-  collect_law : (ws : List ℕ) (last stay go : ℕ) (ms : List Move) (a b : SeatState V)
+  pub collect_law : (ws : List ℕ) (last stay go : ℕ) (ms : List Move) (a b : SeatState V)
       → Walks fits d (scanned_by ws last stay go ++ ms) a b → a.view.core.phase ≡ phase.Idle
       → a.view.core.seen ≡ []
   collect_law [] last stay go ms a b walks idle = begun walks.1 idle
   collect_law (w ∷ ws) last stay go ms a b walks idle = begun walks.1 idle
 
-  pub waits : old.view.core.ripe ≡ [] → new.view.core.ripe ≡ [] → Waits fits d old new
-  waits were none = record {
-    collected = c;
-    none = none;
-    announced = λ s some.
-        let r = after_scan fits d s c.collects.last (length new.view.core.retired)
-        (length c.collects.payments) (flat_map paid_by c.collects.payments) c.collects.seen []
-        old new
-        (collect_law c.collects.seen _ _ _ (flat_map paid_by c.collects.payments) old new
-        c.collects.goes.walks rest.idle.0)
-        some c.collects.goes.walks in
-        ⊎_elim
-        (λ (ripe : 0 < times s r.0.view.core.ripe).
-        let stays = walk_stays fits d (flat_map paid_by c.collects.payments) r.0 new
-        (pays_gather c.collects.payments) r.1 in
-        let more = stays.ripe s in
-        let nothing = ap (times s) none in
-        let zero = times_none s in absurd (omega arith))
-        (λ (held : 0 < announced_in (c.collects.seen ++ c.collects.last ∷ []) Disposal s). held)
-        r.2;
-  }
+  -- what was dying and isn't ripe was announced for disposal
+  pub dying_announced : new.view.core.ripe ≡ [] → (s : SlotId) → 0 < times s old.view.core.dying
+      → 0 < announced_in (c.collects.seen ++ c.collects.last ∷ []) Disposal s
+  dying_announced none s some =
+      let r = after_scan fits d s c.collects.last (length new.view.core.retired)
+      (length c.collects.payments) (flat_map paid_by c.collects.payments) c.collects.seen []
+      old new
+      (collect_law c.collects.seen _ _ _ (flat_map paid_by c.collects.payments) old new
+      c.collects.goes.walks rest.idle.0)
+      some c.collects.goes.walks in
+      ⊎_elim
+      (λ (ripe : 0 < times s r.0.view.core.ripe).
+      let stays = walk_stays fits d (flat_map paid_by c.collects.payments) r.0 new
+      (pays_gather c.collects.payments) r.1 in
+      let more = stays.ripe s in
+      let nothing = ap (times s) none in
+      let zero = times_none s in absurd (omega arith))
+      (λ (held : 0 < announced_in (c.collects.seen ++ c.collects.last ∷ []) Disposal s). held)
+      r.2
+
+  waits : new.view.core.ripe ≡ [] → Waits fits d old new
+  waits none = record { collected = c; none = none; announced = dying_announced none }
 
   pub finds_after : old.view.core.ripe ≡ [] → (o : Option SlotId)
       → (IsNone o ↔ (new.view.core.ripe ≡ []))
       → IfSome o (λ s. s ≡ slice_index_or new.view.core.ripe 0 s) → FindsRipe fits d o old new
-  finds_after were None none is = (were, waits were (none.0 refl))
+  finds_after were None none is = (were, waits (none.0 refl))
   finds_after were (Some s) none is =
       (inr (were, c), first_there s new.view.core.ripe (λ e. absurd (cc (none.1 e))) is)

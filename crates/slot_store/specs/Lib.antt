@@ -3,3 +3,5 @@ pub mod Turns
 pub mod Calls
 pub mod Reaping
 pub mod Trials
+pub mod Settling
+pub mod Leftovers

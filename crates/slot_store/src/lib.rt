@@ -18,10 +18,14 @@ mod claiming;
 mod making;
 mod reading;
 mod reaping;
+mod settling;
 #[cfg(test)]
 mod tests;
+#[cfg(test)]
+mod tests_settle;
 
 pub use counted_handles::{SlotId, Strong};
 pub use making::{MakeError, make};
 pub use reading::read;
 pub use reaping::reap;
+pub use settling::settle;

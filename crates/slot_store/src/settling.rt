@@ -1,0 +1,65 @@
+//! How a seat that is alone destroys all that may be destroyed.
+ghost use Rattle.std.specs.Prelude.{◌≡◌};
+ghost use Rattle.std.specs.Bool.{MatchBool};
+ghost use Rattle.core_events.specs.Steps.{HasRoom};
+ghost use Rattle.control_word.specs.Resting.{IsAtRest};
+ghost use Rattle.deleter.specs.Weighing.{Weighs};
+ghost use Rattle.domain_rule.specs.Views.{IsAlone};
+ghost use Rattle.acquire_retire.specs.Collecting.{rest_of};
+ghost use Rattle.slot_store.specs.Leftovers.{IsQuiet, LeavesCycles};
+ghost use Rattle.slot_store.specs.Reaping.{KnowsBoth};
+ghost use Rattle.slot_store.specs.Settling.{GoesOn, Quiets, Settles};
+
+use crate::reaping::reap;
+use acquire_retire::{Domain, Seat};
+use deleter::Deleter;
+use plain_protocol::Protocol;
+use retiring_stores::collect;
+
+/// Collects, and tells whether that ejected an entry or left a slot ripe.
+fn gathers<P: Protocol>(domain: &Domain<P>, seat: &mut Seat<P>) -> bool
+    requires rest { IsAtRest domain.now seat.old }
+    ensures { MatchBool result (GoesOn P.Kind.fits domain.now seat.old seat.new)
+        (Quiets P.Kind.fits domain.now seat.old seat.new) }
+{
+    let deferred = domain.deferred(seat);
+    collect(domain, seat);
+    domain.deferred(seat) < deferred || domain.next_ripe(seat).is_some()
+}
+
+/// Destroys all that a seat which is alone can destroy: it reaps and collects by turns, until no slot is ripe and a
+/// collect ejects nothing. A slot that is still dying is then announced for disposal. Answers the weights of all slots
+/// that it destroyed, added up; the deleter is called on the payload of each. What only strong references among
+/// themselves keep, that is a cycle and what it leads to, stays.
+///
+/// For E retired entries and L objects these are at most 2·E + 8·L + 2 turns, each of at most 21 steps and four
+/// collects.
+pub fn settle<P: Protocol, F: Fn(&[u64; 16]) -> u64>(
+    domain: &Domain<P>,
+    seat: &mut Seat<P>,
+    deleter: &Deleter<P::Kind, F>,
+) -> u64
+    requires rest { IsAtRest domain.now seat.old }
+    requires room { HasRoom seat.old.view.core }
+    requires alone { IsAlone seat.old.view }
+    requires weighs { Weighs P.Kind.fits P.Kind.weight F.Fn deleter.now }
+    ensures settles { Settles P.Kind.fits domain.now P.Kind.weight result seat.old seat.new }
+    ensures quiet { IsQuiet seat.new.view.core }
+    ensures cycles { LeavesCycles seat.new.view }
+    ensures same { rest_of seat.new.view.core ≡ rest_of seat.old.view.core }
+    ensures alone { IsAlone seat.new.view }
+    ensures client { seat.new.view.client ≡ seat.old.view.client }
+    ensures objects { KnowsBoth seat.old seat.new }
+    ensures room { HasRoom seat.new.view.core }
+    ensures rest { IsAtRest domain.now seat.new }
+{
+    let _alone = domain.alone(seat);
+    let mut weights = 0;
+    loop {
+        if let Some(weight) = reap(domain, seat, deleter) {
+            weights += weight;
+        } else if !gathers(domain, seat) {
+            return weights;
+        }
+    }
+}
