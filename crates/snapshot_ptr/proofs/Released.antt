@@ -5,7 +5,6 @@ use Rattle.std.proofs.lemmas.Bool.Decides.{nat_tests}
 use Rattle.plain_state.specs.declared.slot.Kind.{Kind}
 use Rattle.plain_state.specs.declared.slot.Kind.TheVariants.{Strong, Weak, Disposal}
 use Rattle.plain_state.specs.declared.slot.SlotId.{SlotId}
-use Rattle.plain_state.specs.Lists.{entry_times}
 use Rattle.plain_state.proofs.Kit.{entry_loses}
 use Rattle.plain_protocol.specs.Owns.{HasSlot}
 use Rattle.core_events.specs.declared.act.Act.TheVariants as act
@@ -40,7 +39,7 @@ released_has v j k s x noted has =
     let b = entry_loses Weak x (k, s) ns ms less in
     let c = entry_loses Disposal x (k, s) ns ms less in grind (arith, nat_tests)
 
-module _ {P V : Type 0} {fits : List ℕ → Type 0} (d : DomainState P) (old : SeatState V) (j : ℕ)
+module _ {P V : Type 0} (d : DomainState P) (old : SeatState V) (j : ℕ)
     (s : SlotId) (rest : IsAtRest d old)
     (held : (0 < j) × (j < 4) × (note_of old.view.core j ≡ note.Valid Strong s)) where
   there : j < length old.view.core.notes
@@ -49,7 +48,7 @@ module _ {P V : Type 0} {fits : List ℕ → Type 0} (d : DomainState P) (old : 
   pub may_release : IsIdle old.view.core × (j < 4) × (note_of old.view.core j ≢ note.Idle)
   may_release = (rest.idle, held.1, (λ free. absurd (cc (free, held.2))))
 
-  module _ (new : SeatState V) (o : Outcome)
+  module _ {fits : List ℕ → Type 0} (new : SeatState V) (o : Outcome)
       (release : Steps fits d same_view IsSameView (act.Release j) old new o) where
     comes : Comes fits d (move (act.Release j) outcome.Plain ∷ [])
         (with_note j note.Idle old.view.core) (with_note j note.Idle old.view.core) old new

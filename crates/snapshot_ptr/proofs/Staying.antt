@@ -1,7 +1,6 @@
 -- Which snapshots a seat stays under.
-use Rattle.std.proofs.Common.{◌≡◌, ◌≢◌, ⊎_elim, ℕ, ◌<◌, ◌≤◌, ◌+◌, Bool, true, false, List, [], ◌∷◌, ◌++◌, length, refl, ap, sym, ◌∙◌, subst, arith}
-use Rattle.std.specs.Prelude.{Option, Some, None}
-use Rattle.std.proofs.lemmas.Bool.{cases_eq}
+use Rattle.std.proofs.Common.{◌≡◌, ◌≢◌, ℕ, ◌<◌, ◌≤◌, Bool, true, false, List, length, refl, ap, ◌∙◌, arith}
+use Rattle.std.specs.Prelude.{Option, Some, None, slice_set}
 use Rattle.plain_state.specs.declared.slot.Kind.{Kind}
 use Rattle.plain_state.specs.declared.slot.Kind.TheVariants.{Strong, Weak, Disposal}
 use Rattle.plain_state.specs.declared.slot.SlotId.{SlotId}
@@ -17,7 +16,7 @@ use Rattle.control_word.specs.Calls.{with_ended, with_strong, without_strong}
 use Rattle.protected_loads.specs.References.{with_reference}
 use Rattle.protected_loads.proofs.Noting.{beside}
 use Rattle.snapshot_ptr.specs.Ending.{KeepsOthers}
-use Rattle.snapshot_ptr.specs.Handles.{IsHeldBy, IsUnder, Snap, StaysUnder}
+use Rattle.snapshot_ptr.specs.Handles.{IsHeldBy, IsUnder, StaysUnder}
 
 -- a seat with w owns what one with v owned, and its snapshots stand in the same words
 pub record Grows (v w : CoreView) : Type 0 where
@@ -28,7 +27,8 @@ pub record Grows (v w : CoreView) : Type 0 where
 pub stays_grown : (v w : CoreView) → Grows v w → StaysUnder v w
 stays_grown v w grows snap under = go snap.word under
   where
-    go : (word : Option ℕ) → IsHeldBy word snap.slot v → IsHeldBy word snap.slot w
+    go : (word : Option ℕ) → IsHeldBy word snap.slot v.owned v.notes
+        → IsHeldBy word snap.slot w.owned w.notes
     go None owned = let more = grows.owned snap.slot in omega arith
     go (Some j) noted = (noted.0, noted.1, grows.noted j snap.slot noted.2)
 
@@ -68,8 +68,8 @@ module _ (v : CoreView) (t : List Move) where
       (record (with_note j note.Idle v) { trail = t })
   others_beside j s there snap apart under = go snap.word apart under
     where
-      go : (word : Option ℕ) → word ≢ Some j → IsHeldBy word snap.slot v
-          → IsHeldBy word snap.slot (record (with_note j note.Idle v) { trail = t })
+      go : (word : Option ℕ) → word ≢ Some j → IsHeldBy word snap.slot v.owned v.notes
+          → IsHeldBy word snap.slot v.owned (slice_set v.notes j note.Idle)
       go None other owned = owned
       go (Some i) other noted = (
         noted.0,
@@ -83,8 +83,10 @@ module _ (v : CoreView) (t : List Move) where
       (record (with_ended ended s (without_strong s v)) { trail = t })
   others_without ended s snap apart under = go ended snap.word apart under
     where
-      go : (b : Bool) (word : Option ℕ) → word ≢ None → IsHeldBy word snap.slot v
-          → IsHeldBy word snap.slot (record (with_ended b s (without_strong s v)) { trail = t })
+      go : (b : Bool) (word : Option ℕ) → word ≢ None
+          → IsHeldBy word snap.slot v.owned v.notes
+          → IsUnder (record { slot = snap.slot; word = word })
+          (record (with_ended b s (without_strong s v)) { trail = t })
       go b None other owned = absurd (other refl)
       go true (Some i) other noted = noted
       go false (Some i) other noted = noted

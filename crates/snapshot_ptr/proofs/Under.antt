@@ -1,5 +1,5 @@
 -- A free word, and the slot of a snapshot.
-use Rattle.std.proofs.Common.{◌≡◌, ⊎_elim, ℕ, ◌<◌, Bool, true, false, List, length, refl, subst, arith}
+use Rattle.std.proofs.Common.{◌≡◌, ⊎_elim, ℕ, ◌<◌, ◌≤◌, Bool, true, false, List, length, refl, subst, arith}
 use Rattle.std.specs.Prelude.{Option, Some, None, slice_index_or, if◌then◌else◌}
 use Rattle.std.proofs.lemmas.Bool.{cases_lt}
 use Rattle.std.proofs.lemmas.List.{get_or_past}
@@ -54,7 +54,7 @@ noted_there ns j k s is = ⊎_elim
 pub has_strongly : (snap : Snap) (v : CoreView) → IsUnder snap v → HoldsStrongly v snap.slot
 has_strongly snap v under = go snap.word under
   where
-    go : (word : Option ℕ) → IsHeldBy word snap.slot v → HoldsStrongly v snap.slot
+    go : (word : Option ℕ) → IsHeldBy word snap.slot v.owned v.notes → HoldsStrongly v snap.slot
     go None owned = omega arith
     go (Some j) noted =
         let there = noted_there v.notes j Strong snap.slot noted.2 in

@@ -40,5 +40,5 @@ module _ {P V : Type 0} (fits : List ℕ → Type 0) (d : DomainState P) (place 
     -- it found null, or protects by the word what the place held, and where there is no word it
     -- has gained a reference to it
     abbrev pub Takes : Option ℕ → Option SlotId → SeatState V → SeatState V → Type 0
-    Takes None found old new = Loads fits d place next allows found old new
-    Takes (Some j) found old new = Acquires fits d j place next allows found old new
+    Takes None found = Loads fits d place next allows found
+    Takes (Some j) found = Acquires fits d j place next allows found
