@@ -8,3 +8,4 @@ pub mod Counted
 pub mod Referring
 pub mod Remaining
 pub mod Losing
+pub mod Learning

@@ -7,3 +7,4 @@ pub mod Both
 pub mod Sides
 pub mod Untouched
 pub mod Apart
+pub mod Values

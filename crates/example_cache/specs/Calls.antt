@@ -1,0 +1,73 @@
+-- What the calls on a cache leave of a seat.
+use Rattle.std.specs.Prelude.{ℕ, ◌≡◌, ◌<◌, ◌+◌, ◌≤◌, List, [], ◌∷◌, ◌++◌, Option, Some, None}
+use Rattle.plain_state.specs.declared.act.EventPlace.TheVariants.{WeakCell}
+use Rattle.plain_state.specs.declared.slot.SlotId.{SlotId}
+use Rattle.plain_state.specs.Lists.{times}
+use Rattle.counted_handles.specs.Handles.{Handle}
+use Rattle.atomic_shared.specs.Places as shared
+use Rattle.atomic_weak.specs.Storing as weakly
+use Rattle.domain_rule.specs.Views.{object_in}
+use Rattle.acquire_retire.specs.Calls.{IsSameView, same_view}
+use Rattle.acquire_retire.specs.Domains.{DomainState}
+use Rattle.acquire_retire.specs.Seats.{SeatState}
+use Rattle.control_word.specs.Calls.{FindsEnded}
+use Rattle.protected_loads.specs.Loads.{Misses}
+use Rattle.protected_loads.specs.References.{Loads}
+use Rattle.example_cache.specs.Views.{View}
+use Rattle.example_cache.specs.Deeds.{RecallTells, recall_next}
+
+-- the slot that a handle names, if there is one
+abbrev pub strong_named : Option Handle → Option SlotId
+strong_named = shared.named
+
+abbrev pub weak_named : Option Handle → Option SlotId
+weak_named = weakly.named
+
+-- a view that has remembered one value more; that has recalled one value more
+abbrev pub remembered_too : List ℕ → View → View
+remembered_too value v = record v { remembered = v.remembered ++ value ∷ [] }
+
+abbrev pub recalled_too : List ℕ → View → View
+recalled_too value v = record v { recalled = v.recalled ++ value ∷ [] }
+
+-- what was recalled, by what was found
+abbrev pub RecallsValue : Option SlotId → SeatState View → SeatState View → Type 0
+RecallsValue None old new = new.view.client ≡ old.view.client
+RecallsValue (Some s) old new =
+    new.view.client ≡ recalled_too (object_in new.view s).payload old.view.client
+
+abbrev pub OwnsWeakly : Option SlotId → SeatState View → Type 0
+OwnsWeakly None seat = Unit {0}
+OwnsWeakly (Some s) seat = 0 < times s seat.view.core.weaks
+
+-- the seat found null in the cell, or has a weak reference to what it found, whose value it recalled
+pub record Finds {P : Type 0} (kind : List ℕ → Type 0) (d : DomainState P) (cell : ℕ)
+    (found : Option SlotId) (old new : SeatState View) : Type 0 where
+  pub loads : Loads kind d (WeakCell cell) recall_next (RecallTells cell) found old new
+  pub recalls : RecallsValue found old new
+  pub owns : OwnsWeakly found new
+  pub adds :
+      (new.view.core.adds ≤ old.view.core.adds + 1)
+      × (new.view.core.quota.adds ≡ old.view.core.quota.adds)
+
+-- at its check the cell held another content than at its look
+abbrev pub Moves : {P : Type 0} → (List ℕ → Type 0) → DomainState P → ℕ → Option SlotId
+    → Option SlotId → SeatState View → SeatState View → Type 0
+Moves kind d cell seen now old new =
+    Misses kind d 0 (WeakCell cell) recall_next (RecallTells cell) seen now old new
+
+-- nothing was remembered; or the seat owns the object of the value that it recalled
+abbrev pub Recalls : Option SlotId → SeatState View → SeatState View → Type 0
+Recalls None old new = new.view.client ≡ old.view.client
+Recalls (Some s) old new =
+    (0 < times s new.view.core.owned) × RecallsValue (Some s) old new
+
+-- the cell held a slot to which, at a later step of the seat's, there was no strong reference
+pub record FoundEnded {P : Type 0} (kind : List ℕ → Type 0) (d : DomainState P) (cell : ℕ)
+    (old : SeatState View) : Type 0 where
+  pub slot : SlotId
+  pub mid : SeatState View
+  pub loads :
+      Loads kind d (WeakCell cell) recall_next (RecallTells cell) (Some slot) old mid
+  pub late : SeatState View
+  pub ended : FindsEnded kind d same_view IsSameView slot mid late

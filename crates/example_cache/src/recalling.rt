@@ -1,0 +1,110 @@
+//! A value is recalled, as long as its object lives.
+ghost use Rattle.std.specs.Prelude.{ℕ, ◌≡◌, ◌≤◌, ◌+◌, ◌<◌, ◌↔◌, Err, IfOk};
+ghost use Rattle.core_events.specs.Steps.{HasRoom};
+ghost use Rattle.core_events.specs.Words.{slot_in};
+ghost use Rattle.counted_handles.specs.declared.refusal.LoadError.TheVariants as refused;
+ghost use Rattle.control_word.specs.Moves.{KnowsStill};
+ghost use Rattle.control_word.specs.Resting.{IsAtRest, IsSpent};
+ghost use Rattle.example_cache.specs.Calls.{Finds, FoundEnded, Moves, Recalls, strong_named, weak_named};
+ghost use Rattle.example_cache.specs.declared.recalling.RecallError.TheVariants as no_recall;
+
+use crate::deeds::RecallValue;
+use crate::law::CacheLaw;
+use acquire_retire::{Domain, EventPlace, Seat};
+use control_word::{UpgradeError, drop_weak, upgrade};
+use counted_handles::{LoadError, Strong, Weak};
+use plain_protocol::Still;
+use plain_state::PayloadKind;
+use protected_loads::try_load;
+
+/// Why no value was recalled.
+#[derive(Clone, Copy, PartialEq, Eq, Debug, Drop)]
+pub enum RecallError {
+    /// The object that the cell held has ended: there was no strong reference to it. The value is to be made anew.
+    Ended,
+    /// The cell changed while the call looked: it held the word `seen`, and then another one, `now`. A word is 0 for
+    /// null, else the slot's number and one.
+    Moved { seen: u64, now: u64 },
+    /// The seat has no add left of its quota.
+    Spent,
+}
+
+/// A strong reference to the object whose value was remembered last. `None` where nothing was remembered. `Ended` where
+/// the object has ended, `Moved` where the cell changed meanwhile, and `Spent` where the seat has used all adds of its
+/// quota, of which a recall takes two. At most eight steps.
+pub fn recall<K: PayloadKind>(
+    domain: &Domain<CacheLaw<K>>,
+    seat: &mut Seat<CacheLaw<K>>,
+    cell: u32,
+) -> Result<Option<Strong>, RecallError>
+    requires rest { IsAtRest domain.now seat.old }
+    requires room { HasRoom seat.old.view.core }
+    requires cell { cell ≡ domain.now.protocol.cell }
+    requires there { cell < domain.now.shape.weak_cells }
+    ensures recalled { IfOk result (λ found. Recalls (strong_named found) seat.old seat.new) }
+    ensures ended { result ≡ Err no_recall.Ended → FoundEnded K.fits domain.now
+        domain.now.protocol.cell seat.old }
+    ensures moved { (seen now : ℕ) → result ≡ Err (no_recall.Moved seen now)
+        → Moves K.fits domain.now domain.now.protocol.cell (slot_in seen) (slot_in now)
+        seat.old seat.new }
+    ensures spent { result ≡ Err no_recall.Spent
+        → seat.old.view.core.quota.adds ≤ seat.old.view.core.adds + 1 }
+    ensures remembered { seat.new.view.client.remembered ≡ seat.old.view.client.remembered }
+    ensures room { HasRoom seat.new.view.core }
+    ensures rest { IsAtRest domain.now seat.new }
+{
+    let found = match find(domain, seat, cell) {
+        Ok(found) => found,
+        Err(error) => return Err(refusal(error)),
+    };
+    let Some(weak) = found else {
+        return Ok(None);
+    };
+    let upgraded = upgrade(domain, seat, &weak, Still);
+    drop_weak(domain, seat, weak);
+    match upgraded {
+        Ok(strong) => Ok(Some(strong)),
+        Err(UpgradeError::Ended) => Err(RecallError::Ended),
+        Err(UpgradeError::Spent) => Err(RecallError::Spent),
+    }
+}
+
+/// The same refusal, of a recall.
+fn refusal(error: LoadError) -> RecallError
+    ensures ended { result ≡ no_recall.Ended → ⊥ }
+    ensures moved { (seen now : ℕ) → result ≡ no_recall.Moved seen now
+        → error ≡ refused.Moved seen now }
+    ensures spent { result ≡ no_recall.Spent → error ≡ refused.Spent }
+{
+    match error {
+        LoadError::Moved { seen, now } => RecallError::Moved { seen, now },
+        LoadError::Spent => RecallError::Spent,
+    }
+}
+
+/// A weak reference to what the cell holds.
+fn find<K: PayloadKind>(
+    domain: &Domain<CacheLaw<K>>,
+    seat: &mut Seat<CacheLaw<K>>,
+    cell: u32,
+) -> Result<Option<Weak>, LoadError>
+    requires rest { IsAtRest domain.now seat.old }
+    requires room { HasRoom seat.old.view.core }
+    requires cell { cell ≡ domain.now.protocol.cell }
+    requires there { cell < domain.now.shape.weak_cells }
+    ensures found { IfOk result (λ found. Finds K.fits domain.now
+        domain.now.protocol.cell (weak_named found) seat.old seat.new) }
+    ensures moved { (seen now : ℕ) → result ≡ Err (refused.Moved seen now)
+        → Moves K.fits domain.now domain.now.protocol.cell (slot_in seen) (slot_in now)
+        seat.old seat.new }
+    ensures spent { (result ≡ Err refused.Spent) ↔ IsSpent seat.old.view.core }
+    ensures remembered { seat.new.view.client.remembered ≡ seat.old.view.client.remembered }
+    ensures objects { KnowsStill seat.old.view.core seat.old seat.new }
+    ensures room { HasRoom seat.new.view.core }
+    ensures rest { IsAtRest domain.now seat.new }
+{
+    match try_load(domain, seat, EventPlace::WeakCell(cell), RecallValue)? {
+        Some(slot) => Ok(Some(Weak::of(slot))),
+        None => Ok(None),
+    }
+}

@@ -1,0 +1,66 @@
+-- What a seat knows of its own slots by its view.
+use Rattle.std.proofs.Common.{◌≡◌, ℕ, ◌+◌, ◌<◌, List, length, refl, sym, ap, subst, arith, Option, Some, None}
+use Rattle.std.specs.Prelude.{Contains, if◌then◌else◌}
+use Rattle.plain_state.specs.declared.slot.SlotId.{SlotId}
+use Rattle.plain_state.specs.declared.slot.Kind.TheVariants.{Strong}
+use Rattle.plain_state.specs.Lists.{Entry, times}
+use Rattle.plain_protocol.specs.Owns.{HasSlot}
+use Rattle.core_events.specs.declared.view.CoreView.{CoreView}
+use Rattle.core_events.specs.Shows.{show_seat}
+use Rattle.core_events.specs.Steps.{CanGive, HasRoom, without_given}
+use Rattle.core_invariant.proofs.Kit.{one_same, times_push, times_without}
+use Rattle.domain_rule.specs.Views.{object_in, own_of}
+use Rattle.acquire_retire.specs.Seats.{SeatState}
+use Rattle.protected_loads.proofs.Telling.{holds_has}
+use Rattle.protocol_pairs.specs.Spared.{HasOneOf}
+use Rattle.example_stack.specs.Views.{View}
+use Rattle.example_stack.specs.Deeds.{OwnsNode, SawIt, SawObject}
+use Rattle.example_stack.specs.Calls.{HasNode, with_found}
+
+-- what it owns it has
+pub has_owned : (v : CoreView) (s : SlotId) → 0 < times s v.owned → HasSlot (show_seat v) s
+has_owned v s owns = holds_has v s (omega arith)
+
+pub own_node : (kind : List ℕ → Type 0) (x : SlotId) (seat : SeatState View) → HasNode kind x seat
+    → OwnsNode kind (own_of seat.view) x
+own_node kind x seat has = (
+  has.0,
+  subst (λ b. HasOneOf kind (if b then Some (object_in seat.view x) else None))
+      (sym (has_owned seat.view.core x has.0)) has.1,
+)
+
+pub saw_owned : (s : SlotId) (seat : SeatState View) → HasSlot (show_seat seat.view.core) s
+    → Contains seat.view.client.seen (object_in seat.view s).payload
+    → SawIt (own_of seat.view) seat.view.client (Some s)
+saw_owned s seat has saw =
+    subst (λ b. SawObject seat.view.client (if b then Some (object_in seat.view s) else None))
+    (sym has) saw
+
+pub node_still : (kind : List ℕ → Type 0) (x : SlotId) (old new : SeatState View)
+    → HasNode kind x old → 0 < times x new.view.core.owned
+    → object_in new.view x ≡ object_in old.view x → HasNode kind x new
+node_still kind x old new has owns same = (owns, subst (λ o. kind o.payload) (sym same) has.1)
+
+-- WHAT WAS FOUND AND GIVEN AGAIN leaves a seat what it owned
+pub gives_found : (found : Option SlotId) (v : CoreView) (xs : List SlotId)
+    → v.owned ≡ with_found found xs → CanGive Strong found v
+gives_found None v xs is = tt
+gives_found (Some s) v xs is =
+    let push = times_push s s xs in
+    let one = one_same s s refl in
+    let at = ap (times s) is in omega arith
+
+pub owns_found : (found : Option SlotId) (v : CoreView) (xs : List SlotId) (x : SlotId)
+    → v.owned ≡ with_found found xs → 0 < times x xs → 0 < times x v.owned
+owns_found None v xs x is owns = let at = ap (times x) is in omega arith
+owns_found (Some s) v xs x is owns =
+    let push = times_push x s xs in let at = ap (times x) is in omega arith
+
+pub owns_again : (found : Option SlotId) (v : CoreView) (xs : List SlotId) (x : SlotId)
+    → v.owned ≡ with_found found xs → 0 < times x xs
+    → 0 < times x (without_given Strong found v).owned
+owns_again None v xs x is owns = let at = ap (times x) is in omega arith
+owns_again (Some s) v xs x is owns =
+    let push = times_push x s xs in
+    let at = ap (times x) is in
+    let fewer = times_without x s v.owned (gives_found (Some s) v xs is) in omega arith

@@ -1,0 +1,85 @@
+use Rattle.std.proofs.Common.{◌<◌, refl, sym, ap, subst, ◌∙◌, arith}
+use Rattle.plain_state.specs.declared.slot.SlotId.{SlotId}
+use Rattle.plain_state.specs.declared.slot.Kind.TheVariants.{Strong}
+use Rattle.plain_state.specs.Lists.{times}
+use Rattle.plain_protocol.specs.Owns.{Object}
+use Rattle.core_events.specs.Steps.{CanGive, without_given}
+use Rattle.atomic_shared.specs.Places.{named}
+use Rattle.domain_rule.specs.Views.{object_in}
+use Rattle.example_stack.proofs.Takes.{can_give, handle_node, has_still, known_since, node_again, owns_still, pops}
+use Rattle.example_stack.proofs.popping.try_pop.Goals as goal
+
+pub see-requires-2-clause-place : goal.see-requires-2-clause-place
+see-requires-2-clause-place g c =
+    let top = handle_node c.in_ok-top.field-0 c.in-Some.top c.slot.result c.args.seat.now
+    c.see.new.seat c.in-Some.is c.slot.ensures c.in_ok-top.ensures.saw in
+    (omega arith, omega (arith, top.0))
+
+pub see-requires-2-clause-stack : goal.see-requires-2-clause-stack
+see-requires-2-clause-stack g c = (
+  refl,
+  handle_node c.in_ok-top.field-0 c.in-Some.top c.slot.result c.args.seat.now
+      c.see.new.seat c.in-Some.is c.slot.ensures c.in_ok-top.ensures.saw,
+)
+
+pub drop_strong-requires-clause-owned : goal.drop_strong-requires-clause-owned
+drop_strong-requires-clause-owned g c =
+    let top = handle_node c.in_ok-top.field-0 c.in-Some.top c.in-Some.top.slot c.args.seat.now
+    c.see.new.seat c.in-Some.is refl c.in_ok-top.ensures.saw in
+    subst (λ l. 0 < times c.in-Some.top.slot l) (sym c.in-Err.ensures.owned) top.0
+
+pub take_top-requires-clause-top : goal.take_top-requires-clause-top
+take_top-requires-clause-top g c =
+    has_still c.slot-2.result (named c.in-Ok.below) c.see.new.seat c.see-2.new.seat
+    (handle_node c.in_ok-top.field-0 c.in-Some.top c.slot-2.result c.args.seat.now
+    c.see.new.seat c.in-Some.is c.slot-2.ensures c.in_ok-top.ensures.saw)
+    c.in-Ok.ensures.saw c.see-2.ensures.objects
+
+pub take_top-requires-clause-owned : goal.take_top-requires-clause-owned
+take_top-requires-clause-owned g c =
+    can_give c.slot-2.result (named c.in-Ok.below) c.see.new.seat c.see-2.new.seat
+    (handle_node c.in_ok-top.field-0 c.in-Some.top c.slot-2.result c.args.seat.now
+    c.see.new.seat c.in-Some.is c.slot-2.ensures c.in_ok-top.ensures.saw)
+    c.in-Ok.ensures.saw c.see-2.ensures.objects c.see-2.new.seat refl
+
+pub give_up-requires-clause-owned : goal.give_up-requires-clause-owned
+give_up-requires-clause-owned g c =
+    subst (λ o. CanGive Strong (named o) c.take_top.new.seat.view.core)
+    (sym c.in-Err-take_top.ensures.back)
+    (can_give c.slot-2.result (named c.in-Ok.below) c.see.new.seat c.see-2.new.seat
+    (handle_node c.in_ok-top.field-0 c.in-Some.top c.slot-2.result c.args.seat.now
+    c.see.new.seat c.in-Some.is c.slot-2.ensures c.in_ok-top.ensures.saw)
+    c.in-Ok.ensures.saw c.see-2.ensures.objects c.take_top.new.seat
+    c.in-Err-take_top.ensures.owned)
+
+pub drop_strong-requires-in-Err-take_top-clause-owned :
+    goal.drop_strong-requires-in-Err-take_top-clause-owned
+drop_strong-requires-in-Err-take_top-clause-owned g c =
+    subst (λ l. 0 < times c.in-Some.top.slot l) (sym c.give_up.ensures.owned)
+    (subst (λ o. 0 < times c.in-Some.top.slot
+    (without_given Strong (named o) c.take_top.new.seat.view.core).owned)
+    (sym c.in-Err-take_top.ensures.back)
+    (owns_still c.in-Some.top.slot (named c.in-Ok.below) c.see.new.seat c.see-2.new.seat
+    (handle_node c.in_ok-top.field-0 c.in-Some.top c.in-Some.top.slot c.args.seat.now
+    c.see.new.seat c.in-Some.is refl c.in_ok-top.ensures.saw)
+    c.in-Ok.ensures.saw c.see-2.ensures.objects c.take_top.new.seat
+    c.in-Err-take_top.ensures.owned))
+
+pub returns-in-Ok-take_top-clause-popped : goal.returns-in-Ok-take_top-clause-popped
+returns-in-Ok-take_top-clause-popped g c =
+    let top = handle_node c.in_ok-top.field-0 c.in-Some.top c.in-Some.top.slot c.args.seat.now
+    c.see.new.seat c.in-Some.is refl c.in_ok-top.ensures.saw in
+    let known = known_since c.in-Some.top.slot (named c.in-Ok.below) c.see.new.seat
+    c.see-2.new.seat top c.in-Ok.ensures.saw c.see-2.ensures.objects c.take_top.new.seat
+    c.in-Ok-take_top.ensures.given c.take_top.ensures.objects in (
+      node_again c.in-Some.top.slot (named c.in-Ok.below) c.see.new.seat c.see-2.new.seat top
+          c.in-Ok.ensures.saw c.see-2.ensures.objects c.take_top.new.seat
+          c.in-Ok-take_top.ensures.given c.take_top.ensures.objects,
+      pops (object_in c.take_top.new.seat.view c.in-Some.top.slot).payload
+          (object_in c.see-2.new.seat.view c.slot-2.result).payload c.args.seat.now.view.client
+          c.see-2.new.seat.view.client c.take_top.new.seat.view.client
+          c.in-Ok-take_top.ensures.popped
+          (ap (λ (s : SlotId). (object_in c.see-2.new.seat.view s).payload) c.slot-2.ensures
+          ∙ ap (λ (o : Object). o.payload) (sym known))
+          (c.see-2.ensures.popped ∙ c.see.ensures.popped),
+    )

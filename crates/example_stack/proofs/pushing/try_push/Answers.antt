@@ -1,0 +1,47 @@
+use Rattle.std.proofs.Common.{◌≡◌, ◌<◌, [], ◌∷◌, ◌++◌, refl, sym, ap, subst, ◌∙◌}
+use Rattle.plain_state.specs.Lists.{times}
+use Rattle.plain_protocol.specs.Owns.{Object}
+use Rattle.acquire_retire.proofs.Wholes.{then_ok}
+use Rattle.atomic_shared.specs.Places.{named}
+use Rattle.domain_rule.specs.Views.{object_in}
+use Rattle.example_stack.specs.Views.{View}
+use Rattle.example_stack.specs.Calls.{pushed_too}
+use Rattle.example_stack.proofs.Takes.{can_give, has_still, known_always, node_again, pushes}
+use Rattle.example_stack.proofs.pushing.try_push.Goals as goal
+
+pub link-requires-clause-node : goal.link-requires-clause-node
+link-requires-clause-node g c =
+    let node = has_still c.args.node.slot (named c.in-Ok.top) c.args.seat.now c.see.new.seat
+    c.requires.node c.in-Ok.ensures.saw c.see.ensures.objects in
+    subst (λ s. 0 < times s c.see.new.seat.view.core.owned) (sym c.slot.ensures) node.0
+
+pub link-requires-clause-owned : goal.link-requires-clause-owned
+link-requires-clause-owned g c =
+    can_give c.args.node.slot (named c.in-Ok.top) c.args.seat.now c.see.new.seat c.requires.node
+    c.in-Ok.ensures.saw c.see.ensures.objects c.see.new.seat refl
+
+pub put_on-requires-clause-node : goal.put_on-requires-clause-node
+put_on-requires-clause-node g c =
+    node_again c.args.node.slot (named c.in-Ok.top) c.args.seat.now c.see.new.seat c.requires.node
+    c.in-Ok.ensures.saw c.see.ensures.objects c.link.new.seat c.link.ensures.owned
+    c.link.ensures.objects
+
+pub returns-clause-pushed : goal.returns-clause-pushed
+returns-clause-pushed g c =
+    let known = known_always c.args.node.slot (named c.in-Ok.top) c.args.seat.now c.see.new.seat
+    c.requires.node c.in-Ok.ensures.saw c.see.ensures.objects c.link.new.seat c.link.ensures.owned
+    c.link.ensures.objects in
+    then_ok
+    (λ done. c.put_on.new.seat.view.client
+    ≡ pushed_too (object_in c.link.new.seat.view c.args.node.slot).payload
+    c.link.new.seat.view.client)
+    (λ done. c.put_on.new.seat.view.client.pushed
+    ≡ c.args.seat.now.view.client.pushed
+    ++ (object_in c.args.seat.now.view c.args.node.slot).payload ∷ [])
+    c.put_on.result
+    (λ done is. pushes (object_in c.args.seat.now.view c.args.node.slot).payload
+    (object_in c.link.new.seat.view c.args.node.slot).payload c.args.seat.now.view.client
+    c.link.new.seat.view.client c.put_on.new.seat.view.client is
+    (ap (λ (o : Object). o.payload) known)
+    (ap (λ (v : View). v.pushed) c.link.ensures.client ∙ c.see.ensures.pushed))
+    c.put_on.ensures.pushed

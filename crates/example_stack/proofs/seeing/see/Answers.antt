@@ -1,0 +1,54 @@
+use Rattle.std.proofs.Common.{ap, ℕ, List}
+use Rattle.protected_loads.proofs.Learning.{room_as}
+use Rattle.example_stack.proofs.Sights.{answered, ready}
+use Rattle.example_stack.proofs.seeing.see.Goals as goal
+
+pub try_load-requires-clause-deed : goal.try_load-requires-clause-deed
+try_load-requires-clause-deed g c =
+    ready g.K.PayloadKind.fits c.args.domain.now c.args.domain.now.protocol.cell c.args.place
+    c.args.seat.now c.requires.stack
+
+pub returns-clause-saw : goal.returns-clause-saw
+returns-clause-saw g c =
+    (answered g.K.PayloadKind.fits c.args.domain.now c.args.domain.now.protocol.cell c.args.place
+    c.args.seat.now c.requires.rest c.try_load.new.seat c.try_load.result c.try_load.ensures.refused
+    c.try_load.ensures.spent.0
+    c.try_load.ensures.loaded c.try_load.ensures.moved).0
+
+pub returns-clause-owned : goal.returns-clause-owned
+returns-clause-owned g c =
+    (answered g.K.PayloadKind.fits c.args.domain.now c.args.domain.now.protocol.cell c.args.place
+    c.args.seat.now c.requires.rest c.try_load.new.seat c.try_load.result c.try_load.ensures.refused
+    c.try_load.ensures.spent.0
+    c.try_load.ensures.loaded c.try_load.ensures.moved).1
+
+pub returns-clause-pushed : goal.returns-clause-pushed
+returns-clause-pushed g c =
+    ap (λ (x : List (List ℕ) × List (List ℕ)). x.0)
+    (answered g.K.PayloadKind.fits c.args.domain.now c.args.domain.now.protocol.cell c.args.place
+    c.args.seat.now c.requires.rest c.try_load.new.seat c.try_load.result c.try_load.ensures.refused
+    c.try_load.ensures.spent.0
+    c.try_load.ensures.loaded c.try_load.ensures.moved).2
+
+pub returns-clause-popped : goal.returns-clause-popped
+returns-clause-popped g c =
+    ap (λ (x : List (List ℕ) × List (List ℕ)). x.1)
+    (answered g.K.PayloadKind.fits c.args.domain.now c.args.domain.now.protocol.cell c.args.place
+    c.args.seat.now c.requires.rest c.try_load.new.seat c.try_load.result c.try_load.ensures.refused
+    c.try_load.ensures.spent.0
+    c.try_load.ensures.loaded c.try_load.ensures.moved).2
+
+pub returns-clause-room : goal.returns-clause-room
+returns-clause-room g c =
+    room_as c.args.seat.now.view.core c.try_load.new.seat.view.core
+    (answered g.K.PayloadKind.fits c.args.domain.now c.args.domain.now.protocol.cell c.args.place
+    c.args.seat.now c.requires.rest c.try_load.new.seat c.try_load.result c.try_load.ensures.refused
+    c.try_load.ensures.spent.0
+    c.try_load.ensures.loaded c.try_load.ensures.moved).3 c.requires.room
+
+pub returns-clause-why : goal.returns-clause-why
+returns-clause-why g c =
+    (answered g.K.PayloadKind.fits c.args.domain.now c.args.domain.now.protocol.cell c.args.place
+    c.args.seat.now c.requires.rest c.try_load.new.seat c.try_load.result c.try_load.ensures.refused
+    c.try_load.ensures.spent.0
+    c.try_load.ensures.loaded c.try_load.ensures.moved).4

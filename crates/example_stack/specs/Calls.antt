@@ -1,0 +1,81 @@
+-- What the calls on a stack ask of a seat, and what they leave.
+use Rattle.std.specs.Prelude.{ℕ, ◌≡◌, ◌<◌, ◌≤◌, ◌+◌, ◌⊎◌, List, [], ◌∷◌, ◌++◌, Option, Some, None}
+use Rattle.plain_state.specs.declared.act.EventPlace.{EventPlace}
+use Rattle.plain_state.specs.declared.act.PlainAct.{PlainAct}
+use Rattle.plain_state.specs.declared.slot.SlotId.{SlotId}
+use Rattle.plain_state.specs.Lists.{times}
+use Rattle.plain_protocol.specs.Owns.{OwnPart}
+use Rattle.core_events.specs.declared.view.CoreView.{CoreView}
+use Rattle.core_events.specs.Steps.{IsContent}
+use Rattle.core_events.specs.Words.{slot_in}
+use Rattle.control_word.specs.Resting.{IsSpent}
+use Rattle.counted_handles.specs.declared.refusal.LoadError.{LoadError}
+use Rattle.counted_handles.specs.declared.refusal.LoadError.TheVariants as refused
+use Rattle.protected_loads.specs.Loads.{Misses}
+use Rattle.retiring_stores.specs.Exchanging.{Loses}
+use Rattle.counted_handles.specs.declared.place.Place.{Place}
+use Rattle.counted_handles.specs.declared.place.Place.TheVariants as place
+use Rattle.domain_rule.specs.Views.{object_in, own_of}
+use Rattle.acquire_retire.specs.Domains.{DomainState}
+use Rattle.acquire_retire.specs.Seats.{SeatState}
+use Rattle.example_stack.specs.Views.{View}
+use Rattle.example_stack.specs.Deeds.{SawIt, SeeTells, TellsNothing, see_next}
+
+-- the seat owns a reference to a node
+abbrev pub HasNode : (List ℕ → Type 0) → SlotId → SeatState View → Type 0
+HasNode kind s seat =
+    (0 < times s seat.view.core.owned) × kind (object_in seat.view s).payload
+
+-- the place is the stack's cell, or field 0 of a node that the seat owns
+abbrev pub IsPlaceOf : ℕ → (List ℕ → Type 0) → SeatState View → Place → Type 0
+IsPlaceOf cell kind seat (place.Cell i) = i ≡ cell
+IsPlaceOf cell kind seat (place.Field x i) = (i ≡ 0) × HasNode kind x seat
+
+abbrev pub with_found : Option SlotId → List SlotId → List SlotId
+with_found None xs = xs
+with_found (Some s) xs = xs ++ s ∷ []
+
+-- the found slot, if it isn't null, holds a node
+abbrev pub IsNodeOf : (List ℕ → Type 0) → Option SlotId → SeatState View → Type 0
+IsNodeOf kind None seat = Unit {0}
+IsNodeOf kind (Some s) seat = kind (object_in seat.view s).payload
+
+-- The seat found null, or owns a reference to the node that it found, whose value it saw in the stack.
+pub record Sees {P : Type 0} (kind : List ℕ → Type 0) (d : DomainState P) (found : Option SlotId)
+    (old new : SeatState View) : Type 0 where
+  pub owned : new.view.core.owned ≡ with_found found old.view.core.owned
+  pub node : IsNodeOf kind found new
+  pub saw : SawIt (own_of new.view) new.view.client found
+  pub there : IsContent d.shape found
+  pub spent : IsSpent new.view.core → HasFewAdds old.view.core
+
+-- A place held `seen`, and then another content, `now`: so a check of the seat's found, or an exchange.
+abbrev pub Changes : {P : Type 0} → (List ℕ → Type 0) → DomainState P → ℕ → ℕ → Type 0
+Changes kind d seen now =
+    (place : EventPlace) × (mid : SeatState View) × (late : SeatState View)
+    × (Misses kind d 0 place see_next (SeeTells kind) (slot_in seen) (slot_in now) mid late
+    ⊎ ((next : OwnPart → OwnPart → View → PlainAct → ℕ → View) × (given : Option SlotId)
+    × Loses kind d next TellsNothing place given (slot_in seen) (slot_in now) mid late))
+
+-- why a call was refused: the seat was spent, or a place has changed
+abbrev pub IsWhy : {P : Type 0} → (List ℕ → Type 0) → DomainState P → Type 0 → LoadError → Type 0
+IsWhy kind d spent refused.Spent = spent
+IsWhy kind d spent (refused.Moved seen now) = Changes kind d seen now
+
+-- at most one add is left
+abbrev pub HasFewAdds : CoreView → Type 0
+HasFewAdds v = v.quota.adds ≤ v.adds + 1
+
+-- a view that has pushed one value more; that has popped one value more
+abbrev pub pushed_too : List ℕ → View → View
+pushed_too value v = record v { pushed = v.pushed ++ value ∷ [] }
+
+abbrev pub popped_too : List ℕ → View → View
+popped_too value v = record v { popped = v.popped ++ value ∷ [] }
+
+-- the stack was empty; or the seat owns the node that was the top, and has popped its value
+abbrev pub Pops : (List ℕ → Type 0) → Option SlotId → SeatState View → SeatState View → Type 0
+Pops kind None old new = new.view.client.popped ≡ old.view.client.popped
+Pops kind (Some s) old new =
+    HasNode kind s new
+    × (new.view.client.popped ≡ old.view.client.popped ++ (object_in new.view s).payload ∷ [])

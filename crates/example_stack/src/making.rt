@@ -1,0 +1,32 @@
+//! A new node.
+ghost use Rattle.std.specs.Prelude.{◌≡◌, IfOk};
+ghost use Rattle.core_events.specs.Steps.{HasRoom};
+ghost use Rattle.control_word.specs.Resting.{IsAtRest};
+ghost use Rattle.example_stack.specs.Calls.{HasNode};
+ghost use Rattle.domain_rule.specs.Views.{object_in};
+
+use crate::deeds::MakeNode;
+use crate::law::StackLaw;
+use acquire_retire::{Domain, Seat};
+use counted_handles::Strong;
+use plain_state::PayloadKind;
+use slot_store::{MakeError, make};
+
+/// Makes a node of a value, which isn't in the stack yet. Where none can be made, nothing has changed but the seat's
+/// trail.
+pub fn make_node<K: PayloadKind>(
+    domain: &Domain<StackLaw<K>>,
+    seat: &mut Seat<StackLaw<K>>,
+    value: &[u64; 16],
+) -> Result<Strong, MakeError>
+    requires rest { IsAtRest domain.now seat.old }
+    requires room { HasRoom seat.old.view.core }
+    requires fits { K.fits value.now }
+    ensures made { IfOk result (λ node. HasNode K.fits node.slot seat.new) }
+    ensures value { IfOk result (λ node. (object_in seat.new.view node.slot).payload ≡ value.now) }
+    ensures client { seat.new.view.client ≡ seat.old.view.client }
+    ensures room { HasRoom seat.new.view.core }
+    ensures rest { IsAtRest domain.now seat.new }
+{
+    make(domain, seat, value, MakeNode)
+}

@@ -1,0 +1,60 @@
+//! What a seat sees in a stack, and what it gives up of that.
+ghost use Rattle.std.specs.Prelude.{◌≡◌, IfErr, IfOk, OnErr};
+ghost use Rattle.plain_state.specs.declared.slot.Kind.TheVariants as kind;
+ghost use Rattle.core_events.specs.Steps.{CanGive, HasRoom, without_given};
+ghost use Rattle.atomic_shared.specs.Loading.{CanLoad};
+ghost use Rattle.atomic_shared.specs.Places.{named};
+ghost use Rattle.control_word.specs.Moves.{KnowsStill};
+ghost use Rattle.control_word.specs.Resting.{IsAtRest, IsSpent};
+ghost use Rattle.example_stack.specs.Calls.{IsPlaceOf, IsWhy, Sees};
+
+use crate::deeds::SeeNode;
+use crate::law::StackLaw;
+use acquire_retire::{Domain, Seat};
+use atomic_shared::{LoadError, Place, try_load};
+use control_word::drop_strong;
+use counted_handles::Strong;
+use plain_state::PayloadKind;
+
+/// A reference to what the stack has in a place: its top, or what is below a node.
+pub(crate) fn see<K: PayloadKind>(
+    domain: &Domain<StackLaw<K>>,
+    seat: &mut Seat<StackLaw<K>>,
+    place: Place,
+) -> Result<Option<Strong>, LoadError>
+    requires rest { IsAtRest domain.now seat.old }
+    requires room { HasRoom seat.old.view.core }
+    requires place { CanLoad domain.now.shape seat.old.view.core place }
+    requires stack { IsPlaceOf domain.now.protocol.cell K.fits seat.old place }
+    ensures saw { IfOk result (λ found. Sees K.fits domain.now (named found) seat.old seat.new) }
+    ensures why { IfErr result (λ error. IsWhy K.fits domain.now (IsSpent seat.old.view.core)
+        error) }
+    ensures owned { OnErr result (seat.new.view.core.owned ≡ seat.old.view.core.owned) }
+    ensures pushed { seat.new.view.client.pushed ≡ seat.old.view.client.pushed }
+    ensures popped { seat.new.view.client.popped ≡ seat.old.view.client.popped }
+    ensures objects { KnowsStill seat.old.view.core seat.old seat.new }
+    ensures room { HasRoom seat.new.view.core }
+    ensures rest { IsAtRest domain.now seat.new }
+{
+    try_load(domain, seat, place, SeeNode)
+}
+
+/// Gives up a reference, if there is one.
+pub(crate) fn give_up<K: PayloadKind>(
+    domain: &Domain<StackLaw<K>>,
+    seat: &mut Seat<StackLaw<K>>,
+    handle: Option<Strong>,
+)
+    requires rest { IsAtRest domain.now seat.old }
+    requires room { HasRoom seat.old.view.core }
+    requires owned { CanGive kind.Strong (named handle) seat.old.view.core }
+    ensures owned { seat.new.view.core.owned
+        ≡ (without_given kind.Strong (named handle) seat.old.view.core).owned }
+    ensures client { seat.new.view.client ≡ seat.old.view.client }
+    ensures room { HasRoom seat.new.view.core }
+    ensures rest { IsAtRest domain.now seat.new }
+{
+    if let Some(strong) = handle {
+        drop_strong(domain, seat, strong);
+    }
+}
