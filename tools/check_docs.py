@@ -4,7 +4,7 @@
 - A relative link leads to a file, and its anchor to a heading of it.
 - A link whose text is a name in backticks and that leads to a source leads to where that name is defined: a function,
   a type or a lemma. In docs/PROMISES.md the names in backticks after a link to a function are clauses of it.
-- A block after a comment <!-- file: PATH --> is that file.
+- A block after a comment <!-- file: PATH --> is that file, and one after <!-- part: PATH --> lines of it in a row.
 - A block after a comment <!-- output: COMMAND --> is what the program writes. It is run once for all of them, by `rt
   try`, which proves nothing. A path is one of crates/cdrc_words or of the top folder.
 - Blocks of one document after comments <!-- repository: PATH --> are files of a repository of a reader's own, beside
@@ -25,7 +25,7 @@ import picture  # noqa: E402
 
 TOP = Path(__file__).resolve().parent.parent
 LINK = re.compile(r"!?\[((?:`[^`]*`|[^\]`])*)\]\(([^)\s]+)\)")
-MARK = re.compile(r"^<!-- (file|output|repository): (.+) -->$")
+MARK = re.compile(r"^<!-- (file|part|output|repository): (.+) -->$")
 
 
 class Document:
@@ -156,6 +156,9 @@ def main():
                 shown.append((document, number, name, text))
             elif kind == "repository":
                 repositories.setdefault(document, {})[name] = (number, text)
+            elif kind == "part":
+                if not (TOP / name).is_file() or "\n" + text not in "\n" + (TOP / name).read_text():
+                    document.fault(number, f"the block isn't a part of the file {name}")
             elif not (TOP / name).is_file() or (TOP / name).read_text().rstrip("\n") != text.rstrip("\n"):
                 document.fault(number, f"the block isn't the file {name}")
 
