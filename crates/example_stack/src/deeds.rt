@@ -21,7 +21,8 @@ impl<K: PayloadKind> Deed<StackLaw<K>> for MakeNode {
 }
 
 /// What the cell holds, or field 0 of a node that the seat owns, by a look or a check. If the seat has the object
-/// afterwards, as under a snapshot, its value joins those that the seat saw in the stack; and what it saw are values of nodes.
+/// afterwards, as under a snapshot, its value joins those that the seat saw in the stack. What it saw are values of
+/// nodes.
 #[derive(Clone, Copy, Debug, Drop)]
 pub struct SeeNode;
 
