@@ -5,10 +5,13 @@
 //! the top. The rule that is kept: what the cell holds was pushed by some seat, so was what field 0 of a node holds,
 //! and so was each value that a seat popped.
 //!
-//! No step is promised to come. That a value is popped once, or that none is lost, isn't told.
+//! A push and a pop are one try each: where another seat has been quicker they are refused, and say so. No step is
+//! promised to come. That a value is popped once, or that none is lost, isn't told.
 //!
 //! ```text
-//! let stack = StackLaw::<RecordKind>::new(0);     // strong cell 0
+//! let node = make_node(&domain, &mut seat, &value)?;     // a domain opened with StackLaw::<RecordKind>::new(0)
+//! try_push(&domain, &mut seat, 0, node)?;                // strong cell 0; or NotPushed, with the node back
+//! let Some(node) = try_pop(&domain, &mut seat, 0)? else { .. };    // an empty stack; or Moved, Spent
 //! ```
 #![tactic(auto)]
 
