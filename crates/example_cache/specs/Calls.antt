@@ -5,7 +5,7 @@ use Rattle.plain_state.specs.declared.slot.SlotId.{SlotId}
 use Rattle.plain_state.specs.Lists.{times}
 use Rattle.counted_handles.specs.Handles.{Handle}
 use Rattle.atomic_shared.specs.Places as shared
-use Rattle.atomic_weak.specs.Storing as weakly
+use Rattle.atomic_weak.specs.Places as weakly
 use Rattle.domain_rule.specs.Views.{object_in}
 use Rattle.acquire_retire.specs.Calls.{IsSameView, same_view}
 use Rattle.acquire_retire.specs.Domains.{DomainState}
