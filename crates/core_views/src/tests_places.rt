@@ -13,7 +13,8 @@ const TWO_SEATS: Shape = Shape {
     batch: 1,
 };
 
-/// The base word, 8 announcement words, 3 and 4 cells: slot 2 begins at 16 + 42, and the slots end at 121.
+/// The base word, 8 announcement words, 3 and 4 cells: slot 2 begins at 16 + 42, and the slots end at 121. A note that
+/// announces nothing has no slot, so its place is word 0.
 const PLACES: [(Act, usize); 12] = [
     (Act::Announce(3, Kind::Weak, SLOT), 8),
     (Act::Look(EventPlace::Cell(2)), 11),
@@ -24,7 +25,7 @@ const PLACES: [(Act, usize); 12] = [
     (Act::Look(EventPlace::WeakField(SlotId(2))), 62),
     (Act::See(SlotId(2), 15), 78),
     (Act::Scan, 1),
-    (Act::Alive(0), 16),
+    (Act::Alive(0), 0),
     (Act::Claim(SlotId(2)), 121),
     (Act::Ticket, 122),
 ];
