@@ -1,4 +1,4 @@
-//! The setting in use: a seat stores a value, and reads the one that is there.
+//! A value is stored: an object is made of it, and put into the cell.
 ghost use Rattle.std.specs.Prelude.{◌≡◌, ◌∷◌, ◌++◌, [], ◌<◌, IfOk, OnErr};
 ghost use Rattle.core_events.specs.Steps.{HasRoom};
 ghost use Rattle.control_word.specs.Resting.{IsAtRest};

@@ -1,6 +1,6 @@
 use Rattle.example_setting.specs.Setting.{owns}
 use Rattle.slot_store.proofs.Sparing.{make_is_spared}
-use Rattle.example_setting.proofs.client.store_value.Goals as goal
+use Rattle.example_setting.proofs.storing.store_value.Goals as goal
 
 pub make-requires-clause-deed : goal.make-requires-clause-deed
 make-requires-clause-deed g c s mid begins =

@@ -1,0 +1,23 @@
+-- A reference that is copied stays the seat's when the copy has gone.
+use Rattle.std.proofs.Common.{◌≡◌, ℕ, ◌<◌, List, refl, arith, subst}
+use Rattle.plain_state.specs.declared.slot.SlotId.{SlotId}
+use Rattle.plain_state.specs.Lists.{times}
+use Rattle.acquire_retire.specs.Calls.{IsSameView, same_view}
+use Rattle.acquire_retire.specs.Domains.{DomainState}
+use Rattle.acquire_retire.specs.Seats.{SeatState}
+use Rattle.control_word.specs.Calls.{DropsStrong, GainsStrong}
+use Rattle.control_word.specs.Trials.{Owns}
+use Rattle.control_word.proofs.Owning.{one_strong_fewer, one_strong_more}
+
+module _ {P V : Type 0} {fits : List ℕ → Type 0} (d : DomainState P) (s copy : SlotId)
+    (same : copy ≡ s) (old mid new : SeatState V) where
+  pub still_owned : 0 < times s old.view.core.owned
+      → GainsStrong fits d same_view IsSameView s old mid → DropsStrong fits d copy mid new
+      → 0 < times s new.view.core.owned
+  still_owned owned gains drops =
+      let owns : Owns s (times s old.view.core.owned) (times s old.view.core.weaks) old =
+      record { strong = refl; weak = refl } in
+      let more = one_strong_more s _ _ owns gains in
+      let fewer = one_strong_fewer s (times s old.view.core.owned) _ more
+      (subst (λ (x : SlotId). DropsStrong fits d x mid new) same drops) in
+      omega (arith, fewer.strong)

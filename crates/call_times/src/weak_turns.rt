@@ -1,0 +1,48 @@
+//! Turns with a weak reference to what cell 0 holds.
+ghost use Rattle.std.specs.Prelude.{◌<◌, IfSome};
+ghost use Rattle.plain_state.specs.Lists.{times};
+ghost use Rattle.core_events.specs.Steps.{HasRoom};
+ghost use Rattle.control_word.specs.Resting.{IsAtRest};
+
+use crate::domain::Objects;
+use crate::strong_turns::CELL;
+use acquire_retire::{Domain, Seat};
+use atomic_shared::load;
+use control_word::{drop_strong, drop_weak, upgrade, weaken};
+use counted_handles::Weak;
+use plain_protocol::AnyStep;
+use std::sync::Wait;
+
+/// A weak reference to what the cell holds.
+fn watch<R: Wait>(rt: &R, domain: &Domain<Objects>, seat: &mut Seat<Objects>) -> Option<Weak>
+    requires rest { IsAtRest domain.now seat.old }
+    requires room { HasRoom seat.old.view.core }
+    requires cell { 0 < domain.now.shape.cells }
+    ensures watched { IfSome result (λ weak. 0 < times weak.slot seat.new.view.core.weaks) }
+    ensures room { HasRoom seat.new.view.core }
+    ensures rest { IsAtRest domain.now seat.new }
+{
+    let strong = load(rt, domain, seat, CELL, AnyStep).ok()??;
+    let weak = weaken(domain, seat, &strong).ok();
+    drop_strong(domain, seat, strong);
+    weak
+}
+
+/// Upgrades the weak reference, and drops what it got.
+pub fn upgrades<R: Wait>(rt: &R, domain: &Domain<Objects>, seat: &mut Seat<Objects>, turns: u64)
+    requires rest { IsAtRest domain.now seat.old }
+    requires room { HasRoom seat.old.view.core }
+    requires cell { 0 < domain.now.shape.cells }
+    ensures room { HasRoom seat.new.view.core }
+    ensures rest { IsAtRest domain.now seat.new }
+{
+    let Some(weak) = watch(rt, domain, seat) else {
+        return;
+    };
+    for _turn in 0..turns {
+        if let Ok(strong) = upgrade(domain, seat, &weak, AnyStep) {
+            drop_strong(domain, seat, strong);
+        }
+    }
+    drop_weak(domain, seat, weak);
+}

@@ -1,0 +1,17 @@
+use Rattle.plain_state.specs.declared.act.EventPlace.TheVariants.{Cell}
+use Rattle.example_setting.specs.Deeds.{ReadTells}
+use Rattle.example_setting.proofs.Readings.{all_reads, stored_still}
+use Rattle.example_setting.proofs.reading.read_value.Goals as goal
+
+pub returns-clause-read : goal.returns-clause-read
+returns-clause-read g c =
+    all_reads g.K.PayloadKind.fits c.args.domain.now (Cell c.args.cell)
+    (ReadTells c.args.domain.now.protocol.cell) c.args.seat.now c.requires.rest
+    c.try_snapshot.new.seat c.try_snapshot.result c.try_snapshot.ensures.taken
+
+pub returns-clause-stored : goal.returns-clause-stored
+returns-clause-stored g c =
+    stored_still g.K.PayloadKind.fits c.args.domain.now (Cell c.args.cell)
+    (ReadTells c.args.domain.now.protocol.cell) c.args.seat.now c.requires.rest
+    c.try_snapshot.new.seat c.try_snapshot.result c.try_snapshot.ensures.refused
+    c.try_snapshot.ensures.taken c.try_snapshot.ensures.moved

@@ -1,0 +1,30 @@
+-- What a read leaves of a seat.
+use Rattle.std.specs.Prelude.{ℕ, ◌≡◌, List, [], ◌∷◌, ◌++◌, Option, Some, None}
+use Rattle.plain_state.specs.declared.act.EventPlace.TheVariants.{Cell}
+use Rattle.plain_state.specs.declared.slot.SlotId.{SlotId}
+use Rattle.domain_rule.specs.Views.{object_in}
+use Rattle.acquire_retire.specs.Domains.{DomainState}
+use Rattle.acquire_retire.specs.Notes.{least_free}
+use Rattle.acquire_retire.specs.Seats.{SeatState}
+use Rattle.protected_loads.specs.Loads.{Misses}
+use Rattle.snapshot_ptr.specs.Handles.{Snap}
+use Rattle.snapshot_ptr.specs.Taking.{word_taken}
+use Rattle.example_setting.specs.Views.{View}
+use Rattle.example_setting.specs.Deeds.{ReadTells, read_next}
+
+-- a view that has read one value more
+abbrev pub read_too : List ℕ → View → View
+read_too value v = record v { read = v.read ++ value ∷ [] }
+
+-- a seat that had the view v read nothing where the cell was null, else the value of the object that it
+-- is under a snapshot of
+abbrev pub Reads : Option Snap → View → SeatState View → Type 0
+Reads None v new = new.view.client ≡ v
+Reads (Some snap) v new = new.view.client ≡ read_too (object_in new.view snap.slot).payload v
+
+-- at its check the cell held another content than at its look
+abbrev pub Moves : {P : Type 0} → (List ℕ → Type 0) → DomainState P → ℕ → Option SlotId
+    → Option SlotId → SeatState View → SeatState View → Type 0
+Moves kind d cell seen now old new =
+    Misses kind d (word_taken (least_free old.view.core)) (Cell cell) read_next (ReadTells cell)
+    seen now old new
