@@ -4,7 +4,7 @@ PROGRAM := crates/cdrc_words/out/cdrc_words
 SOURCES := crates.txt $(shell find crates -name out -prune -o \( -name '*.rt' -o -name '*.antt' \) -print)
 TRY := cd crates/cdrc_words && echo 'nothing is proved here: make test proves everything' >&2 && rt try --
 
-.PHONY: help run script steps picture docs test install clean
+.PHONY: help run script steps examples picture docs test install clean
 
 help: ## says what each target does
 	@sed -n 's/^\([a-z]*\):.*## /make \1\t/p' Makefile | expand -t 16
@@ -17,6 +17,9 @@ script: ## the same with the sample script
 
 steps: ## the same with the sample list of steps
 	@$(TRY) steps data/sample.steps
+
+examples: ## runs a setting, a stack and a cache, each by two threads: half a minute, no proof
+	@cd crates/example_threads && echo 'nothing is proved here: make test proves everything' >&2 && rt try
 
 picture: ## draws docs/late_finish.svg anew out of docs/late_finish.steps
 	python3 tools/picture.py docs/late_finish.steps docs/late_finish.svg

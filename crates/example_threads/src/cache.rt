@@ -1,0 +1,67 @@
+//! A cache that two threads ask before they make a value anew.
+ghost use Rattle.std.specs.Prelude.{◌≡◌, ◌<◌, IfSome};
+ghost use Rattle.plain_state.specs.Lists.{times};
+ghost use Rattle.example_threads.specs.Free.{IsFree};
+
+use crate::fault::Fault;
+use crate::numbers::{Counted, NumberKind, TURNS, payload_of};
+use crate::opening::open;
+use acquire_retire::{Domain, Seat};
+use control_word::drop_strong;
+use counted_handles::Strong;
+use deleter::Deleter;
+use example_cache::{CacheLaw, recall, remember};
+use out_of_memory::OutOfMemory;
+use protocol_pairs::Spares;
+use slot_store::{make, read, reap};
+use std::alloc::Global;
+use std::thread;
+use std::thread::Threads;
+
+type Cache = CacheLaw<NumberKind>;
+
+const CELL: u32 = 0;
+
+/// What is remembered, if its object lives; else a value that is made anew, and remembered.
+fn find_or_make(domain: &Domain<Cache>, seat: &mut Seat<Cache>, number: u64) -> Option<Strong>
+    requires free { IsFree domain.now seat.old }
+    requires cell { domain.now.protocol.cell ≡ 0 }
+    requires there { 0 < domain.now.shape.weak_cells }
+    ensures free { IsFree domain.now seat.new }
+    ensures owned { IfSome result (λ strong. 0 < times strong.slot seat.new.view.core.owned) }
+{
+    if let Ok(Some(strong)) = recall(domain, seat, CELL) {
+        return Some(strong);
+    }
+    let strong = make(domain, seat, &payload_of(number), Spares).ok()?;
+    let _remembered = remember(domain, seat, CELL, &strong);
+    Some(strong)
+}
+
+/// What one thread does.
+fn work(domain: &Domain<Cache>, mut seat: Seat<Cache>) -> Counted
+    requires free { IsFree domain.now seat }
+    requires cell { domain.now.protocol.cell ≡ 0 }
+    requires there { 0 < domain.now.shape.weak_cells }
+{
+    let deleter: Deleter<NumberKind, _> = Deleter::keep(|_payload: &[u64; 16]| 0);
+    let mut counted = Counted::new();
+    for number in 1..=TURNS {
+        if let Some(strong) = find_or_make(domain, &mut seat, number) {
+            counted.found(read(domain, &mut seat, strong.slot(), 0));
+            drop_strong(domain, &mut seat, strong);
+            counted.turn();
+        }
+        reap(domain, &mut seat, &deleter);
+    }
+    counted
+}
+
+/// Two threads ask the cache.
+pub fn run<R: Threads + Sync>(rt: &R, alloc: Global) -> Result<Counted, Fault> {
+    let (domain, seats) = open(alloc, Cache::new(CELL))?;
+    let counts = thread::map_vec(rt, seats, &|seat| work(&domain, seat)).map_err(
+        OutOfMemory::from,
+    )?;
+    Ok(Counted::of_all(&counts))
+}
