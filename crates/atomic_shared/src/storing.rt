@@ -47,6 +47,7 @@ pub fn store<P: Protocol, D: Deed<P>>(
         (D.allows deed domain.now.protocol) (strong_place place) (named new) seat.old seat.new }
     ensures below { IsBelow domain.now seat.new }
     ensures room { HasRoom seat.new.view.core }
+    ensures notes { seat.new.view.core.notes ≡ seat.old.view.core.notes }
     ensures objects { KnowsStill (without_given kind.Strong (named new) seat.old.view.core)
         seat.old seat.new }
     ensures rest { IsAtRest domain.now seat.new }
@@ -80,6 +81,7 @@ pub fn try_replace<P: Protocol, D: Deed<P>>(
         (strong_place place) (named new) expected lost.now seat.old seat.new) }
     ensures back { IfErr result (λ lost. lost.back ≡ new) }
     ensures room { HasRoom seat.new.view.core }
+    ensures notes { seat.new.view.core.notes ≡ seat.old.view.core.notes }
     ensures objects { KnowsStill (without_given kind.Strong (named new) seat.old.view.core)
         seat.old seat.new }
     ensures rest { IsAtRest domain.now seat.new }

@@ -43,6 +43,7 @@ pub fn try_load_weak<P: Protocol, D: Deed<P>>(
         (D.allows deed domain.now.protocol) (slot_in seen) (slot_in now) seat.old seat.new }
     ensures owned { IfOk result (λ found.
         IfSome found (λ weak. 0 < times weak.slot seat.new.view.core.weaks)) }
+    ensures notes { seat.new.view.core.notes ≡ seat.old.view.core.notes }
     ensures objects { KnowsStill seat.old.view.core seat.old seat.new }
     ensures room { HasRoom seat.old.view.core → HasRoom seat.new.view.core }
     ensures rest { IsAtRest domain.now seat.new }
@@ -76,6 +77,7 @@ pub fn load_weak<P: Protocol, D: Deed<P>, R: Wait>(
         seat.old seat.new) }
     ensures owned { IfOk result (λ found.
         IfSome found (λ weak. 0 < times weak.slot seat.new.view.core.weaks)) }
+    ensures notes { seat.new.view.core.notes ≡ seat.old.view.core.notes }
     ensures objects { KnowsStill seat.old.view.core seat.old seat.new }
     ensures room { HasRoom seat.old.view.core → HasRoom seat.new.view.core }
     ensures rest { IsAtRest domain.now seat.new }

@@ -1,5 +1,5 @@
 -- The steps that give up a reference, and those that follow where it was the last.
-use Rattle.std.proofs.Common.{subst, sym, ◌≡◌, ◌≢◌, ◌⊎◌, inl, inr, ⊎_elim, ℕ, ◌<◌, Bool, true, false, List, [], ◌∷◌, ◌++◌, refl, ◌∙◌, arith}
+use Rattle.std.proofs.Common.{ap, subst, sym, ◌≡◌, ◌≢◌, ◌⊎◌, inl, inr, ⊎_elim, ℕ, ◌<◌, Bool, true, false, List, [], ◌∷◌, ◌++◌, refl, ◌∙◌, arith}
 use Rattle.std.specs.Prelude.{◌==◌, if◌then◌else◌}
 use Rattle.std.proofs.lemmas.Bool.Decides.{nat_tests}
 use Rattle.plain_state.specs.declared.slot.SlotId.{SlotId}
@@ -184,3 +184,15 @@ pub drops_room : {P V : Type 0} {fits : List ℕ → Type 0} (d : DomainState P)
 drops_room d s old new drops room =
     subst HasRoom (sym drops.1.core) (room_left (ends drops.0) s old.view.core
     (old.view.core.trail ++ dropped_by s drops.0) room)
+
+-- and all notes stay
+notes_left : (ended : Bool) (s : SlotId) (v : CoreView)
+    → (with_ended ended s (without_strong s v)).notes ≡ v.notes
+notes_left true s v = refl
+notes_left false s v = refl
+
+pub drops_notes : {P V : Type 0} {fits : List ℕ → Type 0} (d : DomainState P) (s : SlotId)
+    (old new : SeatState V) → DropsStrong fits d s old new
+    → new.view.core.notes ≡ old.view.core.notes
+drops_notes d s old new drops =
+    ap (λ (v : CoreView). v.notes) drops.1.core ∙ notes_left (ends drops.0) s old.view.core

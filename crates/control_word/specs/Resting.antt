@@ -27,3 +27,7 @@ pub record IsAtRest {P V : Type 0} (d : DomainState P) (s : SeatState V) : Type 
 -- the seat has used all adds of its quota
 abbrev pub IsSpent : CoreView → Type 0
 IsSpent v = v.adds ≡ v.quota.adds
+
+-- the seat announces nothing, and is under no snapshot
+abbrev pub IsUnderNone : CoreView → Type 0
+IsUnderNone v = (j : ℕ) → note_of v j ≡ note.Idle

@@ -34,6 +34,7 @@ pub fn strong_count<P: Protocol, D: Deed<P>>(
         (D.allows deed domain.now.protocol) slot (D.ready deed domain.now.protocol) seat.old }
     ensures counted { CountsStrong P.Kind.fits domain.now (D.next deed domain.now.protocol)
         (D.allows deed domain.now.protocol) slot result seat.old seat.new }
+    ensures notes { seat.new.view.core.notes ≡ seat.old.view.core.notes }
     ensures objects { KnowsStill seat.old.view.core seat.old seat.new }
     ensures room { HasRoom seat.old.view.core → HasRoom seat.new.view.core }
     ensures rest { IsAtRest domain.now seat.new }
@@ -52,6 +53,7 @@ pub fn weak_count<P: Protocol>(domain: &Domain<P>, seat: &mut Seat<P>, slot: Slo
     requires holds { Holds seat.old.view.core slot }
     ensures counted { CountsWeak P.Kind.fits domain.now slot result seat.old seat.new }
     ensures client { seat.new.view.client ≡ seat.old.view.client }
+    ensures notes { seat.new.view.core.notes ≡ seat.old.view.core.notes }
     ensures objects { KnowsStill seat.old.view.core seat.old seat.new }
     ensures room { HasRoom seat.old.view.core → HasRoom seat.new.view.core }
     ensures rest { IsAtRest domain.now seat.new }

@@ -27,6 +27,7 @@ pub fn copy_strong<P: Protocol>(
         seat.old seat.new) }
     ensures owned { IfOk result (λ more. 0 < times more.slot seat.new.view.core.owned) }
     ensures client { seat.new.view.client ≡ seat.old.view.client }
+    ensures notes { seat.new.view.core.notes ≡ seat.old.view.core.notes }
     ensures objects { KnowsStill seat.old.view.core seat.old seat.new }
     ensures room { HasRoom seat.old.view.core → HasRoom seat.new.view.core }
     ensures rest { IsAtRest domain.now seat.new }
@@ -46,6 +47,7 @@ pub fn drop_strong<P: Protocol>(domain: &Domain<P>, seat: &mut Seat<P>, handle: 
     requires owned { 0 < times handle.slot seat.old.view.core.owned }
     ensures dropped { DropsStrong P.Kind.fits domain.now handle.slot seat.old seat.new }
     ensures client { seat.new.view.client ≡ seat.old.view.client }
+    ensures notes { seat.new.view.core.notes ≡ seat.old.view.core.notes }
     ensures objects { KnowsStill (without_strong handle.slot seat.old.view.core)
         seat.old seat.new }
     ensures room { HasRoom seat.old.view.core → HasRoom seat.new.view.core }

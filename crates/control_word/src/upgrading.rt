@@ -44,6 +44,7 @@ pub fn upgrade<P: Protocol, D: Deed<P>>(
     ensures ended { result ≡ Err refused.Ended
         → FindsEnded P.Kind.fits domain.now (D.next deed domain.now.protocol)
         (D.allows deed domain.now.protocol) weak.now.slot seat.old seat.new }
+    ensures notes { seat.new.view.core.notes ≡ seat.old.view.core.notes }
     ensures objects { KnowsStill seat.old.view.core seat.old seat.new }
     ensures room { HasRoom seat.old.view.core → HasRoom seat.new.view.core }
     ensures rest { IsAtRest domain.now seat.new }

@@ -26,6 +26,7 @@ pub fn weaken<P: Protocol>(
         × GainsWeak P.Kind.fits domain.now handle.now.slot seat.old seat.new) }
     ensures owned { IfOk result (λ weak. 0 < times weak.slot seat.new.view.core.weaks) }
     ensures client { seat.new.view.client ≡ seat.old.view.client }
+    ensures notes { seat.new.view.core.notes ≡ seat.old.view.core.notes }
     ensures objects { KnowsStill seat.old.view.core seat.old seat.new }
     ensures room { HasRoom seat.old.view.core → HasRoom seat.new.view.core }
     ensures rest { IsAtRest domain.now seat.new }
@@ -48,6 +49,7 @@ pub fn copy_weak<P: Protocol>(
         × GainsWeak P.Kind.fits domain.now weak.now.slot seat.old seat.new) }
     ensures owned { IfOk result (λ more. 0 < times more.slot seat.new.view.core.weaks) }
     ensures client { seat.new.view.client ≡ seat.old.view.client }
+    ensures notes { seat.new.view.core.notes ≡ seat.old.view.core.notes }
     ensures objects { KnowsStill seat.old.view.core seat.old seat.new }
     ensures room { HasRoom seat.old.view.core → HasRoom seat.new.view.core }
     ensures rest { IsAtRest domain.now seat.new }
@@ -69,6 +71,7 @@ fn gain_weak<P: Protocol>(
         × GainsWeak P.Kind.fits domain.now slot seat.old seat.new) }
     ensures owned { IfOk result (λ weak. 0 < times weak.slot seat.new.view.core.weaks) }
     ensures client { seat.new.view.client ≡ seat.old.view.client }
+    ensures notes { seat.new.view.core.notes ≡ seat.old.view.core.notes }
     ensures objects { KnowsStill seat.old.view.core seat.old seat.new }
     ensures room { HasRoom seat.old.view.core → HasRoom seat.new.view.core }
     ensures rest { IsAtRest domain.now seat.new }
@@ -87,6 +90,7 @@ pub fn drop_weak<P: Protocol>(domain: &Domain<P>, seat: &mut Seat<P>, weak: Weak
     requires owned { 0 < times weak.slot seat.old.view.core.weaks }
     ensures dropped { DropsWeak P.Kind.fits domain.now weak.slot seat.old seat.new }
     ensures client { seat.new.view.client ≡ seat.old.view.client }
+    ensures notes { seat.new.view.core.notes ≡ seat.old.view.core.notes }
     ensures objects { KnowsStill (without_weak weak.slot seat.old.view.core) seat.old seat.new }
     ensures room { HasRoom seat.old.view.core → HasRoom seat.new.view.core }
     ensures rest { IsAtRest domain.now seat.new }

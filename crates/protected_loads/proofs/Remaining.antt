@@ -1,5 +1,5 @@
 -- What a load leaves: the room for entries to retire, and a reference that can be given on.
-use Rattle.std.proofs.Common.{ℕ, List, refl, sym, subst, ◌++◌, ◌∷◌, []}
+use Rattle.std.proofs.Common.{ℕ, List, ap, refl, sym, subst, ◌∙◌, ◌++◌, ◌∷◌, []}
 use Rattle.std.specs.Prelude.{◌≡◌, IfSome, Option, Some, None}
 use Rattle.plain_state.specs.declared.act.EventPlace.{EventPlace}
 use Rattle.plain_state.specs.declared.act.EventPlace.TheVariants.{Cell, Field, WeakCell, WeakField}
@@ -35,6 +35,12 @@ given_on (Field x i) s v t = some_more s s refl v.owned (v.owned ++ s ∷ []) re
 given_on (WeakCell i) s v t = some_more s s refl v.weaks (v.weaks ++ s ∷ []) refl
 given_on (WeakField x) s v t = some_more s s refl v.weaks (v.weaks ++ s ∷ []) refl
 
+-- a reference more leaves the notes
+notes_beside : (k : Kind) (s : SlotId) (v : CoreView) → (with_reference k s v).notes ≡ v.notes
+notes_beside Strong s v = refl
+notes_beside Weak s v = refl
+notes_beside Disposal s v = refl
+
 module _ {P V : Type 0} {fits : List ℕ → Type 0} {d : DomainState P} (place : EventPlace)
     {next : OwnPart → OwnPart → V → PlainAct → ℕ → V}
     {allows : Plain → Plain → ℕ → V → V → Type 0} (old new : SeatState V) where
@@ -61,6 +67,13 @@ module _ {P V : Type 0} (fits : List ℕ → Type 0) (d : DomainState P) (place 
       subst HasRoom (sym refers.core)
       (room_beside (place_kind place) s old.view.core
       (old.view.core.trail ++ loaded_by place s) room)
+
+  pub loaded_notes : (found : Option SlotId) → Loads fits d place next allows found old new
+      → new.view.core.notes ≡ old.view.core.notes
+  loaded_notes None null = ap (λ (v : CoreView). v.notes) null.becomes.core
+  loaded_notes (Some s) refers =
+      ap (λ (v : CoreView). v.notes) refers.core
+      ∙ notes_beside (place_kind place) s old.view.core
 
   pub loaded_owned : (found : Option SlotId) → Loads fits d place next allows found old new
       → CanGive (place_kind place) found new.view.core

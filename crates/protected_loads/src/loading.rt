@@ -43,6 +43,7 @@ pub fn try_load<P: Protocol, D: Deed<P>>(
         → Misses P.Kind.fits domain.now 0 place (D.next deed domain.now.protocol)
         (D.allows deed domain.now.protocol) (slot_in seen) (slot_in now) seat.old seat.new }
     ensures owned { IfOk result (λ found. CanGive (place_kind place) found seat.new.view.core) }
+    ensures notes { seat.new.view.core.notes ≡ seat.old.view.core.notes }
     ensures objects { KnowsStill seat.old.view.core seat.old seat.new }
     ensures room { HasRoom seat.old.view.core → HasRoom seat.new.view.core }
     ensures rest { IsAtRest domain.now seat.new }
@@ -75,6 +76,7 @@ pub(crate) fn load_once<P: Protocol, D: Deed<P>>(
         (D.next deed domain.now.protocol) (D.allows deed domain.now.protocol) moved.seen moved.now
         seat.old seat.new) }
     ensures owned { IfOk result (λ found. CanGive (place_kind place) found seat.new.view.core) }
+    ensures notes { seat.new.view.core.notes ≡ seat.old.view.core.notes }
     ensures objects { KnowsStill seat.old.view.core seat.old seat.new }
     ensures room { HasRoom seat.old.view.core → HasRoom seat.new.view.core }
     ensures rest { IsAtRest domain.now seat.new }

@@ -36,6 +36,7 @@ pub fn load<P: Protocol, D: Deed<P>, R: Wait>(
         (D.next deed domain.now.protocol) (D.allows deed domain.now.protocol) found
         seat.old seat.new) }
     ensures owned { IfOk result (λ found. CanGive (place_kind place) found seat.new.view.core) }
+    ensures notes { seat.new.view.core.notes ≡ seat.old.view.core.notes }
     ensures objects { KnowsStill seat.old.view.core seat.old seat.new }
     ensures room { HasRoom seat.old.view.core → HasRoom seat.new.view.core }
     ensures rest { IsAtRest domain.now seat.new }

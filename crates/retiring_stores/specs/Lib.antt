@@ -1,3 +1,4 @@
 pub mod Scanning
+pub mod Leaving
 pub mod Exchanging
 pub mod Trials

@@ -31,6 +31,7 @@ pub fn exchange<P: Protocol, D: Deed<P>>(
         (D.allows deed domain.now.protocol) place new result seat.old seat.new }
     ensures below { IsBelow domain.now seat.new }
     ensures room { HasRoom seat.new.view.core }
+    ensures notes { seat.new.view.core.notes ≡ seat.old.view.core.notes }
     ensures objects { KnowsStill (without_given (place_kind place) new seat.old.view.core)
         seat.old seat.new }
     ensures rest { IsAtRest domain.now seat.new }
@@ -71,6 +72,7 @@ pub fn compare_exchange<P: Protocol, D: Deed<P>>(
         (D.next deed domain.now.protocol) (D.allows deed domain.now.protocol) place new expected
         found seat.old seat.new) }
     ensures room { HasRoom seat.new.view.core }
+    ensures notes { seat.new.view.core.notes ≡ seat.old.view.core.notes }
     ensures objects { KnowsStill (without_given (place_kind place) new seat.old.view.core)
         seat.old seat.new }
     ensures rest { IsAtRest domain.now seat.new }

@@ -19,9 +19,11 @@
 #![tactic(auto)]
 
 mod exchanging;
+mod leaving;
 mod scanning;
 #[cfg(test)]
 mod tests;
 
 pub use exchanging::{compare_exchange, exchange};
+pub use leaving::leave;
 pub use scanning::{collect, scan_where_due};

@@ -15,6 +15,7 @@ pub fn scan_where_due<P: Protocol>(domain: &Domain<P>, seat: &mut Seat<P>)
     ensures scans { ScansWhereDue P.Kind.fits domain.now seat.old seat.new }
     ensures below { IsBelow domain.now seat.new }
     ensures client { seat.new.view.client ≡ seat.old.view.client }
+    ensures notes { seat.new.view.core.notes ≡ seat.old.view.core.notes }
     ensures objects { KnowsStill seat.old.view.core seat.old seat.new }
     ensures rest { IsAtRest domain.now seat.new }
 {

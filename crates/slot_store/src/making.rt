@@ -52,6 +52,7 @@ pub fn make<P: Protocol, D: Deed<P>>(
         strong.slot seat.old seat.new) }
     ensures owned { IfOk result (λ strong. 0 < times strong.slot seat.new.view.core.owned) }
     ensures client { OnErr result (seat.new.view.client ≡ seat.old.view.client) }
+    ensures notes { seat.new.view.core.notes ≡ seat.old.view.core.notes }
     ensures objects { KnowsStill seat.old.view.core seat.old seat.new }
     ensures room { HasRoom seat.old.view.core → HasRoom seat.new.view.core }
     ensures rest { IsAtRest domain.now seat.new }

@@ -19,6 +19,7 @@ pub fn read<P: Protocol>(domain: &Domain<P>, seat: &mut Seat<P>, slot: SlotId, w
     ensures read { result ≡ slice_index (object_in seat.old.view slot).payload word }
     ensures seen { SeesWord P.Kind.fits domain.now slot word result seat.old seat.new }
     ensures client { seat.new.view.client ≡ seat.old.view.client }
+    ensures notes { seat.new.view.core.notes ≡ seat.old.view.core.notes }
     ensures objects { KnowsStill seat.old.view.core seat.old seat.new }
     ensures room { HasRoom seat.old.view.core → HasRoom seat.new.view.core }
     ensures rest { IsAtRest domain.now seat.new }

@@ -27,6 +27,7 @@ pub fn reap<P: Protocol, F: Fn(&[u64; 16]) -> u64>(
     requires weighs { Weighs P.Kind.fits P.Kind.weight F.Fn deleter.now }
     ensures reaps { Answers P.Kind.fits domain.now P.Kind.weight result seat.old seat.new }
     ensures client { seat.new.view.client ≡ seat.old.view.client }
+    ensures notes { seat.new.view.core.notes ≡ seat.old.view.core.notes }
     ensures objects { KnowsBoth seat.old seat.new }
     ensures room { HasRoom seat.new.view.core }
     ensures rest { IsAtRest domain.now seat.new }

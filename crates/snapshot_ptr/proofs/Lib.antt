@@ -2,3 +2,4 @@ pub mod Under
 pub mod Staying
 pub mod Taken
 pub mod Released
+pub mod Notes

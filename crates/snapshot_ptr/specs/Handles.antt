@@ -1,5 +1,5 @@
 -- What callers see of a snapshot, and when a seat is under it.
-use Rattle.std.specs.Prelude.{ℕ, ◌≡◌, ◌<◌, List, Option, Some, None, slice_index_or}
+use Rattle.std.specs.Prelude.{ℕ, ◌≡◌, ◌<◌, List, Option, Some, None, slice_index_or, slice_set}
 use Rattle.plain_state.specs.declared.slot.Kind.TheVariants.{Strong}
 use Rattle.plain_state.specs.declared.slot.SlotId.{SlotId}
 use Rattle.plain_state.specs.Lists.{times}
@@ -30,3 +30,15 @@ StaysUnder v w = (snap : Snap) → IsUnder snap v → IsUnder snap w
 abbrev pub slot_under : Option Snap → Option SlotId
 slot_under None = None
 slot_under (Some snap) = Some snap.slot
+
+-- the notes of a seat that has come under one snapshot more, by what it found; and once one has ended
+abbrev pub noted : Option ℕ → Note → List Note → List Note
+noted None n ns = ns
+noted (Some j) n ns = slice_set ns j n
+
+abbrev pub notes_with : Option Snap → List Note → List Note
+notes_with None ns = ns
+notes_with (Some snap) ns = noted snap.word (note.Valid Strong snap.slot) ns
+
+abbrev pub notes_without : Snap → List Note → List Note
+notes_without snap ns = noted snap.word note.Idle ns

@@ -7,7 +7,7 @@ ghost use Rattle.control_word.specs.Calls.{GainsStrong};
 ghost use Rattle.control_word.specs.Moves.{KnowsStill};
 ghost use Rattle.control_word.specs.Resting.{IsAtRest, IsSpent};
 ghost use Rattle.snapshot_ptr.specs.Ending.{Ends, KeepsOthers, without_snapshot};
-ghost use Rattle.snapshot_ptr.specs.Handles.{IsUnder, StaysUnder};
+ghost use Rattle.snapshot_ptr.specs.Handles.{IsUnder, StaysUnder, notes_without};
 
 use crate::handle::Snapshot;
 use acquire_retire::{Domain, Seat};
@@ -32,6 +32,7 @@ pub fn keep<P: Protocol>(
     ensures owned { IfOk result (λ strong. 0 < times strong.slot seat.new.view.core.owned) }
     ensures under { StaysUnder seat.old.view.core seat.new.view.core }
     ensures client { seat.new.view.client ≡ seat.old.view.client }
+    ensures notes { seat.new.view.core.notes ≡ seat.old.view.core.notes }
     ensures objects { KnowsStill seat.old.view.core seat.old seat.new }
     ensures room { HasRoom seat.old.view.core → HasRoom seat.new.view.core }
     ensures rest { IsAtRest domain.now seat.new }
@@ -52,6 +53,8 @@ pub fn end<P: Protocol>(domain: &Domain<P>, seat: &mut Seat<P>, snapshot: Snapsh
     ensures ended { Ends P.Kind.fits domain.now snapshot seat.old seat.new }
     ensures others { KeepsOthers snapshot seat.old.view.core seat.new.view.core }
     ensures client { seat.new.view.client ≡ seat.old.view.client }
+    ensures notes { seat.new.view.core.notes
+        ≡ notes_without snapshot seat.old.view.core.notes }
     ensures objects { KnowsStill (without_snapshot snapshot seat.old.view.core)
         seat.old seat.new }
     ensures room { HasRoom seat.old.view.core → HasRoom seat.new.view.core }

@@ -11,7 +11,7 @@ ghost use Rattle.protected_loads.specs.Loads.{Misses};
 ghost use Rattle.protected_loads.specs.Retries.{AtLast};
 ghost use Rattle.atomic_shared.specs.Loading.{CanLoad};
 ghost use Rattle.atomic_shared.specs.Places.{strong_place};
-ghost use Rattle.snapshot_ptr.specs.Handles.{IsUnder, StaysUnder, slot_under};
+ghost use Rattle.snapshot_ptr.specs.Handles.{IsUnder, StaysUnder, notes_with, slot_under};
 ghost use Rattle.snapshot_ptr.specs.Taking.{CanTakeNone, IsReadyToRetake, IsReadyToTake, Takes, word_taken};
 
 use crate::handle::{Snapshot, held_by};
@@ -53,6 +53,9 @@ pub fn try_snapshot<P: Protocol, D: Deed<P>>(
         IfSome found (λ snapshot. IsUnder snapshot seat.new.view.core)) }
     ensures holds { IfOk result (λ found.
         IfSome found (λ snapshot. Holds seat.new.view.core snapshot.slot)) }
+    ensures notes { IfOk result (λ found. seat.new.view.core.notes
+        ≡ notes_with found seat.old.view.core.notes) }
+    ensures still { OnErr result (seat.new.view.core.notes ≡ seat.old.view.core.notes) }
     ensures others { StaysUnder seat.old.view.core seat.new.view.core }
     ensures objects { KnowsStill seat.old.view.core seat.old seat.new }
     ensures room { HasRoom seat.old.view.core → HasRoom seat.new.view.core }
@@ -98,6 +101,8 @@ pub fn snapshot<P: Protocol, D: Deed<P>, R: Wait>(
         IfSome found (λ snapshot. IsUnder snapshot seat.new.view.core)) }
     ensures holds { IfOk result (λ found.
         IfSome found (λ snapshot. Holds seat.new.view.core snapshot.slot)) }
+    ensures notes { IfOk result (λ found. seat.new.view.core.notes
+        ≡ notes_with found seat.old.view.core.notes) }
     ensures others { StaysUnder seat.old.view.core seat.new.view.core }
     ensures objects { KnowsStill seat.old.view.core seat.old seat.new }
     ensures room { HasRoom seat.old.view.core → HasRoom seat.new.view.core }

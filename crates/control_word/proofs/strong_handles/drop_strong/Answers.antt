@@ -1,4 +1,4 @@
-use Rattle.control_word.proofs.Dropping.{drop_finished, drop_left, drop_taken, drops_room}
+use Rattle.control_word.proofs.Dropping.{drop_finished, drop_left, drop_taken, drops_notes, drops_room}
 use Rattle.control_word.proofs.strong_handles.drop_strong.Goals as goal
 
 pub returns-in-Help : goal.returns-in-Help
@@ -10,6 +10,7 @@ returns-in-Help g c =
     record {
       dropped = r.0;
       client = r.1;
+      notes = drops_notes c.args.domain.now c.args.handle.slot c.args.seat.now c.take.new.seat r.0;
       objects = r.2;
       room = drops_room c.args.domain.now c.args.handle.slot c.args.seat.now c.take.new.seat r.0;
       rest = r.3;
@@ -24,6 +25,7 @@ returns-in_default-finish g c =
     record {
       dropped = r.0;
       client = r.1;
+      notes = drops_notes c.args.domain.now c.args.handle.slot c.args.seat.now c.finish.new.seat r.0;
       objects = r.2;
       room = drops_room c.args.domain.now c.args.handle.slot c.args.seat.now c.finish.new.seat r.0;
       rest = r.3;
@@ -37,6 +39,7 @@ returns-in_default g c =
     record {
       dropped = r.0;
       client = r.1;
+      notes = drops_notes c.args.domain.now c.args.handle.slot c.args.seat.now c.drop.new.seat r.0;
       objects = r.2;
       room = drops_room c.args.domain.now c.args.handle.slot c.args.seat.now c.drop.new.seat r.0;
       rest = r.3;

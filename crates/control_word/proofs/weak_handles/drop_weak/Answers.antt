@@ -1,4 +1,5 @@
-use Rattle.std.proofs.Common.{subst, sym}
+use Rattle.std.proofs.Common.{ap, subst, sym}
+use Rattle.core_events.specs.declared.view.CoreView.{CoreView}
 use Rattle.core_events.specs.Steps.{HasRoom}
 use Rattle.control_word.proofs.WeaklyDropping.{drop_freed, drop_left}
 use Rattle.control_word.proofs.weak_handles.drop_weak.Goals as goal
@@ -11,6 +12,7 @@ returns-in-Last g c =
     record {
       dropped = r.0;
       client = r.1;
+      notes = ap (λ (v : CoreView). v.notes) r.0.1.core;
       objects = r.2;
       room = subst HasRoom (sym r.0.1.core);
       rest = r.3;
@@ -24,6 +26,7 @@ returns-in_default g c =
     record {
       dropped = r.0;
       client = r.1;
+      notes = ap (λ (v : CoreView). v.notes) r.0.1.core;
       objects = r.2;
       room = subst HasRoom (sym r.0.1.core);
       rest = r.3;

@@ -4,7 +4,7 @@ use Rattle.plain_state.specs.declared.slot.Kind.{Kind}
 use Rattle.plain_state.specs.Lists.{entry_times}
 use Rattle.core_events.specs.Views.{snapshots}
 use Rattle.protected_loads.proofs.Referring.{loaded, may_release, snapshot_there}
-use Rattle.protected_loads.proofs.Remaining.{loaded_owned, loaded_room}
+use Rattle.protected_loads.proofs.Remaining.{loaded_notes, loaded_owned, loaded_room}
 use Rattle.protected_loads.proofs.loading.load_once.Goals as goal
 
 pub count-requires-clause-protected : goal.count-requires-clause-protected
@@ -53,6 +53,13 @@ returns-in-Some-clause-owned g c =
 pub returns-in-Some-clause-room : goal.returns-in-Some-clause-room
 returns-in-Some-clause-room g c =
     loaded_room g.P.Kind.PayloadKind.fits c.args.domain.now c.args.place
+    (g.D.Deed.next c.args.deed c.args.domain.now.protocol)
+    (g.D.Deed.allows c.args.deed c.args.domain.now.protocol) c.args.seat.now c.release.new.seat
+    (Some c.in-Some.slot) (returns-in-Some-clause-loaded g c)
+
+pub returns-in-Some-clause-notes : goal.returns-in-Some-clause-notes
+returns-in-Some-clause-notes g c =
+    loaded_notes g.P.Kind.PayloadKind.fits c.args.domain.now c.args.place
     (g.D.Deed.next c.args.deed c.args.domain.now.protocol)
     (g.D.Deed.allows c.args.deed c.args.domain.now.protocol) c.args.seat.now c.release.new.seat
     (Some c.in-Some.slot) (returns-in-Some-clause-loaded g c)

@@ -1,0 +1,38 @@
+-- A snapshot that was taken and ended leaves a seat under none, if it was under none.
+use Rattle.std.proofs.Common.{◌≡◌, ◌≢◌, ⊎_elim, ℕ, List, Option, Some, None, ap, sym, ◌∙◌, ◌<◌, arith, length}
+use Rattle.std.specs.Prelude.{slice_index_or, slice_set}
+use Rattle.std.proofs.lemmas.Bool.{cases_eq, cases_lt}
+use Rattle.std.proofs.lemmas.List.{get_or-set_same, get_or-set_other, get_or_past, length-set, set-set}
+use Rattle.core_events.specs.declared.view.CoreView.{CoreView}
+use Rattle.core_events.specs.declared.view.Note.{Note}
+use Rattle.core_events.specs.declared.view.Note.TheVariants as note
+use Rattle.core_events.specs.Views.{note_of}
+use Rattle.control_word.specs.Resting.{IsUnderNone}
+use Rattle.snapshot_ptr.specs.Handles.{Snap, noted, notes_with, notes_without}
+
+-- a list of idle notes in which one is idle anew
+idle_still : (ns : List Note) (j : ℕ) → ((i : ℕ) → slice_index_or ns i note.Idle ≡ note.Idle)
+    → (i : ℕ) → slice_index_or (slice_set ns j note.Idle) i note.Idle ≡ note.Idle
+idle_still ns j idle i =
+    ⊎_elim
+    (λ (same : i ≡ j). ⊎_elim
+    (λ (low : i < length ns). ap (λ k. slice_index_or (slice_set ns k note.Idle) i note.Idle) (sym same)
+    ∙ get_or-set_same ns i note.Idle note.Idle low)
+    (λ past. get_or_past (slice_set ns j note.Idle) i note.Idle
+    (let l = length-set ns j note.Idle in omega arith)) (cases_lt i (length ns)))
+    (λ (apart : i ≢ j). get_or-set_other ns j i note.Idle note.Idle apart ∙ idle i)
+    (cases_eq i j)
+
+noted_back : (word : Option ℕ) (n : Note) (ns : List Note)
+    → ((i : ℕ) → slice_index_or ns i note.Idle ≡ note.Idle)
+    → (i : ℕ) → slice_index_or (noted word note.Idle (noted word n ns)) i note.Idle ≡ note.Idle
+noted_back None n ns idle i = idle i
+noted_back (Some j) n ns idle i =
+    ap (λ ms. slice_index_or ms i note.Idle) (set-set ns j n note.Idle) ∙ idle_still ns j idle i
+
+pub under_none_again : (snap : Snap) (v w u : CoreView) → IsUnderNone v
+    → w.notes ≡ notes_with (Some snap) v.notes → u.notes ≡ notes_without snap w.notes
+    → IsUnderNone u
+under_none_again snap v w u idle took gave i =
+    ap (λ ns. slice_index_or ns i note.Idle) (gave ∙ ap (notes_without snap) took)
+    ∙ noted_back snap.word _ v.notes idle i
