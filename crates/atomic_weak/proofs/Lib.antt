@@ -1,2 +1,11 @@
 pub mod Named
 pub mod Made
+pub mod Questioning
+pub mod Answering
+pub mod Answered
+pub mod Released
+pub mod Means
+pub mod Leaving
+pub mod AnsweredByWord
+pub mod AnsweredByAdd
+pub mod Settled

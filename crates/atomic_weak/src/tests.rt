@@ -6,9 +6,12 @@ ghost use Rattle.control_word.specs.Resting.{IsAtRest};
 ghost use Rattle.retiring_stores.specs.Trials.{HasMade, weightless};
 ghost use Rattle.atomic_weak.specs.Trials.{IsFresh};
 
-use crate::{load_weak, store_weak, try_load_weak, try_replace_weak};
+use crate::{
+    WeakSnap, end_weak, load_weak, store_weak, try_load_weak, try_replace_weak, try_weak_snapshot,
+    weak_counted,
+};
 use acquire_retire::{Domain, OpenError, Outcome, Quota, Seat, Shape, SlotId, open_domain};
-use control_word::weaken;
+use control_word::{drop_strong, weaken};
 use counted_handles::{LoadError, Spent, Strong, WeakPlace};
 use plain_protocol::{AnyStep, NoLaw};
 use plain_state::PayloadKind;
@@ -117,5 +120,26 @@ fn weak_references_are_loaded_until_the_adds_are_spent(rt: HostRuntime) -> Resul
     let Err(Spent) = load_weak(&rt, &domain, &mut seat, CELL, AnyStep) else {
         panic!(rt; "no add is left");
     };
+    Ok(())
+}
+
+#[test]
+fn a_weak_snapshot_outlives_the_count(rt: HostRuntime) -> Result<(), Fail> {
+    let (domain, mut seat) = open_alone(&rt, 3)?;
+    let strong = make(&domain, &mut seat, SLOT).expect(&rt, "a free slot");
+    let weak = weaken(&domain, &mut seat, &strong).expect(&rt, "an add is left");
+    store_weak(&domain, &mut seat, CELL, Some(weak), AnyStep);
+    let Ok(WeakSnap::Held(seen)) = try_weak_snapshot(&domain, &mut seat, CELL, AnyStep) else {
+        panic!(rt; "it lives");
+    };
+    assert_eq!(rt; (seen.slot(), weak_counted(&seen)), (SLOT, false));
+    assert_eq!(rt; domain.free_note(&seat), Some(2));
+    drop_strong(&domain, &mut seat, strong);
+    let Ok(WeakSnap::Zero) = try_weak_snapshot(&domain, &mut seat, CELL, AnyStep) else {
+        panic!(rt; "it has ended");
+    };
+    assert_eq!(rt; domain.free_note(&seat), Some(2));
+    end_weak(&domain, &mut seat, seen);
+    assert_eq!(rt; domain.free_note(&seat), Some(1));
     Ok(())
 }
