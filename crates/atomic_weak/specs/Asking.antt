@@ -27,12 +27,12 @@ use Rattle.acquire_retire.specs.Seats.{SeatState}
 use Rattle.control_word.specs.Calls.{with_add, with_strong}
 use Rattle.control_word.specs.Moves.{Becomes, last_core}
 use Rattle.protected_loads.specs.Loads.{FindsNull, Protects, with_snapshot, protected_by}
-use Rattle.atomic_weak.specs.WeakSnapshots.{IsUnder, asked_by, ended, living}
+use Rattle.atomic_weak.specs.WeakSnapshots.{IsUnder, asked_by, living, none_left}
 use Rattle.atomic_weak.specs.declared.snapshots.WeakSnap.{WeakSnap as WeakAnswer}
 use Rattle.atomic_weak.specs.declared.snapshots.WeakSnap.TheVariants as answer
 
 -- what a seat with v has, but for its trail, once it is under a weak snapshot of s, and once it knows
--- that the object of s has ended: an add that finds so is used all the same
+-- that no strong reference is left: an add that finds so is used all the same
 abbrev pub with_guarded : Option ℕ → SlotId → CoreView → CoreView
 with_guarded None s v = with_strong s v
 with_guarded (Some j) s v = with_note j (note.Valid Disposal s) v
@@ -121,18 +121,18 @@ module _ {P V : Type 0} (fits : List ℕ → Type 0) (d : DomainState P) (place 
           object_in new.view s
           ≡ object_of (slot_at (shows d.shape (last_core asked.prepares.protects.checks)) s)
 
-    -- it found a slot whose object had ended: at that step no strong reference was left
-    pub record FindsEnded (word : Option ℕ) (old new : SeatState V) : Type 0 where
+    -- it found a slot to which, at the step that asked, no strong reference was left
+    pub record FindsZero (word : Option ℕ) (old new : SeatState V) : Type 0 where
       pub slot : SlotId
       pub asked :
-          Asks word slot (ended word)
+          Asks word slot (none_left word)
           (with_none word (with_prepared word slot (with_snapshot 0 place slot old.view.core)))
           (with_none word old.view.core) (closed_by word) old new
       pub none : strong_refs (shows d.shape (last_core asked.asks)) slot ≡ 0
 
-    -- what it answers is what it found: null at the look, with the deed, or an object that had ended,
-    -- or one that lived
+    -- what it answers is what it found: null at the look, with the deed, or a slot with no strong
+    -- reference, or an object that lived
     abbrev pub Finds : Option ℕ → WeakAnswer → SeatState V → SeatState V → Type 0
     Finds word answer.Null old new = FindsNull fits d place next allows old new
-    Finds word answer.Zero old new = FindsEnded word old new
+    Finds word answer.Zero old new = FindsZero word old new
     Finds word (answer.Held snap) old new = (snap.word ≡ word) × Guards word snap.slot old new

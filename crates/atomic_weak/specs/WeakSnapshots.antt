@@ -37,8 +37,8 @@ IsUnder snap v = IsGuardedBy snap.word snap.slot v
 abbrev pub CanTakeNone : CoreView → Type 0
 CanTakeNone v = (least_free v ≡ None) × IsSpent v
 
--- the act that asks whether the object of s lives: by a word it announces, a read of the strong word,
--- else an add; and what that answers where it does, and where it doesn't
+-- The act that asks whether the object of s lives: a read of the strong word, by a word that announces
+-- s, else an add. What that answers where the object lives, and where no strong reference is left
 abbrev pub asked_by : Option ℕ → SlotId → Act
 asked_by None s = act.Add s
 asked_by (Some j) s = act.Alive j
@@ -47,6 +47,6 @@ abbrev pub living : Option ℕ → Outcome
 living None = outcome.Up
 living (Some j) = outcome.Alive
 
-abbrev pub ended : Option ℕ → Outcome
-ended None = outcome.Dead
-ended (Some j) = outcome.Zeroed
+abbrev pub none_left : Option ℕ → Outcome
+none_left None = outcome.Dead
+none_left (Some j) = outcome.Zeroed

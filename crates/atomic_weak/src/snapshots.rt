@@ -27,7 +27,7 @@ use protected_loads::{acquire, in_words};
 pub enum WeakSnap {
     /// The place was null.
     Null,
-    /// The place held a slot whose object has ended: no strong reference was left.
+    /// The place held a slot to which no strong reference was left.
     Zero,
     /// The seat is under this snapshot.
     Held(WeakSnapshot),
@@ -102,8 +102,8 @@ fn ask<P: Protocol, D: Deed<P>>(
     requires may { CanAsk domain.now.shape word slot seat.old.view.core }
     requires deed { IsReadyFor P.Kind.fits domain.now word slot
         (D.ready deed domain.now.protocol) seat.old }
-    ensures { Answers P.Kind.fits domain.now (D.next deed domain.now.protocol)
-        (D.allows deed domain.now.protocol) word slot result seat.old seat.new }
+    ensures { Answers P.Kind.fits domain.now word slot (D.next deed domain.now.protocol)
+        (D.allows deed domain.now.protocol) result seat.old seat.new }
 {
     match word {
         Some(word) => guard(domain, seat, word, slot, deed),
@@ -123,15 +123,15 @@ fn guard<P: Protocol, D: Deed<P>>(
     requires may { CanAsk domain.now.shape (Some word) slot seat.old.view.core }
     requires deed { IsReadyFor P.Kind.fits domain.now (Some word) slot
         (D.ready deed domain.now.protocol) seat.old }
-    ensures { Answers P.Kind.fits domain.now (D.next deed domain.now.protocol)
-        (D.allows deed domain.now.protocol) (Some word) slot result seat.old seat.new }
+    ensures { Answers P.Kind.fits domain.now (Some word) slot (D.next deed domain.now.protocol)
+        (D.allows deed domain.now.protocol) result seat.old seat.new }
 {
     domain.announce(seat, word, Kind::Disposal, slot);
-    let alive = domain.alive(seat, word, deed);
-    domain.release(seat, 0);
-    if let Outcome::Alive = alive {
+    if let Outcome::Alive = domain.alive(seat, word, deed) {
+        domain.release(seat, 0);
         return WeakSnap::Held(WeakSnapshot::by(slot, Some(word)));
     }
+    domain.release(seat, 0);
     domain.release(seat, word);
     WeakSnap::Zero
 }
@@ -147,13 +147,13 @@ fn count<P: Protocol, D: Deed<P>>(
     requires may { CanAsk domain.now.shape None slot seat.old.view.core }
     requires deed { IsReadyFor P.Kind.fits domain.now None slot
         (D.ready deed domain.now.protocol) seat.old }
-    ensures { Answers P.Kind.fits domain.now (D.next deed domain.now.protocol)
-        (D.allows deed domain.now.protocol) None slot result seat.old seat.new }
+    ensures { Answers P.Kind.fits domain.now None slot (D.next deed domain.now.protocol)
+        (D.allows deed domain.now.protocol) result seat.old seat.new }
 {
-    let added = domain.add(seat, slot, deed);
-    domain.release(seat, 0);
-    if let Outcome::Up = added {
+    if let Outcome::Up = domain.add(seat, slot, deed) {
+        domain.release(seat, 0);
         return WeakSnap::Held(WeakSnapshot::by(slot, None));
     }
+    domain.release(seat, 0);
     WeakSnap::Zero
 }

@@ -1,25 +1,26 @@
-use Rattle.std.proofs.Common.{refl}
-use Rattle.atomic_weak.proofs.Questioning.{counted, ended_by_add, may_add, may_take_added}
+use Rattle.atomic_weak.proofs.ByAdd.{held, may_add, none}
+use Rattle.atomic_weak.proofs.Questions.{prepared_none}
 use Rattle.atomic_weak.proofs.snapshots.count.Goals as goal
 
-pub add-added-requires-clause-may : goal.add-added-requires-clause-may
-add-added-requires-clause-may g c =
+pub add-requires-clause-may : goal.add-requires-clause-may
+add-requires-clause-may g c =
     may_add c.args.domain.now c.args.slot c.args.seat.now c.requires.may
 
-pub add-added-requires-clause-deed : goal.add-added-requires-clause-deed
-add-added-requires-clause-deed g c = c.requires.deed c.args.seat.now refl
+pub add-requires-clause-deed : goal.add-requires-clause-deed
+add-requires-clause-deed g c =
+    c.requires.deed c.args.seat.now
+    (prepared_none c.args.domain.now c.args.slot c.args.seat.now)
 
 pub returns-in-Up : goal.returns-in-Up
 returns-in-Up g c = (
   c.by.ensures.slot,
   c.by.ensures.word,
-  counted c.args.domain.now c.args.slot c.args.seat.now c.requires.may c.add-added.new.seat
-      c.add-added.result c.add-added.ensures c.release.new.seat c.release.result
-      c.release.ensures c.in-Up.is,
+  held c.args.domain.now c.args.slot c.args.seat.now c.requires.may c.add.new.seat c.add.result
+      c.add.ensures c.in-Up.is c.release.new.seat c.release.result c.release.ensures,
 )
 
 pub returns : goal.returns
 returns g c =
-    ended_by_add c.args.domain.now c.args.slot c.args.seat.now c.requires.may
-    c.add-added.new.seat c.add-added.result c.add-added.ensures c.release.new.seat
-    c.release.result c.release.ensures c.in_default.not-Up
+    none c.args.domain.now c.args.slot c.args.seat.now c.requires.may c.add.new.seat c.add.result
+    c.add.ensures c.in_default.not-Up c.release-2.new.seat c.release-2.result
+    c.release-2.ensures

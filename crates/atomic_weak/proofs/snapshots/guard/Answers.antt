@@ -1,15 +1,15 @@
-use Rattle.atomic_weak.proofs.Questioning.{announced, ended_by_word, held, may_ask}
+use Rattle.atomic_weak.proofs.ByWord.{held, may_ask, none, prepared}
 use Rattle.atomic_weak.proofs.snapshots.guard.Goals as goal
 
-pub alive-alive-requires-clause-may : goal.alive-alive-requires-clause-may
-alive-alive-requires-clause-may g c =
+pub alive-requires-clause-may : goal.alive-requires-clause-may
+alive-requires-clause-may g c =
     may_ask c.args.domain.now c.args.word c.args.slot c.args.seat.now c.announce.new.seat
     c.requires.may c.announce.result c.announce.ensures
 
-pub alive-alive-requires-clause-deed : goal.alive-alive-requires-clause-deed
-alive-alive-requires-clause-deed g c =
+pub alive-requires-clause-deed : goal.alive-requires-clause-deed
+alive-requires-clause-deed g c =
     c.requires.deed c.announce.new.seat
-    (announced c.args.domain.now c.args.word c.args.slot c.args.seat.now c.announce.new.seat
+    (prepared c.args.domain.now c.args.word c.args.slot c.args.seat.now c.announce.new.seat
     c.requires.may c.announce.result c.announce.ensures)
 
 pub returns-in-Alive : goal.returns-in-Alive
@@ -17,15 +17,13 @@ returns-in-Alive g c = (
   c.by.ensures.slot,
   c.by.ensures.word,
   held c.args.domain.now c.args.word c.args.slot c.args.seat.now c.announce.new.seat
-      c.requires.may c.announce.result c.announce.ensures c.alive-alive.new.seat
-      c.alive-alive.result c.alive-alive.ensures c.release.new.seat c.release.result
-      c.release.ensures c.in-Alive.is,
+      c.requires.may c.announce.result c.announce.ensures c.alive.new.seat c.alive.result
+      c.alive.ensures c.in-Alive.is c.release.new.seat c.release.result c.release.ensures,
 )
 
 pub returns : goal.returns
 returns g c =
-    ended_by_word c.args.domain.now c.args.word c.args.slot c.args.seat.now
-    c.announce.new.seat c.requires.may c.announce.result c.announce.ensures
-    c.alive-alive.new.seat c.alive-alive.result c.alive-alive.ensures c.release.new.seat
-    c.release.result c.release.ensures c.in_default.not-Alive c.release-2.new.seat
-    c.release-2.result c.release-2.ensures
+    none c.args.domain.now c.args.word c.args.slot c.args.seat.now c.announce.new.seat
+    c.requires.may c.announce.result c.announce.ensures c.alive.new.seat c.alive.result
+    c.alive.ensures c.in_default.not-Alive c.release-2.new.seat c.release-2.result
+    c.release-2.ensures c.release-3.new.seat c.release-3.result c.release-3.ensures

@@ -1,4 +1,4 @@
--- By which a seat can ask, and what it is under afterwards.
+-- By which a seat can ask, and what it is under once it has.
 use Rattle.std.proofs.Common.{◌≡◌, ℕ, ◌<◌, Bool, true, false, List, length, refl, ap, sym, ◌∙◌, subst, arith}
 use Rattle.std.specs.Prelude.{Option, Some, None, if◌then◌else◌}
 use Rattle.plain_state.specs.declared.act.EventPlace.{EventPlace}
@@ -10,9 +10,8 @@ use Rattle.plain_protocol.specs.Owns.{OwnPart}
 use Rattle.core_events.specs.declared.view.CoreView.{CoreView}
 use Rattle.core_events.specs.declared.view.Note.{Note}
 use Rattle.core_events.specs.declared.view.Note.TheVariants as note
-use Rattle.core_events.specs.Steps.{HasAdd, HasRoom}
+use Rattle.core_events.specs.Steps.{HasAdd}
 use Rattle.core_events.specs.Views.{Holds, note_of}
-use Rattle.core_functions.proofs.Snapshots.{snapshot_at}
 use Rattle.acquire_retire.specs.Domains.{DomainState}
 use Rattle.acquire_retire.specs.Notes.{is_free, least_free}
 use Rattle.acquire_retire.specs.Seats.{SeatState}
@@ -24,7 +23,7 @@ use Rattle.atomic_weak.specs.Questions.{CanUse}
 use Rattle.atomic_weak.specs.WeakSnapshots.{IsGuardedBy, WeakSnap}
 use Rattle.atomic_weak.specs.declared.snapshots.WeakSnap.{WeakSnap as WeakAnswer}
 use Rattle.atomic_weak.specs.declared.snapshots.WeakSnap.TheVariants as answer
-use Rattle.atomic_weak.proofs.Questioning.{noted_there}
+use Rattle.atomic_weak.proofs.Noted.{holds_disposal}
 
 free_idle : (n : Note) → is_free n ≡ true → n ≡ note.Idle
 free_idle note.Idle is = refl
@@ -55,6 +54,10 @@ pub least_used : (v : CoreView) (word : Option ℕ) → word ≡ least_free v
 least_used v None is add = add refl
 least_used v (Some j) is add = least_is_free v j (sym is)
 
+holds_guarded : (word : Option ℕ) (s : SlotId) (v : CoreView) → IsGuardedBy word s v → Holds v s
+holds_guarded None s v owned = omega arith
+holds_guarded (Some j) s v noted = holds_disposal v j s noted.2
+
 module _ {P V : Type 0} (fits : List ℕ → Type 0) (d : DomainState P) (place : EventPlace)
     (next : OwnPart → OwnPart → V → PlainAct → ℕ → V)
     (allows : Plain → Plain → ℕ → V → V → Type 0) (old new : SeatState V) where
@@ -75,12 +78,6 @@ module _ {P V : Type 0} (fits : List ℕ → Type 0) (d : DomainState P) (place 
           let four = four_notes g.asked.prepares.protects.announces.becomes.walks.1.told in
           let small = free.1 in omega arith
 
-  holds_guarded : (word : Option ℕ) (s : SlotId) (v : CoreView) → IsGuardedBy word s v → Holds v s
-  holds_guarded None s v owned = omega arith
-  holds_guarded (Some j) s v noted =
-      let some = snapshot_at Disposal s v.notes j (noted_there v.notes j Disposal s noted.2)
-      noted.2 in omega arith
-
   -- where it answers a snapshot, the seat is under it
   pub under_held : (word : Option ℕ) (a : WeakAnswer) → CanUse word old.view.core
       → Finds fits d place next allows word a old new → IsUnderWhereHeld a new.view.core
@@ -90,13 +87,3 @@ module _ {P V : Type 0} (fits : List ℕ → Type 0) (d : DomainState P) (place 
       let under = subst (λ (w : Option ℕ). IsGuardedBy w snap.slot new.view.core) (sym found.0)
       (guarded word snap.slot free found.1) in
       (under, holds_guarded snap.word snap.slot new.view.core under)
-
-  -- and has as much room as it had
-  pub room_after : (word : Option ℕ) (a : WeakAnswer)
-      → Finds fits d place next allows word a old new → HasRoom old.view.core
-      → HasRoom new.view.core
-  room_after word answer.Null null = subst HasRoom (sym null.becomes.core)
-  room_after None answer.Zero found = subst HasRoom (sym found.asked.core)
-  room_after (Some j) answer.Zero found = subst HasRoom (sym found.asked.core)
-  room_after None (answer.Held snap) found = subst HasRoom (sym found.1.asked.core)
-  room_after (Some j) (answer.Held snap) found = subst HasRoom (sym found.1.asked.core)
