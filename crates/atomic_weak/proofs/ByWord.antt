@@ -1,4 +1,4 @@
--- A question by a word: which steps the seat may make, and what they come to.
+-- A question by a word: that the seat may make its steps, and what they come to.
 use Rattle.std.proofs.Common.{◌≡◌, ◌≢◌, ℕ, ◌<◌, List, [], ◌∷◌, ◌++◌, length, refl, ap, sym, ◌∙◌, subst, arith}
 use Rattle.std.specs.Prelude.{slice_index, Some}
 use Rattle.std.proofs.lemmas.List.{length-set, set_comm}
@@ -13,7 +13,6 @@ use Rattle.core_events.specs.declared.act.Act.TheVariants as act
 use Rattle.core_events.specs.declared.outcome.Outcome.{Outcome}
 use Rattle.core_events.specs.declared.outcome.Outcome.TheVariants as outcome
 use Rattle.core_events.specs.declared.view.CoreView.{CoreView}
-use Rattle.core_events.specs.declared.view.Move.{Move}
 use Rattle.core_events.specs.declared.view.Note.{Note}
 use Rattle.core_events.specs.declared.view.Note.TheVariants as note
 use Rattle.core_events.specs.Shows.{show_seat, shows}
@@ -29,17 +28,20 @@ use Rattle.control_word.proofs.Becoming.{Comes, bare, comes_more, comes_one, kno
 use Rattle.control_word.proofs.Finding.{strong_word}
 use Rattle.protected_loads.proofs.Noting.{beside, second_stays, written, written_back}
 use Rattle.protected_loads.proofs.Telling.{four_notes}
-use Rattle.atomic_weak.specs.Asking.{closed_by, prepared_by}
-use Rattle.atomic_weak.specs.Questions.{CanAsk, FoundAlive, FoundNone, Prepared, without_first}
+use Rattle.atomic_weak.specs.Questions.{CanAsk, FindsAlive, FindsNone, Prepares, closed_by, prepared_by, without_first}
+use Rattle.atomic_weak.proofs.Answers.{alive_some, zeroed_none}
 use Rattle.atomic_weak.proofs.Noted.{has_announced, has_protected, has_released, holds_weak, noted_there}
-use Rattle.atomic_weak.proofs.Questions.{alive_some, or_else, zeroed_none}
 use Rattle.atomic_weak.proofs.Releasing.{releases}
 
 module _ {P V : Type 0} {fits : List ℕ → Type 0} (d : DomainState P) (j : ℕ) (s : SlotId)
     (old ann : SeatState V) (may : CanAsk d.shape (Some j) s old.view.core) (o : Outcome)
     (announce : Steps fits d same_view IsSameView (act.Announce j Disposal s) old ann o) where
+  -- what the seat has as it begins, and once it waits for the answer
   abbrev mine : CoreView
   mine = old.view.core
+
+  abbrev waiting : CoreView
+  waiting = with_note j (note.Announced Disposal s) mine
 
   there : j < length mine.notes
   there = let four = four_notes announce.told in let small = may.means.1 in omega arith
@@ -47,27 +49,22 @@ module _ {P V : Type 0} {fits : List ℕ → Type 0} (d : DomainState P) (j : �
   apart : 0 ≢ j
   apart e = let less = may.means.0 in absurd (omega arith)
 
-  -- the announcement: whatever slots the seat has before it, it has afterwards
+  -- the announcement
   announced : (kept : CoreView)
       → ((x : SlotId) → HasSlot (show_seat kept) x → HasSlot (show_seat mine) x)
-      → Comes fits d (prepared_by (Some j) s) (with_note j (note.Announced Disposal s) mine) kept
-      old ann
+      → Comes fits d (prepared_by (Some j) s) waiting kept old ann
   announced kept has =
-      comes_one d (act.Announce j Disposal s) old ann outcome.Plain 0
-      (with_note j (note.Announced Disposal s) mine) kept
+      comes_one d (act.Announce j Disposal s) old ann outcome.Plain 0 waiting kept
       (subst (λ (x : Outcome).
       Steps fits d same_view IsSameView (act.Announce j Disposal s) old ann x)
       announce.answers announce)
       refl refl refl has (λ w x it. refl)
 
-  is : ann.view.core
-      ≡ record (with_note j (note.Announced Disposal s) mine) {
-        trail = mine.trail ++ prepared_by (Some j) s;
-      }
+  is : ann.view.core ≡ record waiting { trail = mine.trail ++ prepared_by (Some j) s }
   is = (announced mine (λ x has. has)).by.core
 
-  has_ann : (x : SlotId) → HasSlot (show_seat mine) x → HasSlot (show_seat ann.view.core) x
-  has_ann x has =
+  has_waiting : (x : SlotId) → HasSlot (show_seat mine) x → HasSlot (show_seat ann.view.core) x
+  has_waiting x has =
       subst (λ (v : CoreView). HasSlot (show_seat v) x) (sym is)
       (has_announced mine j there may.means.2 Disposal s x has)
 
@@ -82,8 +79,8 @@ module _ {P V : Type 0} {fits : List ℕ → Type 0} (d : DomainState P) (j : �
       (ap (λ (v : CoreView). note_of v 0) is
       ∙ beside mine j there (note.Announced Disposal s) 0 apart ∙ may.first)
 
-  pub prepared : Prepared fits d (Some j) s old ann
-  prepared =
+  pub prepares : Prepares fits d (Some j) s old ann
+  prepares =
       let comes = announced mine (λ x has. has) in record {
         becomes = comes.by;
         client = comes.client;
@@ -112,113 +109,127 @@ module _ {P V : Type 0} {fits : List ℕ → Type 0} (d : DomainState P) (j : �
         (ap (λ (v : CoreView). note_of v j) (sym ask.told.happened.view) ∙ noted))
 
     -- the object lives
-    module _ (late : SeatState V) (a : Outcome)
-        (ask : Steps fits d next allows (act.Alive j) ann late a) (lives : a ≡ outcome.Alive) where
+    module _ (late : SeatState V)
+        (ask : Steps fits d next allows (act.Alive j) ann late outcome.Alive) where
       abbrev guarded : CoreView
       guarded = with_note j (note.Valid Disposal s) mine
-
-      ask_alive : Steps fits d next allows (act.Alive j) ann late outcome.Alive
-      ask_alive =
-          subst (λ (x : Outcome). Steps fits d next allows (act.Alive j) ann late x) lives ask
 
       asks_alive : Becomes fits d next allows (move (act.Alive j) outcome.Alive ∷ []) guarded ann
           late
       asks_alive =
-          one_step d (act.Alive j) ann late outcome.Alive 1 guarded ask_alive refl
+          one_step d (act.Alive j) ann late outcome.Alive 1 guarded ask refl
           (ap (λ (n : Note). bare (with_note j (validated n) ann.view.core)) noted
           ∙ ap (λ (v : CoreView). bare (with_note j (note.Valid Disposal s) v)) is
           ∙ ap bare
           (second_stays mine j (note.Announced Disposal s) (note.Valid Disposal s)))
           refl
 
-      pub held : (new : SeatState V) (p : Outcome)
+      knows_alive : KnowsStill mine ann late
+      knows_alive =
+          knows_after d (act.Alive j) ann late outcome.Alive mine ask has_waiting (λ w x it. refl)
+
+      pub finds_alive : (new : SeatState V) (p : Outcome)
           → Steps fits d same_view IsSameView (act.Release 0) late new p
-          → FoundAlive fits d (Some j) s next allows old new
-      held new p release =
-          let first = announced mine (λ x has. has) in
-          let last = releases d 0 guarded (without_first guarded) mine late new _ asks_alive.core refl (λ x has. has_protected mine j there may.means.2 Disposal s x has) p release in
-          let knows : KnowsStill mine ann late = knows_after d (act.Alive j) ann late outcome.Alive mine ask_alive has_ann (λ w x it. refl) in record {
-            asked = record {
-              mid = ann;
-              prepares = prepared;
-              late = late;
-              asks = asks_alive;
-              closes = last.by;
-              client = last.client;
-            };
-            lives =
-                let same = counts asks_alive.walks.0 asks_alive.walks.1 in
-                let some = alive_some asks_alive.walks.1.word asks_alive.walks.1.answers in
-                omega arith;
-            knows = λ x has. last.knows x has ∙ knows x has ∙ first.knows x has;
-          }
+          → FindsAlive fits d (Some j) s next allows old new
+      finds_alive new p release = record {
+        asks = record {
+          mid = ann;
+          prepares = prepares;
+          late = late;
+          asks = asks_alive;
+          closes = closes.by;
+          client = closes.client;
+        };
+        lives =
+            let same = counts asks_alive.walks.0 asks_alive.walks.1 in
+            let some = alive_some asks_alive.walks.1.word asks_alive.walks.1.answers in
+            omega arith;
+        knows = λ x has. closes.knows x has ∙ knows_alive x has
+            ∙ (announced mine (λ y it. it)).knows x has;
+      }
+        where
+          closes : Comes fits d (move (act.Release 0) outcome.Plain ∷ []) (without_first guarded)
+              mine late new
+          closes =
+              releases d 0 guarded (without_first guarded) mine late new
+              (ann.view.core.trail ++ move (act.Alive j) outcome.Alive ∷ []) asks_alive.core refl
+              (λ x has. has_protected mine j there may.means.2 Disposal s x has) p release
 
     -- no strong reference is left
-    module _ (late : SeatState V) (a : Outcome)
-        (ask : Steps fits d next allows (act.Alive j) ann late a) (not : a ≢ outcome.Alive) where
-      abbrev waiting : CoreView
-      waiting = with_note j (note.Announced Disposal s) mine
+    module _ (late : SeatState V)
+        (ask : Steps fits d next allows (act.Alive j) ann late outcome.Zeroed) where
+      -- what it has in the end, and before it takes the announcement by the word back
+      abbrev left : CoreView
+      left = without_first mine
 
-      ask_zeroed : Steps fits d next allows (act.Alive j) ann late outcome.Zeroed
-      ask_zeroed =
-          subst (λ (x : Outcome). Steps fits d next allows (act.Alive j) ann late x)
-          (or_else _ outcome.Alive outcome.Zeroed a ask.answers not) ask
+      abbrev leaving : CoreView
+      leaving = with_note j (note.Announced Disposal s) left
+
+      has_left : (x : SlotId) → HasSlot (show_seat left) x → HasSlot (show_seat mine) x
+      has_left x has = has_released mine 0 Weak s x may.first has
+
+      there_left : j < length left.notes
+      there_left =
+          let same = length-set mine.notes 0 note.Idle in let less = there in omega arith
+
+      free_left : note_of left j ≡ note.Idle
+      free_left =
+          beside mine 0 (noted_there mine.notes 0 Weak s may.first) note.Idle j
+          (λ (e : j ≡ 0). apart (sym e))
+          ∙ may.means.2
 
       asks_zeroed : Becomes fits d next allows (move (act.Alive j) outcome.Zeroed ∷ []) waiting ann
           late
       asks_zeroed =
-          one_step d (act.Alive j) ann late outcome.Zeroed 0 waiting ask_zeroed refl (ap bare is)
-          refl
+          one_step d (act.Alive j) ann late outcome.Zeroed 0 waiting ask refl (ap bare is) refl
 
-      -- then the first word is released
-      module _ (free : SeatState V) (p : Outcome)
-          (release : Steps fits d same_view IsSameView (act.Release 0) late free p) where
-        abbrev left : CoreView
-        left = without_first mine
+      knows_zeroed : KnowsStill left ann late
+      knows_zeroed =
+          knows_after d (act.Alive j) ann late outcome.Zeroed left ask
+          (λ x has. has_waiting x (has_left x has)) (λ w x it. refl)
 
-        has_left : (x : SlotId) → HasSlot (show_seat left) x → HasSlot (show_seat mine) x
-        has_left x has = has_released mine 0 Weak s x may.first has
+      pub finds_none : (free new : SeatState V) (p q : Outcome)
+          → Steps fits d same_view IsSameView (act.Release 0) late free p
+          → Steps fits d same_view IsSameView (act.Release j) free new q
+          → FindsNone fits d (Some j) s next allows old new
+      finds_none free new p q release release_word = record {
+        asks = record {
+          mid = ann;
+          prepares = prepares;
+          late = late;
+          asks = asks_zeroed;
+          closes = closes.by;
+          client = closes.client;
+        };
+        none =
+            let same = counts asks_zeroed.walks.0 asks_zeroed.walks.1 in
+            let zero = zeroed_none asks_zeroed.walks.1.word asks_zeroed.walks.1.answers in
+            omega arith;
+        knows = λ x has. closes.knows x has ∙ knows_zeroed x has
+            ∙ (announced left has_left).knows x has;
+      }
+        where
+          first : Comes fits d (move (act.Release 0) outcome.Plain ∷ []) leaving left late free
+          first =
+              releases d 0 waiting leaving left late free
+              (ann.view.core.trail ++ move (act.Alive j) outcome.Zeroed ∷ []) asks_zeroed.core
+              (ap (λ (ns : List Note). bare (record mine { notes = ns }))
+              (set_comm mine.notes j 0 (note.Announced Disposal s) note.Idle
+              (λ (e : j ≡ 0). apart (sym e))))
+              (λ x has. has_announced mine j there may.means.2 Disposal s x (has_left x has)) p
+              release
 
-        there_left : j < length left.notes
-        there_left =
-            let same = length-set mine.notes 0 note.Idle in let less = there in omega arith
+          second : Comes fits d (move (act.Release j) outcome.Plain ∷ []) left left free new
+          second =
+              releases d j leaving left left free new
+              (late.view.core.trail ++ move (act.Release 0) outcome.Plain ∷ []) first.by.core
+              (ap bare
+              (second_stays left j (note.Announced Disposal s) note.Idle
+              ∙ written_back left j note.Idle free_left))
+              (λ x has. has_announced left j there_left free_left Disposal s x has) q release_word
 
-        free_left : note_of left j ≡ note.Idle
-        free_left =
-            beside mine 0 (noted_there mine.notes 0 Weak s may.first) note.Idle j
-            (λ (e : j ≡ 0). apart (sym e))
-            ∙ may.means.2
-
-        closes_first : Comes fits d (move (act.Release 0) outcome.Plain ∷ [])
-            (with_note j (note.Announced Disposal s) left) left late free
-        closes_first =
-            releases d 0 waiting (with_note j (note.Announced Disposal s) left) left late free _
-            asks_zeroed.core
-            (ap (λ (ns : List Note). bare (record mine { notes = ns }))
-            (set_comm mine.notes j 0 (note.Announced Disposal s) note.Idle
-            (λ (e : j ≡ 0). apart (sym e))))
-            (λ x has. has_announced mine j there may.means.2 Disposal s x (has_left x has)) p
-            release
-
-        pub none : (new : SeatState V) (q : Outcome)
-            → Steps fits d same_view IsSameView (act.Release j) free new q
-            → FoundNone fits d (Some j) s next allows old new
-        none new q release' =
-            let first = announced left has_left in
-            let second = releases d j (with_note j (note.Announced Disposal s) left) left left free new _ closes_first.by.core (ap bare (second_stays left j (note.Announced Disposal s) note.Idle ∙ written_back left j note.Idle free_left)) (λ x has. has_announced left j there_left free_left Disposal s x has) q release' in
-            let last = comes_more d (move (act.Release 0) outcome.Plain ∷ []) (move (act.Release j) outcome.Plain ∷ []) (with_note j (note.Announced Disposal s) left) left left late free new closes_first second in
-            let knows : KnowsStill left ann late = knows_after d (act.Alive j) ann late outcome.Zeroed left ask_zeroed (λ x has. has_ann x (has_left x has)) (λ w x it. refl) in record {
-              asked = record {
-                mid = ann;
-                prepares = prepared;
-                late = late;
-                asks = asks_zeroed;
-                closes = last.by;
-                client = last.client;
-              };
-              none =
-                  let same = counts asks_zeroed.walks.0 asks_zeroed.walks.1 in
-                  let zero = zeroed_none asks_zeroed.walks.1.word asks_zeroed.walks.1.answers in
-                  omega arith;
-              knows = λ x has. last.knows x has ∙ knows x has ∙ first.knows x has;
-            }
+          closes : Comes fits d (closed_by (Some j)) left left late new
+          closes =
+              comes_more d (move (act.Release 0) outcome.Plain ∷ [])
+              (move (act.Release j) outcome.Plain ∷ []) leaving left left late free new first
+              second

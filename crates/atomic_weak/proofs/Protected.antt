@@ -1,6 +1,7 @@
--- A seat that was at rest and has protected a slot by its first word: what it has, and that it may ask.
-use Rattle.std.proofs.Common.{◌≡◌, ℕ, ◌<◌, List, [], ◌∷◌, ◌++◌, length, refl, ap, sym, ◌∙◌, subst, arith}
-use Rattle.std.specs.Prelude.{slice_set, Option, Some, None}
+-- A seat that was at rest and has protected a slot by its first word: what it has, and that it may
+-- ask.
+use Rattle.std.proofs.Common.{◌≡◌, ℕ, ◌<◌, List, [], ◌∷◌, length, ap, sym, ◌∙◌, subst, arith}
+use Rattle.std.specs.Prelude.{Option, Some, None}
 use Rattle.std.proofs.lemmas.List.{set_comm}
 use Rattle.plain_state.specs.declared.act.EventPlace.{EventPlace}
 use Rattle.plain_state.specs.declared.act.PlainAct.{PlainAct}
@@ -18,7 +19,7 @@ use Rattle.core_events.specs.Shows.{show_seat}
 use Rattle.core_events.specs.Steps.{with_note}
 use Rattle.core_events.specs.Views.{note_of}
 use Rattle.core_invariant.proofs.Steady.{noted_in_range}
-use Rattle.acquire_retire.specs.Calls.{IsReady, IsSameView, same_view}
+use Rattle.acquire_retire.specs.Calls.{IsSameView, same_view}
 use Rattle.acquire_retire.specs.Collecting.{move}
 use Rattle.acquire_retire.specs.Domains.{DomainState}
 use Rattle.acquire_retire.specs.Notes.{least_free}
@@ -31,9 +32,8 @@ use Rattle.protected_loads.specs.Loads.{Protects, announced_by, with_snapshot}
 use Rattle.protected_loads.proofs.Noting.{beside, second_stays, written, written_back}
 use Rattle.protected_loads.proofs.Referring.{idle_protected}
 use Rattle.protected_loads.proofs.Telling.{four_notes, holds_has}
-use Rattle.atomic_weak.specs.Asking.{IsReadyToAsk, Prepares, with_guarded, with_none, with_prepared}
-use Rattle.atomic_weak.specs.WeakSnapshots.{asked_by}
-use Rattle.atomic_weak.specs.Questions.{CanAsk, CanUse, IsReadyFor, Prepared, without_first}
+use Rattle.atomic_weak.specs.Questions.{CanAsk, CanUse, IsReadyFor, with_guarded, with_none, without_first}
+use Rattle.atomic_weak.specs.Taking.{IsReadyToAsk, ProtectsWeakly}
 use Rattle.atomic_weak.proofs.Noted.{has_protected, holds_weak}
 
 -- it was at rest, and has protected s, which a weak place held
@@ -41,60 +41,50 @@ pub record Protected {P V : Type 0} (fits : List ℕ → Type 0) (d : DomainStat
     (place : EventPlace) (s : SlotId) (old mid : SeatState V) : Type 0 where
   pub rest : IsAtRest d old
   pub weak : place_kind place ≡ Weak
-  pub protects : Protects fits d 0 place same_view IsSameView s old mid
+  pub by : Protects fits d 0 place same_view IsSameView s old mid
   pub knows : KnowsStill old.view.core old mid
 
 module _ {P V : Type 0} {fits : List ℕ → Type 0} {d : DomainState P} {place : EventPlace}
     {s : SlotId} {old mid : SeatState V} (p : Protected fits d place s old mid) where
-  -- what it has, but for its trail
-  abbrev pub protecting : CoreView
-  protecting = with_snapshot 0 place s old.view.core
-
   pub four : length old.view.core.notes ≡ 4
-  four = four_notes p.protects.announces.becomes.walks.1.told
+  four = four_notes p.by.announces.becomes.walks.1.told
 
   there : 0 < length old.view.core.notes
   there = let is = four in omega arith
 
   first : note_of mid.view.core 0 ≡ note.Valid Weak s
   first =
-      ap (λ (v : CoreView). note_of v 0) p.protects.core
+      ap (λ (v : CoreView). note_of v 0) p.by.core
       ∙ written old.view.core 0 there (note.Valid (place_kind place) s)
       ∙ ap (λ (k : Kind). note.Valid k s) p.weak
 
-  pub has_more : (x : SlotId) → HasSlot (show_seat old.view.core) x
-      → HasSlot (show_seat mid.view.core) x
-  has_more x has =
-      subst (λ (v : CoreView). HasSlot (show_seat v) x) (sym p.protects.core)
-      (has_protected old.view.core 0 there p.rest.first (place_kind place) s x has)
-
-  pub has_first : HasSlot (show_seat mid.view.core) s
-  has_first = holds_has mid.view.core s (holds_weak mid.view.core 0 s first)
+  in_range : s.0 < d.shape.slots
+  in_range =
+      noted_in_range d.shape p.by.mid.view.core.seat p.by.checks.walks.0.view.core 0 Weak s
+      p.by.checks.walks.1.told.law (omega arith)
+      (ap (λ (x : SeatState V). note_of x.view.core 0) (sym p.by.checks.walks.2) ∙ first)
 
   pub table_protected : mid.table ≡ old.table
   table_protected =
       walks_table fits d same_view IsSameView (move (act.Check 0 place) outcome.Valid ∷ [])
-      p.protects.mid mid p.protects.checks.walks
-      ∙ walks_table fits d same_view IsSameView (announced_by 0 place s) old p.protects.mid
-      p.protects.announces.becomes.walks
+      p.by.mid mid p.by.checks.walks
+      ∙ walks_table fits d same_view IsSameView (announced_by 0 place s) old p.by.mid
+      p.by.announces.becomes.walks
 
-  pub client_protected : mid.view.client ≡ old.view.client
-  client_protected =
-      ap (λ (x : SeatState V). x.view.client) p.protects.checks.walks.2
-      ∙ p.protects.checks.walks.1.told.client ∙ p.protects.announces.client
-
-  in_range : s.0 < d.shape.slots
-  in_range =
-      noted_in_range d.shape p.protects.mid.view.core.seat p.protects.checks.walks.0.view.core 0
-      Weak s p.protects.checks.walks.1.told.law (omega arith)
-      (ap (λ (x : SeatState V). note_of x.view.core 0) (sym p.protects.checks.walks.2) ∙ first)
+  abbrev pub protects : ProtectsWeakly fits d place s old mid
+  protects = record {
+    by = p.by;
+    client =
+        ap (λ (x : SeatState V). x.view.client) p.by.checks.walks.2
+        ∙ p.by.checks.walks.1.told.client ∙ p.by.announces.client;
+  }
 
   can_use : (word : Option ℕ) → CanUse word old.view.core → CanUse word mid.view.core
-  can_use None add = subst (CanUse None) (sym p.protects.core) add
+  can_use None add = subst (CanUse None) (sym p.by.core) add
   can_use (Some j) free = (
     free.0,
     free.1,
-    ap (λ (v : CoreView). note_of v j) p.protects.core
+    ap (λ (v : CoreView). note_of v j) p.by.core
         ∙ beside old.view.core 0 there (note.Valid (place_kind place) s) j
         (λ (e : j ≡ 0). let less = free.0 in absurd (omega arith))
         ∙ free.2,
@@ -102,79 +92,58 @@ module _ {P V : Type 0} {fits : List ℕ → Type 0} {d : DomainState P} {place 
 
   pub can_ask : (word : Option ℕ) → CanUse word old.view.core → CanAsk d.shape word s mid.view.core
   can_ask word free = record {
-    idle = idle_protected d place s old mid p.rest p.protects;
+    idle = idle_protected d place s old mid p.rest p.by;
     there = in_range;
     first = first;
     means = can_use word free;
-  }
-
-  -- what it prepares for a question it has prepared from the start
-  abbrev pub prepares : (word : Option ℕ) (ann : SeatState V) → Prepared fits d word s mid ann
-      → Prepares fits d place word s old ann
-  prepares word ann by = record {
-    mid = mid;
-    protects = p.protects;
-    announces = by.becomes;
-    client = by.client ∙ client_protected;
   }
 
   -- a deed that is ready for whatever was protected is ready to ask about it
   pub ready_for : (ready : OwnPart → V → PlainAct → Type 0) (word : Option ℕ)
       → word ≡ least_free old.view.core → IsReadyToAsk fits d place ready old
       → IsReadyFor fits d word s ready mid
-  ready_for ready word is deed ann by =
-      subst (λ (w : Option ℕ). IsReady ready d.shape (asked_by w s) ann.view) (sym is)
-      (deed.ask s ann
-      (subst (λ (w : Option ℕ). Prepares fits d place w s old ann) is (prepares word ann by)))
+  ready_for ready word is deed =
+      subst (λ (w : Option ℕ). IsReadyFor fits d w s ready mid) (sym is) (deed.ask s mid protects)
 
-  -- without the snapshot of its first word it has what it had
-  back : with_note 0 note.Idle protecting ≡ old.view.core
+  -- what it had it has, and s besides; without the snapshot of its first word it has what it had
+  pub has_still : (x : SlotId) → HasSlot (show_seat old.view.core) x
+      → HasSlot (show_seat mid.view.core) x
+  has_still x has =
+      subst (λ (v : CoreView). HasSlot (show_seat v) x) (sym p.by.core)
+      (has_protected old.view.core 0 there p.rest.first (place_kind place) s x has)
+
+  pub has_first : HasSlot (show_seat mid.view.core) s
+  has_first = holds_has mid.view.core s (holds_weak mid.view.core 0 s first)
+
+  back : without_first (with_snapshot 0 place s old.view.core) ≡ old.view.core
   back =
       second_stays old.view.core 0 (note.Valid (place_kind place) s) note.Idle
       ∙ written_back old.view.core 0 note.Idle p.rest.first
 
-  back_beside : (j : ℕ) (n : Note) → 0 < j
-      → with_note 0 note.Idle (with_note j n protecting) ≡ with_note j n old.view.core
-  back_beside j n less =
-      ap (λ (ns : List Note). record protecting { notes = ns })
-      (set_comm protecting.notes j 0 n note.Idle (λ (e : j ≡ 0). absurd (omega arith)))
-      ∙ ap (with_note j n) back
-
   pub has_without : (x : SlotId) → HasSlot (show_seat old.view.core) x
       → HasSlot (show_seat (without_first mid.view.core)) x
   has_without x has =
-      subst (λ (v : CoreView). HasSlot (show_seat (with_note 0 note.Idle v)) x)
-      (sym p.protects.core) (subst (λ (v : CoreView). HasSlot (show_seat v) x) (sym back) has)
+      subst (λ (v : CoreView). HasSlot (show_seat (without_first v)) x) (sym p.by.core)
+      (subst (λ (v : CoreView). HasSlot (show_seat v) x) (sym back) has)
 
-  -- what it has after an answer is told by what it had
-  pub under_alive : (word : Option ℕ)
-      → bare (with_guarded word s mid.view.core) ≡ bare (with_guarded word s protecting)
-  under_alive None = ap (λ (v : CoreView). bare (with_strong s v)) p.protects.core
-  under_alive (Some j) =
-      ap (λ (v : CoreView). bare (with_note j (note.Valid Disposal s) v)) p.protects.core
-
+  -- so what it has after an answer is told by what it had
   pub after_alive : (word : Option ℕ) → CanUse word old.view.core
       → bare (without_first (with_guarded word s mid.view.core))
       ≡ bare (with_guarded word s old.view.core)
   after_alive None free =
-      ap (λ (v : CoreView). bare (without_first (with_strong s v))) p.protects.core
+      ap (λ (v : CoreView). bare (without_first (with_strong s v))) p.by.core
       ∙ ap (λ (v : CoreView). bare (with_strong s v)) back
   after_alive (Some j) free =
-      ap (λ (v : CoreView). bare (without_first (with_note j (note.Valid Disposal s) v)))
-      p.protects.core
-      ∙ ap bare (back_beside j (note.Valid Disposal s) free.0)
-
-  pub under_none : (word : Option ℕ)
-      → bare (with_none word (with_prepared word s mid.view.core))
-      ≡ bare (with_none word (with_prepared word s protecting))
-  under_none None = ap (λ (v : CoreView). bare (with_add v)) p.protects.core
-  under_none (Some j) =
-      ap (λ (v : CoreView). bare (with_note j (note.Announced Disposal s) v)) p.protects.core
+      ap (λ (v : CoreView). bare (without_first (with_note j (note.Valid Disposal s) v))) p.by.core
+      ∙ ap (λ (ns : List Note). bare (record old.view.core { notes = ns }))
+      (set_comm (with_snapshot 0 place s old.view.core).notes j 0 (note.Valid Disposal s) note.Idle
+      (λ (e : j ≡ 0). let less = free.0 in absurd (omega arith)))
+      ∙ ap (λ (v : CoreView). bare (with_note j (note.Valid Disposal s) v)) back
 
   pub after_none : (word : Option ℕ)
       → bare (without_first (with_none word mid.view.core)) ≡ bare (with_none word old.view.core)
   after_none None =
-      ap (λ (v : CoreView). bare (without_first (with_add v))) p.protects.core
+      ap (λ (v : CoreView). bare (without_first (with_add v))) p.by.core
       ∙ ap (λ (v : CoreView). bare (with_add v)) back
   after_none (Some j) =
-      ap (λ (v : CoreView). bare (without_first v)) p.protects.core ∙ ap bare back
+      ap (λ (v : CoreView). bare (without_first v)) p.by.core ∙ ap bare back

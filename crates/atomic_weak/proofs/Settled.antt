@@ -16,11 +16,11 @@ use Rattle.acquire_retire.specs.Seats.{SeatState}
 use Rattle.control_word.specs.Moves.{KnowsStill}
 use Rattle.control_word.specs.Resting.{IsAtRest}
 use Rattle.protected_loads.specs.Loads.{Protects}
-use Rattle.atomic_weak.specs.Asking.{Finds, IsUnderWhereHeld}
 use Rattle.atomic_weak.specs.Places.{weak_place}
 use Rattle.atomic_weak.specs.Questions.{Answers}
+use Rattle.atomic_weak.specs.Taking.{Finds, IsUnderWhereHeld}
 use Rattle.atomic_weak.specs.declared.snapshots.WeakSnap.{WeakSnap as WeakAnswer}
-use Rattle.atomic_weak.proofs.Found.{Leaves, found}
+use Rattle.atomic_weak.proofs.Found.{Leaves, finds}
 use Rattle.atomic_weak.proofs.Named.{weak_kind}
 use Rattle.atomic_weak.proofs.Protected.{Protected}
 use Rattle.atomic_weak.proofs.Under.{least_used, under_held}
@@ -35,7 +35,7 @@ module _ {P V : Type 0} {fits : List ℕ → Type 0} {d : DomainState P} {s : Sl
       (record {
         rest = rest;
         weak = ap place_kind is ∙ weak_kind place;
-        protects = protects;
+        by = protects;
         knows = knows;
       })
 
@@ -49,7 +49,7 @@ module _ {P V : Type 0} {fits : List ℕ → Type 0} {d : DomainState P} {s : Sl
         × IsUnderWhereHeld a new.view.core)
     settled next allows new a answers =
         let free = least_used old.view.core word is add in
-        let leaves = found p next allows word new free a answers in record {
+        let leaves = finds p next allows word new free a answers in record {
           found = (
             subst (λ (w : Option ℕ). Finds fits d place next allows w a old new) is leaves.found,
             under_held fits d place next allows old new word a free leaves.found,

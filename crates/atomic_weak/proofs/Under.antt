@@ -18,9 +18,9 @@ use Rattle.acquire_retire.specs.Seats.{SeatState}
 use Rattle.control_word.proofs.Owning.{some_more}
 use Rattle.protected_loads.proofs.Noting.{written}
 use Rattle.protected_loads.proofs.Telling.{four_notes}
-use Rattle.atomic_weak.specs.Asking.{Finds, Guards, IsUnderWhereHeld}
+use Rattle.atomic_weak.specs.Taking.{Finds, IsUnderWhereHeld, Takes}
 use Rattle.atomic_weak.specs.Questions.{CanUse}
-use Rattle.atomic_weak.specs.WeakSnapshots.{IsGuardedBy, WeakSnap}
+use Rattle.atomic_weak.specs.WeakSnapshots.{IsGuardedBy}
 use Rattle.atomic_weak.specs.declared.snapshots.WeakSnap.{WeakSnap as WeakAnswer}
 use Rattle.atomic_weak.specs.declared.snapshots.WeakSnap.TheVariants as answer
 use Rattle.atomic_weak.proofs.Noted.{holds_disposal}
@@ -62,20 +62,20 @@ module _ {P V : Type 0} (fits : List ℕ → Type 0) (d : DomainState P) (place 
     (next : OwnPart → OwnPart → V → PlainAct → ℕ → V)
     (allows : Plain → Plain → ℕ → V → V → Type 0) (old new : SeatState V) where
   guarded : (word : Option ℕ) (s : SlotId) → CanUse word old.view.core
-      → Guards fits d place next allows word s old new → IsGuardedBy word s new.view.core
+      → Takes fits d place next allows word s old new → IsGuardedBy word s new.view.core
   guarded None s free g =
       some_more s s refl old.view.core.owned new.view.core.owned
-      (ap (λ (v : CoreView). v.owned) g.asked.core)
+      (ap (λ (v : CoreView). v.owned) g.core)
   guarded (Some j) s free g = (
     free.0,
     free.1,
-    ap (λ (v : CoreView). note_of v j) g.asked.core
+    ap (λ (v : CoreView). note_of v j) g.core
         ∙ written old.view.core j there (note.Valid Disposal s),
   )
     where
       there : j < length old.view.core.notes
       there =
-          let four = four_notes g.asked.prepares.protects.announces.becomes.walks.1.told in
+          let four = four_notes g.protects.by.announces.becomes.walks.1.told in
           let small = free.1 in omega arith
 
   -- where it answers a snapshot, the seat is under it

@@ -2,6 +2,6 @@ pub mod Places
 pub mod Loading
 pub mod Trials
 pub mod WeakSnapshots
-pub mod Asking
 pub mod Questions
+pub mod Taking
 pub mod Ending

@@ -1,21 +1,12 @@
--- A weak snapshot: what callers see of it, when a seat is under it, and how the seat asks whether the
--- object lives.
-use Rattle.std.specs.Prelude.{ℕ, ◌≡◌, ◌<◌, ◌+◌, List, [], ◌∷◌, ◌++◌, Option, Some, None}
-use Rattle.plain_state.specs.declared.slot.Kind.TheVariants.{Weak, Disposal}
+-- A weak snapshot: what callers see of it, and when a seat is under it.
+use Rattle.std.specs.Prelude.{ℕ, ◌≡◌, ◌<◌, Option, Some, None}
+use Rattle.plain_state.specs.declared.slot.Kind.TheVariants.{Disposal}
 use Rattle.plain_state.specs.declared.slot.SlotId.{SlotId}
 use Rattle.plain_state.specs.Lists.{times}
-use Rattle.core_events.specs.declared.act.Act.{Act}
-use Rattle.core_events.specs.declared.act.Act.TheVariants as act
-use Rattle.core_events.specs.declared.outcome.Outcome.{Outcome}
-use Rattle.core_events.specs.declared.outcome.Outcome.TheVariants as outcome
 use Rattle.core_events.specs.declared.view.CoreView.{CoreView}
-use Rattle.core_events.specs.declared.view.Move.{Move}
 use Rattle.core_events.specs.declared.view.Note.TheVariants as note
-use Rattle.core_events.specs.Steps.{with_note}
 use Rattle.core_events.specs.Views.{note_of}
-use Rattle.acquire_retire.specs.Collecting.{move}
 use Rattle.acquire_retire.specs.Notes.{least_free}
-use Rattle.control_word.specs.Calls.{with_add, with_strong, without_strong}
 use Rattle.control_word.specs.Resting.{IsSpent}
 
 -- the slot that it names, and the announcement word that guards its object, or none where it is
@@ -36,17 +27,3 @@ IsUnder snap v = IsGuardedBy snap.word snap.slot v
 -- all three words are in use, and no add is left
 abbrev pub CanTakeNone : CoreView → Type 0
 CanTakeNone v = (least_free v ≡ None) × IsSpent v
-
--- The act that asks whether the object of s lives: a read of the strong word, by a word that announces
--- s, else an add. What that answers where the object lives, and where no strong reference is left
-abbrev pub asked_by : Option ℕ → SlotId → Act
-asked_by None s = act.Add s
-asked_by (Some j) s = act.Alive j
-
-abbrev pub living : Option ℕ → Outcome
-living None = outcome.Up
-living (Some j) = outcome.Alive
-
-abbrev pub none_left : Option ℕ → Outcome
-none_left None = outcome.Dead
-none_left (Some j) = outcome.Zeroed

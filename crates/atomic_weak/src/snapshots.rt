@@ -10,7 +10,7 @@ ghost use Rattle.control_word.specs.Resting.{IsAtRest};
 ghost use Rattle.protected_loads.specs.Loads.{Misses};
 ghost use Rattle.atomic_weak.specs.Loading.{CanLoad};
 ghost use Rattle.atomic_weak.specs.Places.{weak_place};
-ghost use Rattle.atomic_weak.specs.Asking.{Finds, IsReadyToAsk, IsUnderWhereHeld};
+ghost use Rattle.atomic_weak.specs.Taking.{Finds, IsReadyToAsk, IsUnderWhereHeld};
 ghost use Rattle.atomic_weak.specs.Questions.{Answers, CanAsk, IsReadyFor};
 ghost use Rattle.atomic_weak.specs.WeakSnapshots.{CanTakeNone};
 

@@ -1,5 +1,5 @@
-use Rattle.atomic_weak.proofs.ByAdd.{held, may_add, none}
-use Rattle.atomic_weak.proofs.Questions.{prepared_none}
+use Rattle.atomic_weak.proofs.Answers.{dead, prepared_none}
+use Rattle.atomic_weak.proofs.ByAdd.{finds_alive, finds_none, may_add}
 use Rattle.atomic_weak.proofs.snapshots.count.Goals as goal
 
 pub add-requires-clause-may : goal.add-requires-clause-may
@@ -15,12 +15,12 @@ pub returns-in-Up : goal.returns-in-Up
 returns-in-Up g c = (
   c.by.ensures.slot,
   c.by.ensures.word,
-  held c.args.domain.now c.args.slot c.args.seat.now c.requires.may c.add.new.seat c.add.result
-      c.add.ensures c.in-Up.is c.release.new.seat c.release.result c.release.ensures,
+  finds_alive c.args.domain.now c.args.slot c.args.seat.now c.requires.may c.add.new.seat
+      (c.in-Up.ensures {u = tt}) c.release.new.seat c.release.result c.release.ensures,
 )
 
 pub returns : goal.returns
 returns g c =
-    none c.args.domain.now c.args.slot c.args.seat.now c.requires.may c.add.new.seat c.add.result
-    c.add.ensures c.in_default.not-Up c.release-2.new.seat c.release-2.result
-    c.release-2.ensures
+    finds_none c.args.domain.now c.args.slot c.args.seat.now c.requires.may c.add.new.seat
+    (dead c.args.domain.now c.add.ensures c.in_default.not-Up) c.release-2.new.seat
+    c.release-2.result c.release-2.ensures

@@ -5,9 +5,8 @@ use Rattle.plain_state.specs.declared.slot.SlotId.{SlotId}
 use Rattle.core_events.specs.declared.act.Act.TheVariants as act
 use Rattle.acquire_retire.specs.Calls.{IsReady, IsSameView, same_view}
 use Rattle.protected_loads.specs.Loads.{FindsNull, Misses}
-use Rattle.atomic_weak.proofs.Protected.{can_ask, ready_for}
+use Rattle.atomic_weak.proofs.Protected.{ready_for}
 use Rattle.atomic_weak.proofs.Settled.{protected, settled}
-use Rattle.atomic_weak.proofs.Under.{least_used}
 use Rattle.atomic_weak.proofs.snapshots.try_weak_snapshot.Goals as goal
 
 pub acquire-requires-clause-look : goal.acquire-requires-clause-look
