@@ -9,4 +9,5 @@ pub mod ByAdd
 pub mod Protected
 pub mod Found
 pub mod Under
+pub mod Staying
 pub mod Settled

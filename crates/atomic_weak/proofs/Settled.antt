@@ -19,10 +19,12 @@ use Rattle.protected_loads.specs.Loads.{Protects}
 use Rattle.atomic_weak.specs.Places.{weak_place}
 use Rattle.atomic_weak.specs.Questions.{Answers}
 use Rattle.atomic_weak.specs.Taking.{Finds, IsUnderWhereHeld}
+use Rattle.atomic_weak.specs.WeakSnapshots.{StaysUnder}
 use Rattle.atomic_weak.specs.declared.snapshots.WeakSnap.{WeakSnap as WeakAnswer}
 use Rattle.atomic_weak.proofs.Found.{Leaves, finds}
 use Rattle.atomic_weak.proofs.Named.{weak_kind}
 use Rattle.atomic_weak.proofs.Protected.{Protected}
+use Rattle.atomic_weak.proofs.Staying.{stays_found}
 use Rattle.atomic_weak.proofs.Under.{least_used, under_held}
 
 module _ {P V : Type 0} {fits : List ℕ → Type 0} {d : DomainState P} {s : SlotId}
@@ -46,13 +48,14 @@ module _ {P V : Type 0} {fits : List ℕ → Type 0} {d : DomainState P} {s : Sl
         → Answers fits d word s next allows a mid new
         → Leaves d old new
         (Finds fits d place next allows (least_free old.view.core) a old new
-        × IsUnderWhereHeld a new.view.core)
+        × IsUnderWhereHeld a new.view.core × StaysUnder old.view.core new.view.core)
     settled next allows new a answers =
         let free = least_used old.view.core word is add in
         let leaves = finds p next allows word new free a answers in record {
           found = (
             subst (λ (w : Option ℕ). Finds fits d place next allows w a old new) is leaves.found,
             under_held fits d place next allows old new word a free leaves.found,
+            stays_found fits d place next allows word old new free a leaves.found,
           );
           objects = leaves.objects;
           rest = leaves.rest;

@@ -54,7 +54,8 @@ pub least_used : (v : CoreView) (word : Option ℕ) → word ≡ least_free v
 least_used v None is add = add refl
 least_used v (Some j) is add = least_is_free v j (sym is)
 
-holds_guarded : (word : Option ℕ) (s : SlotId) (v : CoreView) → IsGuardedBy word s v → Holds v s
+holds_guarded : (word : Option ℕ) (s : SlotId) (v : CoreView) → IsGuardedBy word s v.owned v.notes
+    → Holds v s
 holds_guarded None s v owned = omega arith
 holds_guarded (Some j) s v noted = holds_disposal v j s noted.2
 
@@ -62,7 +63,8 @@ module _ {P V : Type 0} (fits : List ℕ → Type 0) (d : DomainState P) (place 
     (next : OwnPart → OwnPart → V → PlainAct → ℕ → V)
     (allows : Plain → Plain → ℕ → V → V → Type 0) (old new : SeatState V) where
   guarded : (word : Option ℕ) (s : SlotId) → CanUse word old.view.core
-      → Takes fits d place next allows word s old new → IsGuardedBy word s new.view.core
+      → Takes fits d place next allows word s old new 
+      → IsGuardedBy word s new.view.core.owned new.view.core.notes
   guarded None s free g =
       some_more s s refl old.view.core.owned new.view.core.owned
       (ap (λ (v : CoreView). v.owned) g.core)
@@ -84,6 +86,7 @@ module _ {P V : Type 0} (fits : List ℕ → Type 0) (d : DomainState P) (place 
   under_held word answer.Null free found = tt
   under_held word answer.Zero free found = tt
   under_held word (answer.Held snap) free found =
-      let under = subst (λ (w : Option ℕ). IsGuardedBy w snap.slot new.view.core) (sym found.0)
+      let under = subst (λ (w : Option ℕ). IsGuardedBy w snap.slot
+      new.view.core.owned new.view.core.notes) (sym found.0)
       (guarded word snap.slot free found.1) in
       (under, holds_guarded snap.word snap.slot new.view.core under)

@@ -1,5 +1,5 @@
 -- How a weak snapshot ends.
-use Rattle.std.specs.Prelude.{ℕ, List, [], ◌∷◌, Option, Some, None}
+use Rattle.std.specs.Prelude.{ℕ, ◌≢◌, List, [], ◌∷◌, Option, Some, None}
 use Rattle.plain_state.specs.declared.slot.SlotId.{SlotId}
 use Rattle.core_events.specs.declared.act.Act.TheVariants as act
 use Rattle.core_events.specs.declared.outcome.Outcome.TheVariants as outcome
@@ -12,7 +12,7 @@ use Rattle.acquire_retire.specs.Domains.{DomainState}
 use Rattle.acquire_retire.specs.Seats.{SeatState}
 use Rattle.control_word.specs.Calls.{DropsStrong, without_strong}
 use Rattle.control_word.specs.Moves.{Becomes}
-use Rattle.atomic_weak.specs.WeakSnapshots.{WeakSnap}
+use Rattle.atomic_weak.specs.WeakSnapshots.{IsUnder, WeakSnap}
 
 -- what a seat has, but for its trail, once its word stands for nothing, or its reference is given up
 abbrev pub without_guarded : Option ℕ → SlotId → CoreView → CoreView
@@ -21,6 +21,11 @@ without_guarded (Some j) s v = with_note j note.Idle v
 
 abbrev pub without_snapshot : WeakSnap → CoreView → CoreView
 without_snapshot snap v = without_guarded snap.word snap.slot v
+
+-- the weak snapshots by other words stay
+abbrev pub KeepsOthers : WeakSnap → CoreView → CoreView → Type 0
+KeepsOthers ended v w =
+    (snap : WeakSnap) → snap.word ≢ ended.word → IsUnder snap v → IsUnder snap w
 
 module _ {P V : Type 0} (fits : List ℕ → Type 0) (d : DomainState P) where
   -- the seat has taken its announcement back, or given its reference up

@@ -12,7 +12,7 @@ ghost use Rattle.atomic_weak.specs.Loading.{CanLoad};
 ghost use Rattle.atomic_weak.specs.Places.{weak_place};
 ghost use Rattle.atomic_weak.specs.Taking.{Finds, IsReadyToAsk, IsUnderWhereHeld};
 ghost use Rattle.atomic_weak.specs.Questions.{Answers, CanAsk, IsReadyFor};
-ghost use Rattle.atomic_weak.specs.WeakSnapshots.{CanTakeNone};
+ghost use Rattle.atomic_weak.specs.WeakSnapshots.{CanTakeNone, StaysUnder};
 
 use crate::places::event_place;
 use crate::weak_snapshot::WeakSnapshot;
@@ -59,6 +59,7 @@ pub fn try_weak_snapshot<P: Protocol, D: Deed<P>>(
         → Misses P.Kind.fits domain.now 0 (weak_place place) same_view IsSameView
         (slot_in seen) (slot_in now) seat.old seat.new }
     ensures under { IfOk result (λ found. IsUnderWhereHeld found seat.new.view.core) }
+    ensures others { StaysUnder seat.old.view.core seat.new.view.core }
     ensures objects { KnowsStill seat.old.view.core seat.old seat.new }
     ensures room { HasRoom seat.old.view.core → HasRoom seat.new.view.core }
     ensures rest { IsAtRest domain.now seat.new }

@@ -3,7 +3,7 @@ ghost use Rattle.std.specs.Prelude.{◌≡◌, ◌↔◌, IsTrue, None};
 ghost use Rattle.core_events.specs.Steps.{HasRoom};
 ghost use Rattle.control_word.specs.Moves.{KnowsStill};
 ghost use Rattle.control_word.specs.Resting.{IsAtRest};
-ghost use Rattle.atomic_weak.specs.Ending.{Ends, without_snapshot};
+ghost use Rattle.atomic_weak.specs.Ending.{Ends, KeepsOthers, without_snapshot};
 ghost use Rattle.atomic_weak.specs.WeakSnapshots.{IsUnder};
 
 use acquire_retire::{Domain, Seat, SlotId};
@@ -65,6 +65,7 @@ pub fn end_weak<P: Protocol>(domain: &Domain<P>, seat: &mut Seat<P>, snapshot: W
     requires rest { IsAtRest domain.now seat.old }
     requires under { IsUnder snapshot seat.old.view.core }
     ensures ended { Ends P.Kind.fits domain.now snapshot seat.old seat.new }
+    ensures others { KeepsOthers snapshot seat.old.view.core seat.new.view.core }
     ensures client { seat.new.view.client ≡ seat.old.view.client }
     ensures objects { KnowsStill (without_snapshot snapshot seat.old.view.core)
         seat.old seat.new }

@@ -64,6 +64,17 @@ returns-in-Ok-Some-clause-under g c =
     (g.D.Deed.allows c.args.deed c.args.domain.now.protocol) c.ask.new.seat c.ask.result
     c.ask.ensures).found.1
 
+pub returns-in-Ok-Some-clause-others : goal.returns-in-Ok-Some-clause-others
+returns-in-Ok-Some-clause-others g c =
+    let p = protected c.args.place c.event_place.ensures c.requires.rest
+    (rw c.in-Ok-Some.field-0-is at (c.in-Ok-Some.ensures {u = tt}).protected)
+    c.acquire.ensures.objects in
+    let word = (c.in-Ok.ensures {u = tt}).word in
+    (settled p c.in-Ok.word word.0 word.1
+    (g.D.Deed.next c.args.deed c.args.domain.now.protocol)
+    (g.D.Deed.allows c.args.deed c.args.domain.now.protocol) c.ask.new.seat c.ask.result
+    c.ask.ensures).found.2
+
 pub returns-in-Ok-Some-clause-objects : goal.returns-in-Ok-Some-clause-objects
 returns-in-Ok-Some-clause-objects g c =
     let p = protected c.args.place c.event_place.ensures c.requires.rest

@@ -10,7 +10,7 @@ pub returns-in-Some-clause-ended : goal.returns-in-Some-clause-ended
 returns-in-Some-clause-ended g c =
     let word = sym c.word.ensures ∙ c.in-Some.is in
     let held = subst (λ (w : Option ℕ). IsGuardedBy w c.args.snapshot.slot
-    c.args.seat.now.view.core) word c.requires.under in
+    c.args.seat.now.view.core.owned c.args.seat.now.view.core.notes) word c.requires.under in
     subst (λ (w : Option ℕ). GivesUp g.P.Kind.PayloadKind.fits c.args.domain.now w
     c.args.snapshot.slot c.args.seat.now c.release.new.seat) (sym word)
     (released c.args.domain.now c.args.seat.now c.in-Some.word c.args.snapshot.slot
@@ -20,7 +20,7 @@ pub returns-in-Some-clause-objects : goal.returns-in-Some-clause-objects
 returns-in-Some-clause-objects g c =
     let word = sym c.word.ensures ∙ c.in-Some.is in
     let held = subst (λ (w : Option ℕ). IsGuardedBy w c.args.snapshot.slot
-    c.args.seat.now.view.core) word c.requires.under in
+    c.args.seat.now.view.core.owned c.args.seat.now.view.core.notes) word c.requires.under in
     subst (λ (w : Option ℕ). KnowsStill
     (without_guarded w c.args.snapshot.slot c.args.seat.now.view.core) c.args.seat.now
     c.release.new.seat) (sym word)
