@@ -63,7 +63,7 @@ module _ {P V : Type 0} (fits : List ℕ → Type 0) (d : DomainState P) (place 
     (next : OwnPart → OwnPart → V → PlainAct → ℕ → V)
     (allows : Plain → Plain → ℕ → V → V → Type 0) (old new : SeatState V) where
   guarded : (word : Option ℕ) (s : SlotId) → CanUse word old.view.core
-      → Takes fits d place next allows word s old new 
+      → Takes fits d place next allows word s old new
       → IsGuardedBy word s new.view.core.owned new.view.core.notes
   guarded None s free g =
       some_more s s refl old.view.core.owned new.view.core.owned

@@ -35,6 +35,8 @@ mod snapshots;
 mod storing;
 #[cfg(test)]
 mod tests;
+#[cfg(test)]
+mod tests_snapshots;
 mod weak_snapshot;
 
 pub use counted_handles::{LoadError, SlotId, Spent, Weak, WeakPlace};

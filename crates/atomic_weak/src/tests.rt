@@ -6,19 +6,16 @@ ghost use Rattle.control_word.specs.Resting.{IsAtRest};
 ghost use Rattle.retiring_stores.specs.Trials.{HasMade, weightless};
 ghost use Rattle.atomic_weak.specs.Trials.{IsFresh};
 
-use crate::{
-    WeakSnap, end_weak, load_weak, store_weak, try_load_weak, try_replace_weak, try_weak_snapshot,
-    weak_counted,
-};
+use crate::{load_weak, store_weak, try_load_weak, try_replace_weak};
 use acquire_retire::{Domain, OpenError, Outcome, Quota, Seat, Shape, SlotId, open_domain};
-use control_word::{drop_strong, weaken};
+use control_word::weaken;
 use counted_handles::{LoadError, Spent, Strong, WeakPlace};
 use plain_protocol::{AnyStep, NoLaw};
 use plain_state::PayloadKind;
 use std::test::Fail;
 
 /// Objects with whatever payload, which weigh nothing.
-struct AnyPayload;
+pub(crate) struct AnyPayload;
 
 impl PayloadKind for AnyPayload {
     ghost fits = { λ words. ⊤ };
@@ -32,11 +29,11 @@ impl PayloadKind for AnyPayload {
     ghost bounded = { weightless };
 }
 
-type Objects = NoLaw<AnyPayload>;
+pub(crate) type Objects = NoLaw<AnyPayload>;
 
-const SLOT: SlotId = SlotId(0);
+pub(crate) const SLOT: SlotId = SlotId(0);
 
-const CELL: WeakPlace = WeakPlace::Cell(0);
+pub(crate) const CELL: WeakPlace = WeakPlace::Cell(0);
 
 const SMALL: Shape = Shape {
     seats: 1,
@@ -47,7 +44,10 @@ const SMALL: Shape = Shape {
 };
 
 /// A domain of one seat, which may make one object and use so many adds, and that seat.
-fn open_alone(rt: &HostRuntime, adds: u64) -> Result<(Domain<Objects>, Seat<Objects>), OpenError>
+pub(crate) fn open_alone(
+    rt: &HostRuntime,
+    adds: u64,
+) -> Result<(Domain<Objects>, Seat<Objects>), OpenError>
     requires { adds ≤ 2 ^ 40 }
     ensures { IfOk result (λ r. IsFresh r.0 adds r.1) }
 {
@@ -57,7 +57,11 @@ fn open_alone(rt: &HostRuntime, adds: u64) -> Result<(Domain<Objects>, Seat<Obje
 }
 
 /// Makes an object in the slot, if that is free.
-fn make(domain: &Domain<Objects>, seat: &mut Seat<Objects>, slot: SlotId) -> Option<Strong>
+pub(crate) fn make(
+    domain: &Domain<Objects>,
+    seat: &mut Seat<Objects>,
+    slot: SlotId,
+) -> Option<Strong>
     requires rest { IsAtRest domain.now seat.old }
     requires may { May domain.now.shape (act.Claim slot) seat.old.view.core }
     ensures { IfSome result (λ strong. (strong.slot ≡ slot)
@@ -120,26 +124,5 @@ fn weak_references_are_loaded_until_the_adds_are_spent(rt: HostRuntime) -> Resul
     let Err(Spent) = load_weak(&rt, &domain, &mut seat, CELL, AnyStep) else {
         panic!(rt; "no add is left");
     };
-    Ok(())
-}
-
-#[test]
-fn a_weak_snapshot_outlives_the_count(rt: HostRuntime) -> Result<(), Fail> {
-    let (domain, mut seat) = open_alone(&rt, 3)?;
-    let strong = make(&domain, &mut seat, SLOT).expect(&rt, "a free slot");
-    let weak = weaken(&domain, &mut seat, &strong).expect(&rt, "an add is left");
-    store_weak(&domain, &mut seat, CELL, Some(weak), AnyStep);
-    let Ok(WeakSnap::Held(seen)) = try_weak_snapshot(&domain, &mut seat, CELL, AnyStep) else {
-        panic!(rt; "it lives");
-    };
-    assert_eq!(rt; (seen.slot(), weak_counted(&seen)), (SLOT, false));
-    assert_eq!(rt; domain.free_note(&seat), Some(2));
-    drop_strong(&domain, &mut seat, strong);
-    let Ok(WeakSnap::Zero) = try_weak_snapshot(&domain, &mut seat, CELL, AnyStep) else {
-        panic!(rt; "it has ended");
-    };
-    assert_eq!(rt; domain.free_note(&seat), Some(2));
-    end_weak(&domain, &mut seat, seen);
-    assert_eq!(rt; domain.free_note(&seat), Some(1));
     Ok(())
 }
