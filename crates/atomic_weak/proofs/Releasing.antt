@@ -20,8 +20,8 @@ use Rattle.protected_loads.proofs.Noting.{release_keeps}
 
 module _ {P V : Type 0} {fits : List ℕ → Type 0} (d : DomainState P) (j : ℕ) (u v kept : CoreView)
     (old new : SeatState V) where
-  -- A seat that has u has v once its word stands for nothing, and knows what it knew of the slots that
-  -- it has by `kept`
+  -- a seat that has u has v once its word stands for nothing, and knows what it knew of the slots
+  -- that it has by `kept`
   pub releases : (t : List Move) → old.view.core ≡ record u { trail = t }
       → bare (with_note j note.Idle u) ≡ bare v
       → ((x : SlotId) → HasSlot (show_seat kept) x → HasSlot (show_seat u) x)

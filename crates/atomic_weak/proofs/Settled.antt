@@ -8,7 +8,7 @@ use Rattle.plain_state.specs.declared.slot.SlotId.{SlotId}
 use Rattle.plain_state.specs.Places.{place_kind}
 use Rattle.plain_state.specs.State.{Plain}
 use Rattle.plain_protocol.specs.Owns.{OwnPart}
-use Rattle.core_events.specs.Steps.{HasAdd}
+use Rattle.core_events.specs.Steps.{HasAdd, HasRoom}
 use Rattle.acquire_retire.specs.Calls.{IsSameView, same_view}
 use Rattle.acquire_retire.specs.Domains.{DomainState}
 use Rattle.acquire_retire.specs.Notes.{least_free}
@@ -25,7 +25,19 @@ use Rattle.atomic_weak.proofs.Found.{Leaves, finds}
 use Rattle.atomic_weak.proofs.Named.{weak_kind}
 use Rattle.atomic_weak.proofs.Protected.{Protected}
 use Rattle.atomic_weak.proofs.Staying.{stays_found}
-use Rattle.atomic_weak.proofs.Under.{least_used, under_held}
+use Rattle.atomic_weak.proofs.Under.{least_used, room_after, under_held}
+
+-- all that a try leaves to its seat
+pub record Settles {P V : Type 0} (fits : List ℕ → Type 0) (d : DomainState P) (place : EventPlace)
+    (next : OwnPart → OwnPart → V → PlainAct → ℕ → V)
+    (allows : Plain → Plain → ℕ → V → V → Type 0) (a : WeakAnswer) (old new : SeatState V)
+    : Type 0 where
+  pub found : Finds fits d place next allows (least_free old.view.core) a old new
+  pub under : IsUnderWhereHeld a new.view.core
+  pub others : StaysUnder old.view.core new.view.core
+  pub objects : KnowsStill old.view.core old new
+  pub room : HasRoom old.view.core → HasRoom new.view.core
+  pub rest : IsAtRest d new
 
 module _ {P V : Type 0} {fits : List ℕ → Type 0} {d : DomainState P} {s : SlotId}
     {old mid : SeatState V} where
@@ -41,22 +53,20 @@ module _ {P V : Type 0} {fits : List ℕ → Type 0} {d : DomainState P} {s : Sl
         knows = knows;
       })
 
-  module _ {place : EventPlace} (p : Protected fits d place s old mid) (word : Option ℕ)
-      (is : word ≡ least_free old.view.core) (add : word ≡ None → HasAdd old.view.core) where
-    pub settled : (next : OwnPart → OwnPart → V → PlainAct → ℕ → V)
-        (allows : Plain → Plain → ℕ → V → V → Type 0) (new : SeatState V) (a : WeakAnswer)
-        → Answers fits d word s next allows a mid new
-        → Leaves d old new
-        (Finds fits d place next allows (least_free old.view.core) a old new
-        × IsUnderWhereHeld a new.view.core × StaysUnder old.view.core new.view.core)
-    settled next allows new a answers =
-        let free = least_used old.view.core word is add in
-        let leaves = finds p next allows word new free a answers in record {
-          found = (
-            subst (λ (w : Option ℕ). Finds fits d place next allows w a old new) is leaves.found,
-            under_held fits d place next allows old new word a free leaves.found,
-            stays_found fits d place next allows word old new free a leaves.found,
-          );
-          objects = leaves.objects;
-          rest = leaves.rest;
-        }
+  pub settles : {place : EventPlace} → Protected fits d place s old mid → (word : Option ℕ)
+      → word ≡ least_free old.view.core → (word ≡ None → HasAdd old.view.core)
+      → (next : OwnPart → OwnPart → V → PlainAct → ℕ → V)
+      (allows : Plain → Plain → ℕ → V → V → Type 0) (new : SeatState V) (a : WeakAnswer)
+      → Answers fits d word s next allows a mid new
+      → Settles fits d place next allows a old new
+  settles {place = place} p word is add next allows new a answers =
+      let free = least_used old.view.core word is add in
+      let leaves = finds p next allows word new free a answers in record {
+        found =
+            subst (λ (w : Option ℕ). Finds fits d place next allows w a old new) is leaves.found;
+        under = under_held fits d place next allows old new word a free leaves.found;
+        others = stays_found fits d place next allows word old new free a leaves.found;
+        objects = leaves.objects;
+        room = room_after fits d place next allows old new word a leaves.found;
+        rest = leaves.rest;
+      }

@@ -10,7 +10,7 @@ use Rattle.plain_protocol.specs.Owns.{OwnPart}
 use Rattle.core_events.specs.declared.view.CoreView.{CoreView}
 use Rattle.core_events.specs.declared.view.Note.{Note}
 use Rattle.core_events.specs.declared.view.Note.TheVariants as note
-use Rattle.core_events.specs.Steps.{HasAdd}
+use Rattle.core_events.specs.Steps.{HasAdd, HasRoom}
 use Rattle.core_events.specs.Views.{Holds, note_of}
 use Rattle.acquire_retire.specs.Domains.{DomainState}
 use Rattle.acquire_retire.specs.Notes.{is_free, least_free}
@@ -90,3 +90,13 @@ module _ {P V : Type 0} (fits : List ℕ → Type 0) (d : DomainState P) (place 
       new.view.core.owned new.view.core.notes) (sym found.0)
       (guarded word snap.slot free found.1) in
       (under, holds_guarded snap.word snap.slot new.view.core under)
+
+  -- and has as much room as it had
+  pub room_after : (word : Option ℕ) (a : WeakAnswer)
+      → Finds fits d place next allows word a old new → HasRoom old.view.core
+      → HasRoom new.view.core
+  room_after word answer.Null null = subst HasRoom (sym null.becomes.core)
+  room_after None answer.Zero found = subst HasRoom (sym found.core)
+  room_after (Some j) answer.Zero found = subst HasRoom (sym found.core)
+  room_after None (answer.Held snap) found = subst HasRoom (sym found.1.core)
+  room_after (Some j) (answer.Held snap) found = subst HasRoom (sym found.1.core)

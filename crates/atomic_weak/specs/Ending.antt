@@ -14,7 +14,8 @@ use Rattle.control_word.specs.Calls.{DropsStrong, without_strong}
 use Rattle.control_word.specs.Moves.{Becomes}
 use Rattle.atomic_weak.specs.WeakSnapshots.{IsUnder, WeakSnap}
 
--- what a seat has, but for its trail, once its word stands for nothing, or its reference is given up
+-- what a seat has, but for its trail, once its word stands for nothing, or its reference is given
+-- up
 abbrev pub without_guarded : Option ℕ → SlotId → CoreView → CoreView
 without_guarded None s v = without_strong s v
 without_guarded (Some j) s v = with_note j note.Idle v

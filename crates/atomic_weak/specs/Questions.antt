@@ -28,8 +28,8 @@ use Rattle.control_word.specs.Moves.{Becomes, KnowsStill, last_core}
 use Rattle.atomic_weak.specs.declared.snapshots.WeakSnap.{WeakSnap as WeakAnswer}
 use Rattle.atomic_weak.specs.declared.snapshots.WeakSnap.TheVariants as answer
 
--- the act that asks, by a word or by none; what it answers where the object lives, and where no strong
--- reference is left
+-- the act that asks, by a word or by none; what it answers where the object lives, and where no
+-- strong reference is left
 abbrev pub asked_by : Option ℕ → SlotId → Act
 asked_by None s = act.Add s
 asked_by (Some j) s = act.Alive j
@@ -48,8 +48,8 @@ abbrev pub Lives : Option ℕ → ℕ → ℕ → Type 0
 Lives None w n = w < ZERO
 Lives (Some j) w n = 0 < n
 
--- the moves that announce s for disposal, where there is a word for it; those that take that back with
--- the protection; and all moves of a question by its answer
+-- the moves that announce s for disposal, where there is a word for it; those that take that back
+-- with the protection; and all moves of a question by its answer
 abbrev pub prepared_by : Option ℕ → SlotId → List Move
 prepared_by None s = []
 prepared_by (Some j) s = move (act.Announce j Disposal s) outcome.Plain ∷ []
@@ -67,9 +67,9 @@ alive_by word s =
 abbrev pub none_by : Option ℕ → SlotId → List Move
 none_by word s = prepared_by word s ++ move (asked_by word s) (none_left word) ∷ closed_by word
 
--- What a seat with v has, but for its trail, once it has announced s; once it is under a weak snapshot
--- of s; once it knows that no strong reference is left, for which an add is used all the same; and
--- once its first word stands for nothing
+-- What a seat with v has, but for its trail, once it has announced s; once it is under a weak
+-- snapshot of s; once it knows that no strong reference is left, for which an add is used all the
+-- same; and once its first word stands for nothing
 abbrev pub with_prepared : Option ℕ → SlotId → CoreView → CoreView
 with_prepared None s v = v
 with_prepared (Some j) s v = with_note j (note.Announced Disposal s) v
@@ -113,8 +113,8 @@ module _ {P V : Type 0} (fits : List ℕ → Type 0) (d : DomainState P) (word :
 
   module _ (next : OwnPart → OwnPart → V → PlainAct → ℕ → V)
       (allows : Plain → Plain → ℕ → V → V → Type 0) where
-    -- It has prepared, asked with the deed and found o, and taken back what it had announced. At the
-    -- answer it had `under`, and afterwards v.
+    -- It has prepared, asked with the deed and found o, and taken back what it had announced. At
+    -- the answer it had `under`, and afterwards v.
     pub record Asks (o : Outcome) (under v : CoreView) (closing : List Move)
         (old new : SeatState V) : Type 0 where
       pub mid : SeatState V

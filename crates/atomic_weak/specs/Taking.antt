@@ -1,5 +1,5 @@
--- How a seat comes under a weak snapshot of what a weak place holds: it protects a slot by its first
--- word, and asks whether the object lives.
+-- How a seat comes under a weak snapshot of what a weak place holds: it protects a slot by its
+-- first word, and asks whether the object lives.
 use Rattle.std.specs.Prelude.{ℕ, ◌≡◌, List, ◌++◌, Option}
 use Rattle.plain_state.specs.declared.act.EventPlace.{EventPlace}
 use Rattle.plain_state.specs.declared.act.PlainAct.{PlainAct}
@@ -44,8 +44,8 @@ module _ {P V : Type 0} (fits : List ℕ → Type 0) (d : DomainState P) (place 
 
   module _ (next : OwnPart → OwnPart → V → PlainAct → ℕ → V)
       (allows : Plain → Plain → ℕ → V → V → Type 0) (word : Option ℕ) where
-    -- It has come under a weak snapshot of s, whose object lived at the step that asked. It knows the
-    -- object as the domain showed it at the check.
+    -- It has come under a weak snapshot of s, whose object lived at the step that asked. It knows
+    -- the object as the domain showed it at the check.
     pub record Takes (s : SlotId) (old new : SeatState V) : Type 0 where
       pub mid : SeatState V
       pub protects : ProtectsWeakly s old mid

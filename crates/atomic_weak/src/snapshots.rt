@@ -34,12 +34,13 @@ pub enum WeakSnap {
 }
 
 /// A weak snapshot of what the place holds, by the least of the announcement words 1 to 3 that stands for nothing. The
-/// slot is protected by the first word as `try_load_weak` does it, then announced for disposal, and its strong word is
-/// read: `Zero` exactly where that counts no reference. Where all three words are in use an add asks instead, and the
-/// snapshot is counted. `Spent` comes first, exactly where all three are in use and the seat has used all adds of its
-/// quota. `Null` exactly where the first step found null, and it is the only step then. `Moved` exactly where the place
-/// held another content after the slot was announced. The deed holds at the look where that finds null, else at the step
-/// that asks. At most seven steps.
+/// slot is protected by the first word as `try_load_weak` does it, then announced for disposal by that word, and its
+/// strong word is read: `Zero` exactly where that counts no reference. Where all three words are in use an add asks
+/// instead: `Zero` exactly where it finds the zero flag, and else the snapshot is counted. `Spent` comes first, exactly
+/// where all three are in use and the seat has used all adds of its quota, and then nothing has changed. `Null` exactly
+/// where the first step found null, and it is the only step then. `Moved` exactly where the place held another content
+/// after the slot was announced; only the trail has grown then. The deed holds at the look where that finds null, else
+/// at the step that asks. At most seven steps, and one add where all three words are in use.
 pub fn try_weak_snapshot<P: Protocol, D: Deed<P>>(
     domain: &Domain<P>,
     seat: &mut Seat<P>,

@@ -1,4 +1,4 @@
-use Rattle.std.proofs.Common.{ap, sym, subst}
+use Rattle.std.proofs.Common.{ap, rules, sym, subst}
 use Rattle.std.specs.Prelude.{Ok, Option}
 use Rattle.plain_state.specs.declared.act.EventPlace.{EventPlace}
 use Rattle.plain_state.specs.declared.slot.SlotId.{SlotId}
@@ -6,7 +6,7 @@ use Rattle.core_events.specs.declared.act.Act.TheVariants as act
 use Rattle.acquire_retire.specs.Calls.{IsReady, IsSameView, same_view}
 use Rattle.protected_loads.specs.Loads.{FindsNull, Misses}
 use Rattle.atomic_weak.proofs.Protected.{ready_for}
-use Rattle.atomic_weak.proofs.Settled.{protected, settled}
+use Rattle.atomic_weak.proofs.Settled.{protected, settles}
 use Rattle.atomic_weak.proofs.snapshots.try_weak_snapshot.Goals as goal
 
 pub acquire-requires-clause-look : goal.acquire-requires-clause-look
@@ -42,57 +42,23 @@ returns-in-Ok-None-clause-found g c =
     c.acquire.new.seat)
     c.event_place.ensures ((c.in-Ok-None.ensures {u = tt}).null (ap Ok c.in-Ok-None.field-0-is))
 
-pub returns-in-Ok-Some-clause-found : goal.returns-in-Ok-Some-clause-found
-returns-in-Ok-Some-clause-found g c =
+pub returns-in-Ok-Some : goal.returns-in-Ok-Some
+returns-in-Ok-Some g c =
     let p = protected c.args.place c.event_place.ensures c.requires.rest
     (rw c.in-Ok-Some.field-0-is at (c.in-Ok-Some.ensures {u = tt}).protected)
     c.acquire.ensures.objects in
     let word = (c.in-Ok.ensures {u = tt}).word in
-    (settled p c.in-Ok.word word.0 word.1
+    let leaves = settles p c.in-Ok.word word.0 word.1
     (g.D.Deed.next c.args.deed c.args.domain.now.protocol)
     (g.D.Deed.allows c.args.deed c.args.domain.now.protocol) c.ask.new.seat c.ask.result
-    c.ask.ensures).found.0
-
-pub returns-in-Ok-Some-clause-under : goal.returns-in-Ok-Some-clause-under
-returns-in-Ok-Some-clause-under g c =
-    let p = protected c.args.place c.event_place.ensures c.requires.rest
-    (rw c.in-Ok-Some.field-0-is at (c.in-Ok-Some.ensures {u = tt}).protected)
-    c.acquire.ensures.objects in
-    let word = (c.in-Ok.ensures {u = tt}).word in
-    (settled p c.in-Ok.word word.0 word.1
-    (g.D.Deed.next c.args.deed c.args.domain.now.protocol)
-    (g.D.Deed.allows c.args.deed c.args.domain.now.protocol) c.ask.new.seat c.ask.result
-    c.ask.ensures).found.1
-
-pub returns-in-Ok-Some-clause-others : goal.returns-in-Ok-Some-clause-others
-returns-in-Ok-Some-clause-others g c =
-    let p = protected c.args.place c.event_place.ensures c.requires.rest
-    (rw c.in-Ok-Some.field-0-is at (c.in-Ok-Some.ensures {u = tt}).protected)
-    c.acquire.ensures.objects in
-    let word = (c.in-Ok.ensures {u = tt}).word in
-    (settled p c.in-Ok.word word.0 word.1
-    (g.D.Deed.next c.args.deed c.args.domain.now.protocol)
-    (g.D.Deed.allows c.args.deed c.args.domain.now.protocol) c.ask.new.seat c.ask.result
-    c.ask.ensures).found.2
-
-pub returns-in-Ok-Some-clause-objects : goal.returns-in-Ok-Some-clause-objects
-returns-in-Ok-Some-clause-objects g c =
-    let p = protected c.args.place c.event_place.ensures c.requires.rest
-    (rw c.in-Ok-Some.field-0-is at (c.in-Ok-Some.ensures {u = tt}).protected)
-    c.acquire.ensures.objects in
-    let word = (c.in-Ok.ensures {u = tt}).word in
-    (settled p c.in-Ok.word word.0 word.1
-    (g.D.Deed.next c.args.deed c.args.domain.now.protocol)
-    (g.D.Deed.allows c.args.deed c.args.domain.now.protocol) c.ask.new.seat c.ask.result
-    c.ask.ensures).objects
-
-pub returns-in-Ok-Some-clause-rest : goal.returns-in-Ok-Some-clause-rest
-returns-in-Ok-Some-clause-rest g c =
-    let p = protected c.args.place c.event_place.ensures c.requires.rest
-    (rw c.in-Ok-Some.field-0-is at (c.in-Ok-Some.ensures {u = tt}).protected)
-    c.acquire.ensures.objects in
-    let word = (c.in-Ok.ensures {u = tt}).word in
-    (settled p c.in-Ok.word word.0 word.1
-    (g.D.Deed.next c.args.deed c.args.domain.now.protocol)
-    (g.D.Deed.allows c.args.deed c.args.domain.now.protocol) c.ask.new.seat c.ask.result
-    c.ask.ensures).rest
+    c.ask.ensures in record {
+      spent = search rules;
+      refused = search rules;
+      found = leaves.found;
+      moved = search rules;
+      under = leaves.under;
+      others = leaves.others;
+      objects = leaves.objects;
+      room = leaves.room;
+      rest = leaves.rest;
+    }
