@@ -21,7 +21,7 @@ use Rattle.atomic_weak.specs.Questions.{Answers}
 use Rattle.atomic_weak.specs.Taking.{Finds, IsUnderWhereHeld}
 use Rattle.atomic_weak.specs.WeakSnapshots.{StaysUnder}
 use Rattle.atomic_weak.specs.declared.snapshots.WeakSnap.{WeakSnap as WeakAnswer}
-use Rattle.atomic_weak.proofs.Found.{Leaves, finds}
+use Rattle.atomic_weak.proofs.Found.{finds}
 use Rattle.atomic_weak.proofs.Named.{weak_kind}
 use Rattle.atomic_weak.proofs.Protected.{Protected}
 use Rattle.atomic_weak.proofs.Staying.{stays_found}

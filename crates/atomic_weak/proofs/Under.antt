@@ -54,7 +54,7 @@ pub least_used : (v : CoreView) (word : Option ℕ) → word ≡ least_free v
 least_used v None is add = add refl
 least_used v (Some j) is add = least_is_free v j (sym is)
 
-holds_guarded : (word : Option ℕ) (s : SlotId) (v : CoreView) → IsGuardedBy word s v.owned v.notes
+pub holds_guarded : (word : Option ℕ) (s : SlotId) (v : CoreView) → IsGuardedBy word s v.owned v.notes
     → Holds v s
 holds_guarded None s v owned = omega arith
 holds_guarded (Some j) s v noted = holds_disposal v j s noted.2
