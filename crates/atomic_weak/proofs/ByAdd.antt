@@ -25,7 +25,7 @@ use Rattle.control_word.specs.Moves.{Becomes, KnowsStill}
 use Rattle.control_word.proofs.Becoming.{Comes, knows_after, one_step}
 use Rattle.control_word.proofs.Finding.{flagged, strong_word}
 use Rattle.atomic_weak.specs.Questions.{CanAsk, FindsAlive, FindsNone, closed_by, without_first}
-use Rattle.atomic_weak.proofs.Answers.{prepared_none, up_below}
+use Rattle.atomic_weak.proofs.Telling.{prepared_none, up_below}
 use Rattle.atomic_weak.proofs.Noted.{has_released, holds_weak}
 use Rattle.atomic_weak.proofs.Releasing.{releases}
 

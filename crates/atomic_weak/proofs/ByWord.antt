@@ -29,7 +29,7 @@ use Rattle.control_word.proofs.Finding.{strong_word}
 use Rattle.protected_loads.proofs.Noting.{beside, second_stays, written, written_back}
 use Rattle.protected_loads.proofs.Telling.{four_notes}
 use Rattle.atomic_weak.specs.Questions.{CanAsk, FindsAlive, FindsNone, Prepares, closed_by, prepared_by, without_first}
-use Rattle.atomic_weak.proofs.Answers.{alive_some, zeroed_none}
+use Rattle.atomic_weak.proofs.Telling.{alive_some, zeroed_none}
 use Rattle.atomic_weak.proofs.Noted.{has_announced, has_protected, has_released, holds_weak, noted_there}
 use Rattle.atomic_weak.proofs.Releasing.{releases}
 

@@ -3,7 +3,7 @@ pub mod Made
 pub mod Noted
 pub mod Releasing
 pub mod Released
-pub mod Answers
+pub mod Telling
 pub mod ByWord
 pub mod ByAdd
 pub mod Protected

@@ -1,4 +1,14 @@
 //! A weak snapshot of what a weak place holds: its object is read, although its count may end meanwhile.
+//!
+//! The reader protects the slot weakly by its first word, so that it isn't given again. Then it announces the slot for
+//! disposal by one of the words 1 to 3, and then it reads the strong word. Where that counts a reference the object can
+//! only end later: whoever ends it scans after that before it may destroy anything, and so reads the announcement, and
+//! the slot isn't ripe as long as the reader keeps it. Where it counts none, the one who ended the object may have
+//! scanned before the announcement stood there, so the reader has nothing and takes it back. A read before the
+//! announcement would tell nothing of a scan between the two.
+//!
+//! Where the reader has no word left it adds to the count instead. An add that finds no zero flag counts, also where it
+//! finds 0: whoever is to finish the object finds the count then, and lets it live.
 ghost use Rattle.std.specs.Prelude.{ℕ, ◌≡◌, ◌↔◌, Err, IfOk, IsErr, None, Some};
 ghost use Rattle.core_events.specs.Steps.{HasAdd, HasRoom};
 ghost use Rattle.core_events.specs.Words.{slot_in};

@@ -1,4 +1,4 @@
-use Rattle.atomic_weak.proofs.Answers.{dead, prepared_none}
+use Rattle.atomic_weak.proofs.Telling.{dead, prepared_none}
 use Rattle.atomic_weak.proofs.ByAdd.{finds_alive, finds_none, may_add}
 use Rattle.atomic_weak.proofs.snapshots.count.Goals as goal
 

@@ -1,4 +1,4 @@
-use Rattle.atomic_weak.proofs.Answers.{zeroed}
+use Rattle.atomic_weak.proofs.Telling.{zeroed}
 use Rattle.atomic_weak.proofs.ByWord.{finds_alive, finds_none, may_ask, prepares}
 use Rattle.atomic_weak.proofs.snapshots.guard.Goals as goal
 
