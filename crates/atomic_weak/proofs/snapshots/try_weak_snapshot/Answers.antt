@@ -5,8 +5,9 @@ use Rattle.plain_state.specs.declared.slot.SlotId.{SlotId}
 use Rattle.core_events.specs.declared.act.Act.TheVariants as act
 use Rattle.acquire_retire.specs.Calls.{IsReady, IsSameView, same_view}
 use Rattle.protected_loads.specs.Loads.{FindsNull, Misses}
-use Rattle.atomic_weak.proofs.Protected.{ready_for}
+use Rattle.atomic_weak.proofs.Protected.{can_ask, ready_for}
 use Rattle.atomic_weak.proofs.Settled.{protected, settles}
+use Rattle.atomic_weak.proofs.Under.{least_used}
 use Rattle.atomic_weak.proofs.snapshots.try_weak_snapshot.Goals as goal
 
 pub acquire-requires-clause-look : goal.acquire-requires-clause-look
@@ -15,6 +16,14 @@ acquire-requires-clause-look g c =
     IsReady (g.D.Deed.ready c.args.deed c.args.domain.now.protocol) c.args.domain.now.shape
     (act.Look y) c.args.seat.now.view)
     (sym c.event_place.ensures) c.requires.deed.look
+
+pub ask-requires-clause-may : goal.ask-requires-clause-may
+ask-requires-clause-may g c =
+    let p = protected c.args.place c.event_place.ensures c.requires.rest
+    (rw c.in-Ok-Some.field-0-is at (c.in-Ok-Some.ensures {u = tt}).protected)
+    c.acquire.ensures.objects in
+    let word = (c.in-Ok.ensures {u = tt}).word in
+    can_ask p c.in-Ok.word (least_used c.args.seat.now.view.core c.in-Ok.word word.0 word.1)
 
 pub ask-requires-clause-deed : goal.ask-requires-clause-deed
 ask-requires-clause-deed g c =
