@@ -1,2 +1,13 @@
 pub mod Named
 pub mod Made
+pub mod Noted
+pub mod Releasing
+pub mod Released
+pub mod Telling
+pub mod ByWord
+pub mod ByAdd
+pub mod Protected
+pub mod Found
+pub mod Under
+pub mod Staying
+pub mod Settled

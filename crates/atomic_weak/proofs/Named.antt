@@ -10,7 +10,7 @@ use Rattle.plain_state.specs.declared.slot.SlotId.{SlotId}
 use Rattle.plain_state.specs.Places.{place_kind}
 use Rattle.atomic_weak.specs.Places.{weak_place}
 
-weak_kind : (p : WeakPlace) → place_kind (weak_place p) ≡ Weak
+pub weak_kind : (p : WeakPlace) → place_kind (weak_place p) ≡ Weak
 weak_kind (place.Cell i) = refl
 weak_kind (place.Field s) = refl
 

@@ -9,6 +9,10 @@
 //! handle gives no right by itself: a call asks that the seat's list has its slot, and that the seat is in no call,
 //! and it leaves the seat so. No call takes memory, and each returns but `load_weak`, which may wait.
 //!
+//! A weak snapshot reads an object that may end meanwhile. A load's protection is followed by an announcement for
+//! disposal and a read of the count: where that finds references, nobody destroys the object until `end_weak`, although
+//! it may end. Where the seat's words 1 to 3 are all in use the snapshot is counted.
+//!
 //! A weak reference keeps its slot from being given again, and not its object alive: `upgrade` tells whether it lives.
 //! It isn't promised that the place still holds the slot when a load returns, nor that a place which changes all the
 //! time is ever loaded, nor when what stood in a place is given up.
@@ -18,15 +22,25 @@
 //! let Some(found) = try_load_weak(&domain, &mut seat, WeakPlace::Cell(0), Still)? else { .. };  // or Moved, Spent
 //! load_weak(&rt, &domain, &mut seat, WeakPlace::Field(slot), Still)?;                  // tries until it holds still
 //! try_replace_weak(&domain, &mut seat, WeakPlace::Cell(0), expected, Some(other), deed)?;    // or LostWeak
+//! if let WeakSnap::Held(seen) = try_weak_snapshot(&domain, &mut seat, WeakPlace::Cell(0), Still)? {
+//!     slot_store::read(&domain, &mut seat, seen.slot(), 0);                  // it may have ended, and isn't destroyed
+//!     end_weak(&domain, &mut seat, seen);
+//! }
 //! ```
 #![tactic(auto)]
 
 mod loading;
 mod places;
+mod snapshots;
 mod storing;
 #[cfg(test)]
 mod tests;
+#[cfg(test)]
+mod tests_snapshots;
+mod weak_snapshot;
 
 pub use counted_handles::{LoadError, SlotId, Spent, Weak, WeakPlace};
 pub use loading::{load_weak, try_load_weak};
+pub use snapshots::{WeakSnap, try_weak_snapshot};
 pub use storing::{LostWeak, store_weak, try_replace_weak};
+pub use weak_snapshot::{WeakSnapshot, end_weak, weak_counted};

@@ -15,7 +15,7 @@ use plain_state::PayloadKind;
 use std::test::Fail;
 
 /// Objects with whatever payload, which weigh nothing.
-struct AnyPayload;
+pub(crate) struct AnyPayload;
 
 impl PayloadKind for AnyPayload {
     ghost fits = { λ words. ⊤ };
@@ -29,11 +29,11 @@ impl PayloadKind for AnyPayload {
     ghost bounded = { weightless };
 }
 
-type Objects = NoLaw<AnyPayload>;
+pub(crate) type Objects = NoLaw<AnyPayload>;
 
-const SLOT: SlotId = SlotId(0);
+pub(crate) const SLOT: SlotId = SlotId(0);
 
-const CELL: WeakPlace = WeakPlace::Cell(0);
+pub(crate) const CELL: WeakPlace = WeakPlace::Cell(0);
 
 const SMALL: Shape = Shape {
     seats: 1,
@@ -44,7 +44,10 @@ const SMALL: Shape = Shape {
 };
 
 /// A domain of one seat, which may make one object and use so many adds, and that seat.
-fn open_alone(rt: &HostRuntime, adds: u64) -> Result<(Domain<Objects>, Seat<Objects>), OpenError>
+pub(crate) fn open_alone(
+    rt: &HostRuntime,
+    adds: u64,
+) -> Result<(Domain<Objects>, Seat<Objects>), OpenError>
     requires { adds ≤ 2 ^ 40 }
     ensures { IfOk result (λ r. IsFresh r.0 adds r.1) }
 {
@@ -54,7 +57,11 @@ fn open_alone(rt: &HostRuntime, adds: u64) -> Result<(Domain<Objects>, Seat<Obje
 }
 
 /// Makes an object in the slot, if that is free.
-fn make(domain: &Domain<Objects>, seat: &mut Seat<Objects>, slot: SlotId) -> Option<Strong>
+pub(crate) fn make(
+    domain: &Domain<Objects>,
+    seat: &mut Seat<Objects>,
+    slot: SlotId,
+) -> Option<Strong>
     requires rest { IsAtRest domain.now seat.old }
     requires may { May domain.now.shape (act.Claim slot) seat.old.view.core }
     ensures { IfSome result (λ strong. (strong.slot ≡ slot)

@@ -1,5 +1,5 @@
--- What a load of the cache's cell with the deed RecallValue asks, and what it leaves of a seat.
-use Rattle.std.proofs.Common.{◌≡◌, inl, inr, ℕ, suc, zero, List, [], ◌∷◌, ◌++◌, refl, sym, ap, subst, ◌∙◌, arith, Option, Some, None}
+-- What a load of the cache's cell with the deed RecallValue leaves of a seat.
+use Rattle.std.proofs.Common.{◌≡◌, ℕ, suc, zero, List, [], ◌∷◌, ◌++◌, refl, sym, ap, subst, ◌∙◌, arith, Option, Some, None}
 use Rattle.std.specs.Prelude.{Err, IfOk, Ok, Result, if◌then◌else◌}
 use Rattle.plain_state.specs.declared.act.EventPlace.TheVariants.{WeakCell}
 use Rattle.plain_state.specs.declared.act.PlainAct.{PlainAct}
@@ -11,6 +11,7 @@ use Rattle.core_events.specs.declared.view.CoreView.{CoreView}
 use Rattle.core_events.specs.Shows.{show_seat}
 use Rattle.core_events.specs.Words.{slot_in}
 use Rattle.core_invariant.proofs.Kit.{one_same, times_push}
+use Rattle.counted_handles.specs.Handles.{Handle}
 use Rattle.counted_handles.specs.declared.refusal.LoadError.{LoadError}
 use Rattle.counted_handles.specs.declared.refusal.LoadError.TheVariants as refused
 use Rattle.domain_rule.specs.Views.{object_in, own_of}
@@ -18,12 +19,12 @@ use Rattle.acquire_retire.specs.Domains.{DomainState}
 use Rattle.acquire_retire.specs.Seats.{SeatState}
 use Rattle.control_word.specs.Resting.{IsAtRest}
 use Rattle.protected_loads.specs.Loads.{Misses}
-use Rattle.protected_loads.specs.References.{IsReadyToLoad, Loads}
+use Rattle.protected_loads.specs.References.{Loads}
 use Rattle.protected_loads.proofs.Learning.{batch, batch_loaded, batch_moved, checked, client_found, client_moved, client_null, has_found, known_found}
 use Rattle.protocol_pairs.specs.Values.{value_of}
 use Rattle.example_cache.specs.Views.{View}
-use Rattle.example_cache.specs.Deeds.{RecallReady, RecallTells, recall_next}
-use Rattle.example_cache.specs.Calls.{Finds, FoundEnded, HasEnded, recalled_too}
+use Rattle.example_cache.specs.Deeds.{RecallTells, recall_next}
+use Rattle.example_cache.specs.Calls.{Finds, FoundEnded, HasEnded, recalled_too, weak_named}
 
 -- a seat knows the value of what it has
 pub value_known : (s : SlotId) (seat : SeatState View) → HasSlot (show_seat seat.view.core) s
@@ -38,14 +39,6 @@ recall_same own after v a (suc s) = refl
 
 module _ {P : Type 0} (kind : List ℕ → Type 0) (d : DomainState P) (cell : ℕ)
     (old : SeatState View) where
-  -- THE DEED is ready
-  pub ready : IsReadyToLoad kind d (WeakCell cell) (RecallReady cell) old
-  ready = record {
-    look = λ w. inl refl;
-    check = λ s mid announces w. inr (0, refl);
-  }
-
-  -- WHAT IT LEAVES
   module _ (rest : IsAtRest d old) (new : SeatState View) where
     pub finds : (found : Option SlotId)
         → Loads kind d (WeakCell cell) recall_next (RecallTells cell) found old new
@@ -88,29 +81,31 @@ module _ {P : Type 0} (kind : List ℕ → Type 0) (d : DomainState P) (cell : �
         ∙ ap (λ (v : View). v.remembered) r.protects.announces.client
 
     -- whatever the load answers
-    module _ (r : Result (Option SlotId) LoadError) (same : r ≡ Err refused.Spent → new ≡ old)
+    module _ (r : Result (Option Handle) LoadError) (same : r ≡ Err refused.Spent → new ≡ old)
         (loaded : IfOk r (λ found.
-        Loads kind d (WeakCell cell) recall_next (RecallTells cell) found old new))
+        Loads kind d (WeakCell cell) recall_next (RecallTells cell) (weak_named found) old new))
         (moved : (seen now : ℕ) → r ≡ Err (refused.Moved seen now)
         → Misses kind d 0 (WeakCell cell) recall_next (RecallTells cell) (slot_in seen)
         (slot_in now) old new) where
-      abbrev After : Result (Option SlotId) LoadError → Type 0
+      abbrev pub After : Result (Option Handle) LoadError → Type 0
       After o =
-          IfOk o (λ found. Finds kind d cell found old new)
+          IfOk o (λ found. Finds kind d cell (weak_named found) old new)
           × (new.view.client.remembered ≡ old.view.client.remembered)
           × (batch new.view.core ≡ batch old.view.core)
 
       pub answered : After r
       answered = go r refl loaded
         where
-          go : (o : Result (Option SlotId) LoadError) → r ≡ o
+          go : (o : Result (Option Handle) LoadError) → r ≡ o
               → IfOk o (λ found.
-              Loads kind d (WeakCell cell) recall_next (RecallTells cell) found old new)
+              Loads kind d (WeakCell cell) recall_next (RecallTells cell) (weak_named found) old
+              new)
               → After o
           go (Ok found) is l = (
-            finds found l,
-            same_remembered found l,
-            batch_loaded kind d (WeakCell cell) recall_next (RecallTells cell) old new found l,
+            finds (weak_named found) l,
+            same_remembered (weak_named found) l,
+            batch_loaded kind d (WeakCell cell) recall_next (RecallTells cell) old new
+                (weak_named found) l,
           )
           go (Err refused.Spent) is l =
               let e = same is in (
@@ -131,38 +126,25 @@ module _ {P : Type 0} (kind : List ℕ → Type 0) (d : DomainState P) (cell : �
               )
 
 -- the same of a cell with another name
-module _ {P : Type 0} (kind : List ℕ → Type 0) (d : DomainState P) (i cell : ℕ) (is : i ≡ cell)
-    (old : SeatState View) where
-  pub ready_at : IsReadyToLoad kind d (WeakCell i) (RecallReady cell) old
-  ready_at = subst (λ j. IsReadyToLoad kind d (WeakCell j) (RecallReady cell) old) (sym is)
-      (ready kind d cell old)
-
-  module _ (rest : IsAtRest d old) (new : SeatState View) where
-    pub finds_at : (found here : Option SlotId) → found ≡ here
-        → Loads kind d (WeakCell i) recall_next (RecallTells cell) found old new
-        → Finds kind d cell here old new
-    finds_at found here at loads =
-        subst (λ o. Finds kind d cell o old new) at (finds kind d cell old rest new found
-        (subst (λ j. Loads kind d (WeakCell j) recall_next (RecallTells cell) found old new) is
-        loads))
-
-    pub answered_at : (r : Result (Option SlotId) LoadError)
-        → (r ≡ Err refused.Spent → new ≡ old)
-        → IfOk r (λ found.
-        Loads kind d (WeakCell i) recall_next (RecallTells cell) found old new)
-        → ((seen now : ℕ) → r ≡ Err (refused.Moved seen now)
-        → Misses kind d 0 (WeakCell i) recall_next (RecallTells cell) (slot_in seen) (slot_in now)
-        old new)
-        → (new.view.client.remembered ≡ old.view.client.remembered)
-        × (batch new.view.core ≡ batch old.view.core)
-    answered_at r same loaded moved =
-        let a = answered kind d cell old rest new r same
-        (subst (λ j. IfOk r (λ found.
-        Loads kind d (WeakCell j) recall_next (RecallTells cell) found old new)) is loaded)
-        (λ seen now e.
-        subst (λ j. Misses kind d 0 (WeakCell j) recall_next (RecallTells cell) (slot_in seen)
-        (slot_in now) old new) is (moved seen now e)) in
-        (a.1, a.2)
+pub answered_at : {P : Type 0} (kind : List ℕ → Type 0) (d : DomainState P) (i cell : ℕ)
+    → i ≡ cell → (old : SeatState View) → IsAtRest d old → (new : SeatState View)
+    (r : Result (Option Handle) LoadError) → (r ≡ Err refused.Spent → new ≡ old)
+    → IfOk r (λ found.
+    Loads kind d (WeakCell i) recall_next (RecallTells cell) (weak_named found) old new)
+    → ((seen now : ℕ) → r ≡ Err (refused.Moved seen now)
+    → Misses kind d 0 (WeakCell i) recall_next (RecallTells cell) (slot_in seen) (slot_in now)
+    old new)
+    → IfOk r (λ found. Finds kind d cell (weak_named found) old new)
+    × (new.view.client.remembered ≡ old.view.client.remembered)
+    × (batch new.view.core ≡ batch old.view.core)
+answered_at kind d i cell is old rest new r same loaded moved =
+    answered kind d cell old rest new r same
+    (subst (λ j. IfOk r (λ found.
+    Loads kind d (WeakCell j) recall_next (RecallTells cell) (weak_named found) old new)) is
+    loaded)
+    (λ seen now e.
+    subst (λ j. Misses kind d 0 (WeakCell j) recall_next (RecallTells cell) (slot_in seen)
+    (slot_in now) old new) is (moved seen now e))
 
 -- what the seat found has ended
 pub ended_found : {P : Type 0} (kind : List ℕ → Type 0) (d : DomainState P) (cell : ℕ)

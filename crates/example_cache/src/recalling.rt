@@ -13,12 +13,12 @@ ghost use Rattle.plain_state.specs.Lists.{times};
 
 use crate::deeds::RecallValue;
 use crate::law::CacheLaw;
-use acquire_retire::{Domain, EventPlace, Seat};
+use acquire_retire::{Domain, Seat};
+use atomic_weak::try_load_weak;
 use control_word::{UpgradeError, drop_weak, upgrade};
-use counted_handles::{LoadError, Strong, Weak};
+use counted_handles::{LoadError, Strong, Weak, WeakPlace};
 use plain_protocol::Still;
 use plain_state::PayloadKind;
-use protected_loads::try_load;
 
 /// Why no value was recalled.
 #[derive(Clone, Copy, PartialEq, Eq, Debug, Drop)]
@@ -128,8 +128,5 @@ fn find<K: PayloadKind>(
     ensures room { HasRoom seat.new.view.core }
     ensures rest { IsAtRest domain.now seat.new }
 {
-    match try_load(domain, seat, EventPlace::WeakCell(cell), RecallValue)? {
-        Some(slot) => Ok(Some(Weak::of(slot))),
-        None => Ok(None),
-    }
+    try_load_weak(domain, seat, WeakPlace::Cell(cell), RecallValue)
 }

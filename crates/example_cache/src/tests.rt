@@ -8,12 +8,14 @@ use crate::{
     CacheLaw, RecallError, RecallValue, RememberValue, each_value_was_remembered, recall, remember,
 };
 use acquire_retire::{Domain, OpenError, Quota, Seat, Shape, open_domain};
+use atomic_weak::{WeakPlace, WeakSnap, end_weak, try_weak_snapshot};
 use control_word::drop_strong;
 use counted_handles::Strong;
+use deleter::Deleter;
 use plain_protocol::{Deed, Protocol, Still};
 use plain_state::{RecordKind, record_of};
 use protocol_pairs::Spares;
-use slot_store::{make, read};
+use slot_store::{make, read, reap};
 use std::test::Fail;
 
 /// What a domain cites of a protocol and a deed, by their bounds alone.
@@ -106,5 +108,29 @@ fn a_value_that_has_ended_is_not_recalled(rt: HostRuntime) -> Result<(), Fail> {
         panic!(rt; "a value that has ended")
     };
     assert_eq!(rt; error, RecallError::Ended);
+    Ok(())
+}
+
+/// A reader that looks at the value keeps it from being destroyed, although it ends meanwhile. It weighs its length.
+#[test]
+fn a_value_that_is_looked_at_is_destroyed_afterwards(rt: HostRuntime) -> Result<(), Fail> {
+    let (domain, mut seat) = open_alone(&rt)?;
+    let deleter: Deleter<RecordKind, _> = Deleter::keep(|payload: &[u64; 16]| payload[0]);
+    let object = make_value(&domain, &mut seat).expect(&rt, "a free slot");
+    let Ok(()) = remember(&domain, &mut seat, CELL, &object) else {
+        panic!(rt; "an add is left")
+    };
+    let looked = try_weak_snapshot(&domain, &mut seat, WeakPlace::Cell(CELL), Still);
+    let Ok(WeakSnap::Held(seen)) = looked else {
+        panic!(rt; "the value")
+    };
+    let Some(_) = seen.word() else {
+        panic!(rt; "a word that stands for nothing")
+    };
+    drop_strong(&domain, &mut seat, object);
+    assert_eq!(rt; read(&domain, &mut seat, seen.slot(), 0), 5);
+    assert_eq!(rt; reap(&domain, &mut seat, &deleter), None);
+    end_weak(&domain, &mut seat, seen);
+    assert_eq!(rt; reap(&domain, &mut seat, &deleter), Some(5));
     Ok(())
 }

@@ -1,0 +1,72 @@
+-- What a try to take a weak snapshot leaves, by the place that its caller named.
+use Rattle.std.proofs.Common.{◌≡◌, ℕ, List, ap, ◌∙◌, subst}
+use Rattle.std.specs.Prelude.{Option, None}
+use Rattle.counted_handles.specs.declared.place.WeakPlace.{WeakPlace}
+use Rattle.plain_state.specs.declared.act.EventPlace.{EventPlace}
+use Rattle.plain_state.specs.declared.act.PlainAct.{PlainAct}
+use Rattle.plain_state.specs.declared.slot.SlotId.{SlotId}
+use Rattle.plain_state.specs.Places.{place_kind}
+use Rattle.plain_state.specs.State.{Plain}
+use Rattle.plain_protocol.specs.Owns.{OwnPart}
+use Rattle.core_events.specs.Steps.{HasAdd, HasRoom}
+use Rattle.acquire_retire.specs.Calls.{IsSameView, same_view}
+use Rattle.acquire_retire.specs.Domains.{DomainState}
+use Rattle.acquire_retire.specs.Notes.{least_free}
+use Rattle.acquire_retire.specs.Seats.{SeatState}
+use Rattle.control_word.specs.Moves.{KnowsStill}
+use Rattle.control_word.specs.Resting.{IsAtRest}
+use Rattle.protected_loads.specs.Loads.{Protects}
+use Rattle.atomic_weak.specs.Places.{weak_place}
+use Rattle.atomic_weak.specs.Questions.{Answers}
+use Rattle.atomic_weak.specs.Taking.{Finds, IsUnderWhereHeld}
+use Rattle.atomic_weak.specs.WeakSnapshots.{StaysUnder}
+use Rattle.atomic_weak.specs.declared.snapshots.WeakSnap.{WeakSnap as WeakAnswer}
+use Rattle.atomic_weak.proofs.Found.{finds}
+use Rattle.atomic_weak.proofs.Named.{weak_kind}
+use Rattle.atomic_weak.proofs.Protected.{Protected}
+use Rattle.atomic_weak.proofs.Staying.{stays_found}
+use Rattle.atomic_weak.proofs.Under.{least_used, room_after, under_held}
+
+-- all that a try leaves to its seat
+pub record Settles {P V : Type 0} (fits : List ℕ → Type 0) (d : DomainState P) (place : EventPlace)
+    (next : OwnPart → OwnPart → V → PlainAct → ℕ → V)
+    (allows : Plain → Plain → ℕ → V → V → Type 0) (a : WeakAnswer) (old new : SeatState V)
+    : Type 0 where
+  pub found : Finds fits d place next allows (least_free old.view.core) a old new
+  pub under : IsUnderWhereHeld a new.view.core
+  pub others : StaysUnder old.view.core new.view.core
+  pub objects : KnowsStill old.view.core old new
+  pub room : HasRoom old.view.core → HasRoom new.view.core
+  pub rest : IsAtRest d new
+
+module _ {P V : Type 0} {fits : List ℕ → Type 0} {d : DomainState P} {s : SlotId}
+    {old mid : SeatState V} where
+  pub protected : (place : WeakPlace) {q : EventPlace} → q ≡ weak_place place → IsAtRest d old
+      → Protects fits d 0 q same_view IsSameView s old mid → KnowsStill old.view.core old mid
+      → Protected fits d (weak_place place) s old mid
+  protected place is rest protects knows =
+      subst (λ (y : EventPlace). Protected fits d y s old mid) is
+      (record {
+        rest = rest;
+        weak = ap place_kind is ∙ weak_kind place;
+        by = protects;
+        knows = knows;
+      })
+
+  pub settles : {place : EventPlace} → Protected fits d place s old mid → (word : Option ℕ)
+      → word ≡ least_free old.view.core → (word ≡ None → HasAdd old.view.core)
+      → (next : OwnPart → OwnPart → V → PlainAct → ℕ → V)
+      (allows : Plain → Plain → ℕ → V → V → Type 0) (new : SeatState V) (a : WeakAnswer)
+      → Answers fits d word s next allows a mid new
+      → Settles fits d place next allows a old new
+  settles {place = place} p word is add next allows new a answers =
+      let free = least_used old.view.core word is add in
+      let leaves = finds p next allows word new free a answers in record {
+        found =
+            subst (λ (w : Option ℕ). Finds fits d place next allows w a old new) is leaves.found;
+        under = under_held fits d place next allows old new word a free leaves.found;
+        others = stays_found fits d place next allows word old new free a leaves.found;
+        objects = leaves.objects;
+        room = room_after fits d place next allows old new word a leaves.found;
+        rest = leaves.rest;
+      }

@@ -1,0 +1,35 @@
+-- A weak snapshot: what callers see of it, and when a seat is under it.
+use Rattle.std.specs.Prelude.{ℕ, ◌≡◌, ◌<◌, List, Option, Some, None, slice_index_or}
+use Rattle.plain_state.specs.declared.slot.Kind.TheVariants.{Disposal}
+use Rattle.plain_state.specs.declared.slot.SlotId.{SlotId}
+use Rattle.plain_state.specs.Lists.{times}
+use Rattle.core_events.specs.declared.view.CoreView.{CoreView}
+use Rattle.core_events.specs.declared.view.Note.{Note}
+use Rattle.core_events.specs.declared.view.Note.TheVariants as note
+use Rattle.acquire_retire.specs.Notes.{least_free}
+use Rattle.control_word.specs.Resting.{IsSpent}
+
+-- the slot that it names, and the announcement word that guards its object, or none where it is
+-- counted
+pub record WeakSnap : Type 0 where
+  pub slot : SlotId
+  pub word : Option ℕ
+
+-- Of a seat that owns these references and has these notes: one of its words 1 to 3 stands for a
+-- snapshot of the slot, whose object nobody is to destroy; or, where there is no word, it owns a
+-- strong reference to it.
+abbrev pub IsGuardedBy : Option ℕ → SlotId → List SlotId → List Note → Type 0
+IsGuardedBy None s owned notes = 0 < times s owned
+IsGuardedBy (Some j) s owned notes =
+    (0 < j) × (j < 4) × (slice_index_or notes j note.Idle ≡ note.Valid Disposal s)
+
+abbrev pub IsUnder : WeakSnap → CoreView → Type 0
+IsUnder snap v = IsGuardedBy snap.word snap.slot v.owned v.notes
+
+-- all three words are in use, and no add is left
+abbrev pub CanTakeNone : CoreView → Type 0
+CanTakeNone v = (least_free v ≡ None) × IsSpent v
+
+-- whatever weak snapshot a seat with v was under, a seat with w is under
+abbrev pub StaysUnder : CoreView → CoreView → Type 0
+StaysUnder v w = (snap : WeakSnap) → IsUnder snap v → IsUnder snap w
