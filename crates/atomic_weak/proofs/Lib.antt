@@ -11,3 +11,4 @@ pub mod Found
 pub mod Under
 pub mod Staying
 pub mod Settled
+pub mod NotesLeft

@@ -18,11 +18,12 @@ use Rattle.control_word.specs.Resting.{IsAtRest}
 use Rattle.protected_loads.specs.Loads.{Protects}
 use Rattle.atomic_weak.specs.Places.{weak_place}
 use Rattle.atomic_weak.specs.Questions.{Answers}
-use Rattle.atomic_weak.specs.Taking.{Finds, IsUnderWhereHeld}
+use Rattle.atomic_weak.specs.Taking.{Finds, IsUnderWhereHeld, notes_with}
 use Rattle.atomic_weak.specs.WeakSnapshots.{StaysUnder}
 use Rattle.atomic_weak.specs.declared.snapshots.WeakSnap.{WeakSnap as WeakAnswer}
 use Rattle.atomic_weak.proofs.Found.{finds}
 use Rattle.atomic_weak.proofs.Named.{weak_kind}
+use Rattle.atomic_weak.proofs.NotesLeft.{notes_found}
 use Rattle.atomic_weak.proofs.Protected.{Protected}
 use Rattle.atomic_weak.proofs.Staying.{stays_found}
 use Rattle.atomic_weak.proofs.Under.{least_used, room_after, under_held}
@@ -34,6 +35,7 @@ pub record Settles {P V : Type 0} (fits : List ℕ → Type 0) (d : DomainState 
     : Type 0 where
   pub found : Finds fits d place next allows (least_free old.view.core) a old new
   pub under : IsUnderWhereHeld a new.view.core
+  pub notes : new.view.core.notes ≡ notes_with a old.view.core.notes
   pub others : StaysUnder old.view.core new.view.core
   pub objects : KnowsStill old.view.core old new
   pub room : HasRoom old.view.core → HasRoom new.view.core
@@ -65,6 +67,7 @@ module _ {P V : Type 0} {fits : List ℕ → Type 0} {d : DomainState P} {s : Sl
         found =
             subst (λ (w : Option ℕ). Finds fits d place next allows w a old new) is leaves.found;
         under = under_held fits d place next allows old new word a free leaves.found;
+        notes = notes_found fits d place next allows word old new a leaves.found;
         others = stays_found fits d place next allows word old new free a leaves.found;
         objects = leaves.objects;
         room = room_after fits d place next allows old new word a leaves.found;

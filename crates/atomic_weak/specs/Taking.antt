@@ -3,11 +3,14 @@
 use Rattle.std.specs.Prelude.{ℕ, ◌≡◌, List, ◌++◌, Option}
 use Rattle.plain_state.specs.declared.act.EventPlace.{EventPlace}
 use Rattle.plain_state.specs.declared.act.PlainAct.{PlainAct}
+use Rattle.plain_state.specs.declared.slot.Kind.TheVariants.{Disposal}
 use Rattle.plain_state.specs.declared.slot.SlotId.{SlotId}
 use Rattle.plain_state.specs.State.{Plain, slot_at}
 use Rattle.plain_protocol.specs.Owns.{OwnPart, object_of}
 use Rattle.core_events.specs.declared.act.Act.TheVariants as act
 use Rattle.core_events.specs.declared.view.CoreView.{CoreView}
+use Rattle.core_events.specs.declared.view.Note.{Note}
+use Rattle.core_events.specs.declared.view.Note.TheVariants as note
 use Rattle.core_events.specs.Shows.{shows}
 use Rattle.core_events.specs.Views.{Holds}
 use Rattle.domain_rule.specs.Views.{object_in}
@@ -16,6 +19,7 @@ use Rattle.acquire_retire.specs.Domains.{DomainState}
 use Rattle.acquire_retire.specs.Notes.{least_free}
 use Rattle.acquire_retire.specs.Seats.{SeatState}
 use Rattle.control_word.specs.Moves.{last_core}
+use Rattle.control_word.specs.Resting.{noted}
 use Rattle.protected_loads.specs.Loads.{FindsNull, Protects, protected_by}
 use Rattle.atomic_weak.specs.Questions.{FindsAlive, FindsNone, IsReadyFor, alive_by, none_by, with_guarded, with_none}
 use Rattle.atomic_weak.specs.WeakSnapshots.{IsUnder}
@@ -27,6 +31,12 @@ abbrev pub IsUnderWhereHeld : WeakAnswer → CoreView → Type 0
 IsUnderWhereHeld answer.Null v = Unit {0}
 IsUnderWhereHeld answer.Zero v = Unit {0}
 IsUnderWhereHeld (answer.Held snap) v = IsUnder snap v × Holds v snap.slot
+
+-- the notes of a seat that has come under a weak snapshot more, by what it answers
+abbrev pub notes_with : WeakAnswer → List Note → List Note
+notes_with answer.Null ns = ns
+notes_with answer.Zero ns = ns
+notes_with (answer.Held snap) ns = noted snap.word (note.Valid Disposal snap.slot) ns
 
 module _ {P V : Type 0} (fits : List ℕ → Type 0) (d : DomainState P) (place : EventPlace) where
   -- it has protected s by its first word, without a deed

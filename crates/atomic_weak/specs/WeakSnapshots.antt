@@ -7,7 +7,7 @@ use Rattle.core_events.specs.declared.view.CoreView.{CoreView}
 use Rattle.core_events.specs.declared.view.Note.{Note}
 use Rattle.core_events.specs.declared.view.Note.TheVariants as note
 use Rattle.acquire_retire.specs.Notes.{least_free}
-use Rattle.control_word.specs.Resting.{IsSpent}
+use Rattle.control_word.specs.Resting.{IsSpent, noted}
 
 -- the slot that it names, and the announcement word that guards its object, or none where it is
 -- counted
@@ -33,3 +33,7 @@ CanTakeNone v = (least_free v ≡ None) × IsSpent v
 -- whatever weak snapshot a seat with v was under, a seat with w is under
 abbrev pub StaysUnder : CoreView → CoreView → Type 0
 StaysUnder v w = (snap : WeakSnap) → IsUnder snap v → IsUnder snap w
+
+-- the notes of a seat once a weak snapshot has ended
+abbrev pub notes_without : WeakSnap → List Note → List Note
+notes_without snap ns = noted snap.word note.Idle ns

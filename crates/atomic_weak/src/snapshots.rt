@@ -9,7 +9,7 @@
 //!
 //! Where the reader has no word left it adds to the count instead. An add that finds no zero flag counts, also where it
 //! finds 0: whoever is to finish the object finds the count then, and lets it live.
-ghost use Rattle.std.specs.Prelude.{ℕ, ◌≡◌, ◌↔◌, Err, IfOk, IsErr, None, Some};
+ghost use Rattle.std.specs.Prelude.{ℕ, ◌≡◌, ◌↔◌, Err, IfOk, IsErr, None, OnErr, Some};
 ghost use Rattle.core_events.specs.Steps.{HasAdd, HasRoom};
 ghost use Rattle.core_events.specs.Words.{slot_in};
 ghost use Rattle.counted_handles.specs.declared.refusal.LoadError.TheVariants as refused;
@@ -20,7 +20,7 @@ ghost use Rattle.control_word.specs.Resting.{IsAtRest};
 ghost use Rattle.protected_loads.specs.Loads.{Misses};
 ghost use Rattle.atomic_weak.specs.Loading.{CanLoad};
 ghost use Rattle.atomic_weak.specs.Places.{weak_place};
-ghost use Rattle.atomic_weak.specs.Taking.{Finds, IsReadyToAsk, IsUnderWhereHeld};
+ghost use Rattle.atomic_weak.specs.Taking.{Finds, IsReadyToAsk, IsUnderWhereHeld, notes_with};
 ghost use Rattle.atomic_weak.specs.Questions.{Answers, CanAsk, IsReadyFor};
 ghost use Rattle.atomic_weak.specs.WeakSnapshots.{CanTakeNone, StaysUnder};
 
@@ -70,6 +70,9 @@ pub fn try_weak_snapshot<P: Protocol, D: Deed<P>>(
         → Misses P.Kind.fits domain.now 0 (weak_place place) same_view IsSameView
         (slot_in seen) (slot_in now) seat.old seat.new }
     ensures under { IfOk result (λ found. IsUnderWhereHeld found seat.new.view.core) }
+    ensures notes { IfOk result (λ found. seat.new.view.core.notes
+        ≡ notes_with found seat.old.view.core.notes) }
+    ensures still { OnErr result (seat.new.view.core.notes ≡ seat.old.view.core.notes) }
     ensures others { StaysUnder seat.old.view.core seat.new.view.core }
     ensures objects { KnowsStill seat.old.view.core seat.old seat.new }
     ensures room { HasRoom seat.old.view.core → HasRoom seat.new.view.core }

@@ -4,7 +4,7 @@ ghost use Rattle.core_events.specs.Steps.{HasRoom};
 ghost use Rattle.control_word.specs.Moves.{KnowsStill};
 ghost use Rattle.control_word.specs.Resting.{IsAtRest};
 ghost use Rattle.atomic_weak.specs.Ending.{Ends, KeepsOthers, without_snapshot};
-ghost use Rattle.atomic_weak.specs.WeakSnapshots.{IsUnder};
+ghost use Rattle.atomic_weak.specs.WeakSnapshots.{IsUnder, notes_without};
 
 use acquire_retire::{Domain, Seat, SlotId};
 use control_word::drop_strong;
@@ -67,6 +67,8 @@ pub fn end_weak<P: Protocol>(domain: &Domain<P>, seat: &mut Seat<P>, snapshot: W
     ensures ended { Ends P.Kind.fits domain.now snapshot seat.old seat.new }
     ensures others { KeepsOthers snapshot seat.old.view.core seat.new.view.core }
     ensures client { seat.new.view.client ≡ seat.old.view.client }
+    ensures notes { seat.new.view.core.notes
+        ≡ notes_without snapshot seat.old.view.core.notes }
     ensures objects { KnowsStill (without_snapshot snapshot seat.old.view.core)
         seat.old seat.new }
     ensures room { HasRoom seat.old.view.core → HasRoom seat.new.view.core }

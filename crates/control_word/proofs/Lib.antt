@@ -7,3 +7,4 @@ pub mod WeaklyDropping
 pub mod CountSteps
 pub mod Beginning
 pub mod Owning
+pub mod NotedBack

@@ -1,5 +1,5 @@
 -- When a seat is in no call, and when it may use no add.
-use Rattle.std.specs.Prelude.{ℕ, ◌≡◌, []}
+use Rattle.std.specs.Prelude.{ℕ, ◌≡◌, List, [], Option, Some, None, slice_set}
 use Rattle.core_events.specs.declared.view.CoreView.{CoreView}
 use Rattle.core_events.specs.declared.view.Note.{Note}
 use Rattle.core_events.specs.declared.view.Note.TheVariants as note
@@ -31,3 +31,8 @@ IsSpent v = v.adds ≡ v.quota.adds
 -- the seat announces nothing, and is under no snapshot
 abbrev pub IsUnderNone : CoreView → Type 0
 IsUnderNone v = (j : ℕ) → note_of v j ≡ note.Idle
+
+-- the notes of a seat in which one stands for something else by now, if there is one
+abbrev pub noted : Option ℕ → Note → List Note → List Note
+noted None n ns = ns
+noted (Some j) n ns = slice_set ns j n

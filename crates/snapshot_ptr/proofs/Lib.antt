@@ -2,4 +2,3 @@ pub mod Under
 pub mod Staying
 pub mod Taken
 pub mod Released
-pub mod Notes

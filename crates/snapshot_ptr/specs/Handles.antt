@@ -1,11 +1,12 @@
 -- What callers see of a snapshot, and when a seat is under it.
-use Rattle.std.specs.Prelude.{ℕ, ◌≡◌, ◌<◌, List, Option, Some, None, slice_index_or, slice_set}
+use Rattle.std.specs.Prelude.{ℕ, ◌≡◌, ◌<◌, List, Option, Some, None, slice_index_or}
 use Rattle.plain_state.specs.declared.slot.Kind.TheVariants.{Strong}
 use Rattle.plain_state.specs.declared.slot.SlotId.{SlotId}
 use Rattle.plain_state.specs.Lists.{times}
 use Rattle.core_events.specs.declared.view.CoreView.{CoreView}
 use Rattle.core_events.specs.declared.view.Note.{Note}
 use Rattle.core_events.specs.declared.view.Note.TheVariants as note
+use Rattle.control_word.specs.Resting.{noted}
 
 -- the slot that it names, and the announcement word that protects it, or none where it is counted
 pub record Snap : Type 0 where
@@ -32,10 +33,6 @@ slot_under None = None
 slot_under (Some snap) = Some snap.slot
 
 -- the notes of a seat that has come under one snapshot more, by what it found; and once one has ended
-abbrev pub noted : Option ℕ → Note → List Note → List Note
-noted None n ns = ns
-noted (Some j) n ns = slice_set ns j n
-
 abbrev pub notes_with : Option Snap → List Note → List Note
 notes_with None ns = ns
 notes_with (Some snap) ns = noted snap.word (note.Valid Strong snap.slot) ns

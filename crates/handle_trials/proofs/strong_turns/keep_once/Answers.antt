@@ -1,11 +1,14 @@
-use Rattle.std.proofs.Common.{rules, ◌≡◌, ◌<◌, IfSome, ℕ, ◌+◌, ◌-◌, ◌*◌, ◌≤◌, length, ◌/◌, ◌%◌, Bool, true, false, nat_eq, nat_lt, List, [], ◌∷◌, ◌++◌, slice_index_or, slice_set, bit_and, bit_or, Fits, w8, w32, w64, Bor, MutBor}
-use Rattle.plain_state.specs.Lists.{times}
-use Rattle.core_events.specs.Steps.{HasRoom, IsContent}
-use Rattle.control_word.specs.Resting.{IsAtRest}
-use Rattle.snapshot_ptr.specs.Handles.{IsUnder}
-use Rattle.handle_trials.specs.Free.{IsFree}
+use Rattle.std.proofs.Common.{ap, ◌∙◌}
+use Rattle.snapshot_ptr.specs.Handles.{notes_with}
+use Rattle.handle_trials.proofs.Staying.{free_again}
 use Rattle.handle_trials.proofs.strong_turns.keep_once.Goals as goal
 
--- src/strong_turns.rt:121:1
 pub returns : goal.returns
-returns g c = ?
+returns g c =
+    free_again c.args.domain.now c.args.seat.now c.end.new.seat c.in-Ok-Some.seen.word _
+    c.snapshot.new.seat c.keep_and_drop.new.seat c.requires.free
+    ((c.in-Ok-Some.ensures {u = tt}).notes
+    ∙ ap (λ found. notes_with found c.args.seat.now.view.core.notes) c.in-Ok-Some.field-0-is)
+    c.keep_and_drop.ensures.notes c.end.ensures.notes
+    (c.end.ensures.room (c.keep_and_drop.ensures.room (c.snapshot.ensures.room c.requires.free.room)))
+    c.end.ensures.rest
