@@ -1,5 +1,6 @@
 //! What seat 0 does once it is alone.
-ghost use Rattle.std.specs.Prelude.{◌<◌};
+ghost use Rattle.std.specs.Prelude.{IsTrue};
+ghost use Rattle.domain_rule.specs.Views.{IsAlone};
 ghost use Rattle.handle_trials.specs.Free.{HasPlaces, IsFree};
 
 use crate::strong_turns::clear_once;
@@ -16,7 +17,8 @@ use slot_store::settle;
 pub fn clear(domain: &Domain<Records>, root: &mut Seat<Records>) -> bool
     requires free { IsFree domain.now root.old }
     requires places { HasPlaces domain.now }
-    ensures { IsFree domain.now root.new }
+    ensures free { IsFree domain.now root.new }
+    ensures alone { IsTrue result → IsAlone root.new.view }
 {
     let deleter: Deleter<RecordKind, _> = Deleter::keep(|payload: &[u64; 16]| payload[0]);
     clear_once(domain, root, 0);

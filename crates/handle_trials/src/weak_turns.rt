@@ -24,10 +24,20 @@ pub(crate) fn raise_once<R: Wait>(rt: &R, domain: &Domain<Records>, seat: &mut S
     let Ok(Some(weak)) = load_weak(rt, domain, seat, WATCHED, AnyStep) else {
         return;
     };
-    if let Ok(strong) = upgrade(domain, seat, &weak, AnyStep) {
+    raise_and_drop(domain, seat, &weak);
+    drop_weak(domain, seat, weak);
+}
+
+/// Upgrades a weak reference, and drops what that gives.
+fn raise_and_drop(domain: &Domain<Records>, seat: &mut Seat<Records>, weak: &Weak)
+    requires free { IsFree domain.now seat.old }
+    requires owned { 0 < times weak.now.slot seat.old.view.core.weaks }
+    ensures free { IsFree domain.now seat.new }
+    ensures owned { 0 < times weak.now.slot seat.new.view.core.weaks }
+{
+    if let Ok(strong) = upgrade(domain, seat, weak, AnyStep) {
         drop_strong(domain, seat, strong);
     }
-    drop_weak(domain, seat, weak);
 }
 
 /// Puts a weak reference to what the cell holds into the weak cell.

@@ -10,5 +10,5 @@ returns g c =
     ((c.in-Ok-Some.ensures {u = tt}).notes
     ∙ ap (λ found. notes_with found c.args.seat.now.view.core.notes) c.in-Ok-Some.field-0-is)
     c.keep_and_drop.ensures.notes c.end.ensures.notes
-    (c.end.ensures.room (c.keep_and_drop.ensures.room (c.snapshot.ensures.room c.requires.free.room)))
+    (c.end.ensures.room c.keep_and_drop.ensures.room)
     c.end.ensures.rest
