@@ -1,0 +1,17 @@
+pub mod Kit
+pub mod Notes
+pub mod Kept
+pub mod CellCounts
+pub mod Chains
+pub mod Moves
+pub mod Quiet
+pub mod Turns
+pub mod Leave
+pub mod Start
+pub mod Walks
+pub mod Making
+pub mod Linking
+pub mod Binding
+pub mod Owns
+pub mod MakingDeeds
+pub mod Foreign
