@@ -169,7 +169,7 @@ ticket_quiet z p ss = record {
   slots = λ s. same_quiet (cell_times s p.weak_cells) (slot_at p s);
 }
 
-calmly : (z : Area) (p q : Plain) (n : ℕ) (step : PlainAct) (found : ℕ) (views : List View)
+pub calmly : (z : Area) (p q : Plain) (n : ℕ) (step : PlainAct) (found : ℕ) (views : List View)
     → Meets (DirectoryLaw z) p views → IsCalm step → Does p n step found q → DirectoryLaw z q views
 calmly z p q n step found views meets calm does =
     law_quiet z p q (calmed_quiet z p q (calm_leaves p q n step found meets.lawful calm does))

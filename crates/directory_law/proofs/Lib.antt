@@ -15,3 +15,8 @@ pub mod Binding
 pub mod Owns
 pub mod MakingDeeds
 pub mod Foreign
+pub mod Texts
+pub mod Looks
+pub mod Reading
+pub mod ReadingOn
+pub mod Answers
