@@ -22,7 +22,7 @@ use Rattle.directory_law.proofs.Turns.{Turned, turned_set, learnt_turned, law_tu
 use Rattle.directory_law.specs.Steps.{payload_in}
 use Rattle.directory_law.proofs.Owns.{owned_live}
 use Rattle.directory_law.specs.Lessons.{first_ran, AnswerReady, answer_next, AnswerTells, ForgetReady, without_ended, forget_next, ForgetTells, DrawReady, drawn, draw_next, DrawTells}
-use Rattle.directory_law.proofs.Texts.{append_none, text_ends}
+use Rattle.directory_law.proofs.Ends.{append_none, text_ends}
 use Rattle.directory_law.proofs.Looks.{calm_stays}
 
 -- ANSWER

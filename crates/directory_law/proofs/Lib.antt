@@ -15,8 +15,10 @@ pub mod Binding
 pub mod Owns
 pub mod MakingDeeds
 pub mod Foreign
-pub mod Texts
+pub mod Ends
 pub mod Looks
 pub mod Reading
 pub mod ReadingOn
 pub mod Answers
+pub mod Gives
+pub mod Bytes

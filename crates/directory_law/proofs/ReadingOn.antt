@@ -24,7 +24,7 @@ use Rattle.directory_law.proofs.Turns.{law_knows}
 use Rattle.directory_law.specs.Steps.{id, slot_of}
 use Rattle.directory_law.proofs.Owns.{life_at, object_is, has_strongly, strongly_live}
 use Rattle.directory_law.specs.Lessons.{first_ran, ReadReady, leads, lead_next, reads_part, read_next, ReadTells}
-use Rattle.directory_law.proofs.Texts.{append_none, kept_is}
+use Rattle.directory_law.proofs.Ends.{append_none, kept_is}
 use Rattle.directory_law.proofs.Looks.{Looked, looked, word_slot, same_law}
 
 -- one slot more is read

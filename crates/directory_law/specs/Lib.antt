@@ -11,3 +11,4 @@ pub mod Steps
 pub mod Walks
 pub mod Making
 pub mod Lessons
+pub mod Promises

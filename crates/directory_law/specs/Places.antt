@@ -4,7 +4,7 @@ use Rattle.directory_law.specs.Payloads.{Text}
 use Rattle.directory_law.specs.Bytes.{text_bytes}
 
 -- from h on, each byte in turn makes another number of it
-unfoldable pub hash_on : ℕ → List ℕ → ℕ
+abbrev pub hash_on : ℕ → List ℕ → ℕ
 hash_on h [] = h
 hash_on h (byte ∷ bytes) = hash_on ((257 * h + byte + 1) % 2 ^ 32) bytes
 
