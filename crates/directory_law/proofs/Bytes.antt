@@ -1,19 +1,22 @@
 -- Bytes and payloads determine one another.
-use Rattle.std.proofs.Common.{◌≡◌, inl, inr, ℕ, zero, suc, ◌+◌, ◌-◌, ◌<◌, ◌≤◌, List, [], ◌∷◌, ◌++◌, length, get_or, take, refl, ap, sym, ◌∙◌, subst, arith}
+use Rattle.std.proofs.Common.{◌≡◌, inl, inr, ⊎_elim, ℕ, zero, suc, ◌+◌, ◌-◌, ◌<◌, ◌≤◌, List, [], ◌∷◌, ◌++◌, length, get_or, take, sum, refl, ap, sym, ◌∙◌, subst, arith}
 use Rattle.std.specs.Prelude.{◌%◌}
 use Rattle.std.proofs.lemmas.List.Sums.{sum_by-cons}
 use Rattle.std.proofs.lemmas.Bool.Decides.{nat_tests}
 use Rattle.directory_law.specs.Payloads.{Text, size, IsRest, IsText}
 use Rattle.directory_law.specs.Places.{text_hash}
 use Rattle.directory_law.specs.Views.{Each}
-use Rattle.std.proofs.Common.{length-drop, drop, ◌*◌}
+use Rattle.directory_law.specs.declared.view.GivenTo.{GivenTo}
+use Rattle.directory_law.specs.declared.view.GivenTo.TheVariants.{Seats, Tickets}
+use Rattle.directory_law.specs.Cells.{area}
+use Rattle.std.proofs.Common.{length-drop, drop, ◌*◌, ◌^◌}
 use Rattle.std.specs.Prelude.{◌/◌, min, sum_by}
 use Rattle.std.proofs.lemmas.List.{ext_get_or, take-append-drop, drop-drop, length-take}
 use Rattle.std.proofs.lemmas.Grind.{get_or_after_one}
 use Rattle.std.proofs.lemmas.List.Elements.{All-take, All-drop, All-tail}
 use Rattle.plain_state.specs.Records.{word_of_bytes, eight_bytes}
 use Rattle.directory_law.specs.Places.{hash_on}
-use Rattle.directory_law.specs.Bytes.{AreBytes, Packs, ArePartsOf, IsTextOf, low_bytes, bytes_of_words, piece_bytes, piece_weight, part_bytes, text_bytes, IsPiece}
+use Rattle.directory_law.specs.Bytes.{AreBytes, Packs, ArePartsOf, IsTextOf, low_bytes, bytes_of_words, piece_bytes, piece_weight, part_bytes, text_bytes, IsHeadOf, IsPartOf, IsPiece}
 
 -- PAYLOADS FROM BYTES. A payload is one for its bytes
 piece_same : (n : ℕ) (bytes t u : List ℕ) → Packs n bytes t → Packs n bytes u → t ≡ u
@@ -215,3 +218,21 @@ text_weighs bytes (t ∷ ts) h =
     let first = head_weighs t (omega arith) in
     let rest = parts_weigh (drop 120 bytes) ts h.3 in
     let all = sum_by-cons piece_weight t ts in omega arith
+
+-- no object weighs more than 120
+pub piece_bounded : (payload : List ℕ) → IsPiece payload → piece_weight payload ≤ 2 ^ 32
+piece_bounded payload is =
+    ⊎_elim
+    (λ (head : IsHeadOf is.0 payload).
+    let most = head.0.1 in
+    let w = head_weighs payload most in omega arith)
+    (λ (part : IsPartOf is.0 payload).
+    let some = part.0 in let most = part.1 in
+    let w = part_weighs payload (length is.0) part.2.size some in omega arith)
+    is.2
+
+-- interns that seats or tickets are given add up to one number
+pub area_sum : (first cells : ℕ) (interns : List ℕ) (to : GivenTo)
+    → sum (area first cells interns to).interns + sum (area first cells interns to).grants ≡ sum interns
+area_sum first cells interns Seats = omega arith
+area_sum first cells interns Tickets = omega arith

@@ -1,11 +1,13 @@
 -- The cells of a directory, the walk of a text over them, and when a set cell is well.
-use Rattle.std.specs.Prelude.{◌≡◌, ◌≢◌, ℕ, zero, suc, ◌+◌, ◌%◌, ◌<◌, false, List, Option, Some, None}
+use Rattle.std.specs.Prelude.{◌≡◌, ◌≢◌, ℕ, zero, suc, ◌+◌, ◌%◌, ◌<◌, false, List, [], Option, Some, None}
 use Rattle.plain_state.specs.declared.act.EventPlace.TheVariants.{WeakCell}
 use Rattle.plain_state.specs.declared.slot.SlotId.{SlotId}
 use Rattle.plain_state.specs.declared.slot.Stage.TheVariants.{Live}
 use Rattle.plain_state.specs.State.{Plain, slot_at, stage_at}
 use Rattle.plain_state.specs.Places.{content}
 use Rattle.plain_protocol.specs.Calm.{IsMade}
+use Rattle.directory_law.specs.declared.view.GivenTo.{GivenTo}
+use Rattle.directory_law.specs.declared.view.GivenTo.TheVariants.{Seats, Tickets}
 use Rattle.directory_law.specs.Payloads.{Text, IsHead, IsText}
 use Rattle.directory_law.specs.Places.{text_hash}
 use Rattle.directory_law.specs.Views.{View, KeptIn, fresh}
@@ -18,6 +20,23 @@ pub record Area : Type 0 where
   pub cells : ℕ
   pub interns : List ℕ
   pub grants : List ℕ
+
+-- what a list of interns gives to seats, and what it gives to tickets
+abbrev pub seat_interns : List ℕ → GivenTo → List ℕ
+seat_interns interns Seats = interns
+seat_interns interns Tickets = []
+
+abbrev pub ticket_interns : List ℕ → GivenTo → List ℕ
+ticket_interns interns Seats = []
+ticket_interns interns Tickets = interns
+
+abbrev pub area : ℕ → ℕ → List ℕ → GivenTo → Area
+area first cells interns to = record {
+  first = first;
+  cells = cells;
+  interns = seat_interns interns to;
+  grants = ticket_interns interns to;
+}
 
 -- what cell c of the range holds
 abbrev pub cell : Area → Plain → ℕ → Option SlotId

@@ -30,4 +30,4 @@ pub use promises::{
     parts_are_linked_once, room_for_an_intern, set_cells_have_texts,
 };
 pub use texts::{laws_of_texts, texts_end};
-pub use view::{Led, Note, Ran, Rope, Seen, View};
+pub use view::{GivenTo, Led, Note, Ran, Rope, Seen, View};

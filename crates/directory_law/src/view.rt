@@ -2,6 +2,15 @@
 use plain_state::SlotId;
 use std::collections::LinkedList;
 
+/// What the numbers of a directory's interns are given to.
+#[derive(Clone, Copy, PartialEq, Eq, Debug, Drop)]
+pub enum GivenTo {
+    /// To seats: each begins with the number that stands at its own.
+    Seats,
+    /// To tickets: the seat that draws one has so many more.
+    Tickets,
+}
+
 /// A slot in one of its lives.
 #[derive(Clone, Copy, Drop)]
 pub struct Note {
