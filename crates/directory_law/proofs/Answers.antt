@@ -74,8 +74,10 @@ answer_keeps z spends p q views n step found meets here ready does =
     }) (view_at views n).seen) (sym ready.life) ready.seen.1 in (
       law_knows z q views n (answer_next spends (own_part p n) (own_part q n) (view_at views n) step
           found) here refl refl refl (omega arith) ready.spare
-          (record { noted = l.noted; seen = l.seen; ended = l.ended; ran = l.ran; led = l.led }) law_q,
-      whole_bound z p views n meets.law e in_ran (payload_in (own_part p n) e.slot) ready.seen.0 seen
+          (record { noted = l.noted; seen = l.seen; ended = l.ended; ran = l.ran; led = l.led })
+          law_q,
+      whole_bound z p views n meets.law e in_ran (payload_in (own_part p n) e.slot) ready.seen.0
+          seen
           ready.whole live,
     )
 
@@ -187,8 +189,7 @@ draw_keeps z p q views n step found meets here ready does =
     let w : View = drawn z (view_at views n) p.tickets in
     let told : draw_next z (own_part p n) (own_part q n) (view_at views n) step found ≡ w =
     ap (drawn z (view_at views n)) d.1.0 in
-    let law_w : DirectoryLaw z r (set views n w) =
-    law_learns z r views n w here refl refl
+    let law_w : DirectoryLaw z r (set views n w) = law_learns z r views n w here refl refl
     (let e = total_set (λ (v : View). v.quota) views n w here in let b = meets.law.quotas in
     let g = granted_next z.grants p.tickets in omega arith)
     (omega arith) (let b = meets.law.quota n in omega arith)

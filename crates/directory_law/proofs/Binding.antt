@@ -1,7 +1,6 @@
 -- The exchange of a null cell for a head that stands nowhere.
-use Rattle.std.proofs.Common.{◌≡◌, ◌≢◌, ◌⊎◌, inl, inr, ⊎_elim, ℕ, ◌+◌, ◌-◌, ◌<◌, ◌≤◌, true, List, [], ◌∷◌, length, set, refl, ap, sym, ◌∙◌, subst, arith}
+use Rattle.std.proofs.Common.{◌≡◌, ◌≢◌, ◌⊎◌, inl, inr, ⊎_elim, ℕ, ◌+◌, ◌-◌, ◌<◌, ◌≤◌, true, List, [], ◌∷◌, refl, ap, sym, ◌∙◌, subst, arith}
 use Rattle.std.specs.Prelude.{◌%◌, Option, Some, None}
-use Rattle.std.proofs.lemmas.List.{get_or-set_same}
 use Rattle.std.proofs.lemmas.Bool.{cases_eq, cases_lt}
 use Rattle.std.proofs.Math.Nat.{add-mod_right}
 use Rattle.plain_state.specs.declared.slot.SlotId.{SlotId}
@@ -10,14 +9,14 @@ use Rattle.plain_state.specs.State.{Plain, PlainSeat, slot_at, stage_at}
 use Rattle.plain_state.specs.Lawful.{Lawful}
 use Rattle.directory_law.specs.Payloads.{Text, IsOwn, IsText}
 use Rattle.directory_law.specs.Places.{text_hash}
-use Rattle.directory_law.specs.Views.{Rope, View, gone, view_at, rope, one_of, times_of, fresh, keeps, KeptIn, In, Each, without}
+use Rattle.directory_law.specs.Views.{Rope, View, view_at, total, fresh, keeps, KeptIn, Each}
 use Rattle.directory_law.specs.Chains.{Along, Reads, OwnSlot}
 use Rattle.directory_law.specs.Cells.{Area, cell, on, IsOnWay, SetCell, LiveRecord, Stands}
 use Rattle.directory_law.specs.Learnt.{Built, Learnt}
 use Rattle.directory_law.specs.Law.{LastOnWalk, DirectoryLaw}
-use Rattle.directory_law.proofs.Kit.{cases_id, some_same, none_some, total_set, total_at, at_view, cases_pair}
-use Rattle.directory_law.proofs.Notes.{cons_of, one_same, one_other, one_later, without_none, without_other, without_fewer, each_without, each_map, each_in, in_times}
-use Rattle.directory_law.proofs.Kept.{same_text, kept_set}
+use Rattle.directory_law.proofs.Kit.{cases_id, some_same, none_some, cases_pair}
+use Rattle.directory_law.proofs.Notes.{each_map}
+use Rattle.directory_law.proofs.Kept.{same_text}
 use Rattle.directory_law.proofs.CellCounts.{set_more}
 use Rattle.directory_law.proofs.Chains.{live_own}
 use Rattle.directory_law.proofs.Moves.{Moves, on_inside, built_moves, learnt_moves, cell_moves, last_moves, stands_moves}
@@ -48,109 +47,28 @@ own_moved : (p : Plain) (ss : List PlainSeat) (cs : List (Option SlotId)) (s : S
     → OwnSlot (moved p ss cs) s → OwnSlot p s
 own_moved p ss cs s o = record { made = o.made; own = o.own }
 
--- s is noted by seat n with its text, and cell m of the walk is the first null one
-module _ (z : Area) (p : Plain) (ss : List PlainSeat) (cs : List (Option SlotId)) (s : SlotId)
-    (m : ℕ) (text : Text)
-    (views : List View) (n : ℕ) (here : n < length views) (lawful : Lawful p)
-    (law : DirectoryLaw z p views)
-    (some_cells : 0 < z.cells) (puts : Puts z p (moved p ss cs) (on z text m) s)
-    (null : cell z p (on z text m) ≡ None) (passed : Passed z p views text m)
-    (is_text : IsText text)
-    (live : stage_at p s ≡ Live) (noted : In (rope s (slot_at p s).life text)
-    (view_at views n).noted)
-    (spare : (view_at views n).used < (view_at views n).quota) where
-  w : View
-  w = record (view_at views n) {
-    noted = without s (slot_at p s).life (view_at views n).noted;
-    kept = rope s (slot_at p s).life text ∷ (view_at views n).kept;
-    used = (view_at views n).used + 1;
-  }
-
-  after : List View
-  after = set views n w
-
-  counted : (x : SlotId) (l : ℕ)
-      → fresh after x l + times_of x l (view_at views n).noted ≡ fresh views x l + times_of x l
-      (without s (slot_at p s).life (view_at views n).noted)
-  unfolding after w
-  counted x l = total_set (λ (v : View). times_of x l v.noted) views n w here
-
-  counted_kept : (x : SlotId) (l : ℕ)
-      → keeps after x l ≡ keeps views x l + one_of x l (rope s (slot_at p s).life text)
-  unfolding after w
-  counted_kept x l =
-      let e = total_set (λ (v : View). times_of x l v.kept) views n w here in
-      let c = cons_of x l (rope s (slot_at p s).life text) (view_at views n).kept in omega arith
-
-  fewer : (x : SlotId) (l : ℕ) → fresh after x l ≤ fresh views x l
-  fewer x l = let e = counted x l in let d =
-      without_fewer s (slot_at p s).life x l (view_at views n).noted in omega arith
-
-  fresh_other : (x : SlotId) (l : ℕ) → ((x ≡ s) × (l ≡ (slot_at p s).life) → ⊥)
+-- the views after a bind of s: its life is noted no more, and kept with its text; all else is as it was
+pub record Rebound (p : Plain) (s : SlotId) (text : Text) (views after : List View) : Type 0 where
+  pub fewer : (x : SlotId) (l : ℕ) → fresh after x l ≤ fresh views x l
+  pub fresh_other : (x : SlotId) (l : ℕ) → ((x ≡ s) × (l ≡ (slot_at p s).life) → ⊥)
       → fresh after x l ≡ fresh views x l
-  fresh_other x l differs = let e = counted x l in let d =
-      without_other s (slot_at p s).life x l (view_at views n).noted differs in omega arith
-
-  kept_other : (x : SlotId) (l : ℕ) → ((x ≡ s) × (l ≡ (slot_at p s).life) → ⊥)
+  pub keeps_other : (x : SlotId) (l : ℕ) → ((x ≡ s) × (l ≡ (slot_at p s).life) → ⊥)
       → keeps after x l ≡ keeps views x l
-  kept_other x l differs =
-      let c = counted_kept x l in
-      let o : one_of x l (rope s (slot_at p s).life text) ≡ 0 =
-      ⊎_elim
-      (λ (e : s ≡ x). one_later x l (rope s (slot_at p s).life text)
-      (λ f. differs (sym e, sym f)))
-      (λ (ne : s ≢ x). one_other x l (rope s (slot_at p s).life text) ne)
-      (cases_id s x) in omega arith
+  pub sums : (x : SlotId) (l : ℕ)
+      → fresh after x l + keeps after x l ≤ fresh views x l + keeps views x l
+  pub kept : (x : SlotId) (l : ℕ) (t : Text) → KeptIn views x l t → KeptIn after x l t
+  pub new : KeptIn after s (slot_at p s).life text
+  pub used : total (λ v. v.used) after ≡ total (λ v. v.used) views + 1
+  pub quotas : total (λ v. v.quota) after ≡ total (λ v. v.quota) views
+  pub quota : (n : ℕ) → (view_at after n).used ≤ (view_at after n).quota
 
-  count_s : 0 < times_of s (slot_at p s).life (view_at views n).noted
-  count_s = in_times s (slot_at p s).life (rope s (slot_at p s).life text) (view_at views n).noted
-      refl refl noted
-
-  none_fresh : fresh after s (slot_at p s).life ≡ 0
-  none_fresh =
-      let e = counted s (slot_at p s).life in let d =
-      without_none s (slot_at p s).life (view_at views n).noted in
-      let a = count_s in let o = law.once s (slot_at p s).life in omega arith
-
-  was_fresh : 0 < fresh views s (slot_at p s).life
-  was_fresh =
-      let a = count_s in
-      let b = total_at (λ (v : View). times_of s (slot_at p s).life v.noted) views n here in
-      omega arith
-
-  -- each life is noted or kept as often as before, or less
-  sum_here : fresh after s (slot_at p s).life + keeps after s (slot_at p s).life ≤ fresh views s
-      (slot_at p s).life + keeps views s (slot_at p s).life
-  sum_here =
-      let c = counted_kept s (slot_at p s).life in
-      let o = one_same s (slot_at p s).life (rope s (slot_at p s).life text) refl refl in
-      let f = none_fresh in let g = was_fresh in omega arith
-
-  sums : (x : SlotId) (l : ℕ) → fresh after x l + keeps after x l ≤ fresh views x l + keeps views x
-      l
-  sums x l =
-      ⊎_elim
-      (λ (b : (x ≡ s) × (l ≡ (slot_at p s).life)).
-      subst (λ (y : SlotId). fresh after y l + keeps after y l ≤ fresh views y l + keeps views y l)
-      (sym b.0)
-      (subst (λ (y : ℕ). fresh after s y + keeps after s y ≤ fresh views s y + keeps views s y)
-      (sym b.1) sum_here))
-      (λ (differs : (x ≡ s) × (l ≡ (slot_at p s).life) → ⊥). let a = fresh_other x l differs in
-      let b = kept_other x l differs in omega arith)
-      (cases_pair x s l (slot_at p s).life)
-
-  kept_on : (x : SlotId) (l : ℕ) (t : Text) → KeptIn views x l t → KeptIn after x l t
-  unfolding after w
-  kept_on x l t k = kept_set views n w x l t here (λ e i. inr i) k
-
-  new_kept : KeptIn after s (slot_at p s).life text
-  unfolding after w
-  new_kept = (
-    n,
-    subst (λ (v : View). In (rope s (slot_at p s).life text) v.kept)
-        (sym (get_or-set_same views n w gone here)) (inl refl),
-  )
-
+-- s reads its text and stands nowhere, and cell m of the walk is the first null one
+module _ (z : Area) (p : Plain) (ss : List PlainSeat) (cs : List (Option SlotId)) (s : SlotId)
+    (m : ℕ) (text : Text) (views after : List View) (rebound : Rebound p s text views after)
+    (lawful : Lawful p) (law : DirectoryLaw z p views) (some_cells : 0 < z.cells)
+    (puts : Puts z p (moved p ss cs) (on z text m) s) (null : cell z p (on z text m) ≡ None)
+    (passed : Passed z p views text m) (is_text : IsText text) (live : stage_at p s ≡ Live)
+    (built : IsOwn (slot_at p s).payload × Reads p s text) where
   -- a set cell is another one
   stays : (d : ℕ) (r : SlotId) → cell z p d ≡ Some r → cell z (moved p ss cs) d ≡ Some r
   stays d r is = puts.there d (λ e. none_some r
@@ -178,9 +96,9 @@ module _ (z : Area) (p : Plain) (ss : List PlainSeat) (cs : List (Option SlotId)
     cells = λ d x h is. stays d x is;
     held = λ d x h is. ((law.cells d x h is).made, refl, refl);
     still = λ x none changed. changed;
-    fewer = λ x l began. fewer x l;
-    kept = kept_on;
-    once = λ x l. let a = sums x l in let b = law.once x l in omega arith;
+    fewer = λ x l began. rebound.fewer x l;
+    kept = rebound.kept;
+    once = λ x l. let a = rebound.sums x l in let b = law.once x l in omega arith;
   }
 
   -- the walk is less than one time round
@@ -191,23 +109,18 @@ module _ (z : Area) (p : Plain) (ss : List PlainSeat) (cs : List (Option SlotId)
       (λ (h : z.cells ≤ m).
       let o = passed (m - z.cells) (omega arith) in
       let a : text_hash text + (m - z.cells) + z.cells ≡ text_hash text + m = omega arith in
-      let e : on z text m ≡ on z text (m - z.cells) =
-      ap (λ (x : ℕ). x % z.cells) (sym a)
+      let e : on z text m ≡ on z text (m - z.cells) = ap (λ (x : ℕ). x % z.cells) (sym a)
       ∙ add-mod_right (text_hash text + (m - z.cells)) z.cells in
       absurd (none_some o.slot (sym null ∙ (ap (λ (x : ℕ). cell z p x) e ∙ o.is))))
       (cases_lt m z.cells)
 
-  built_s : IsOwn (slot_at p s).payload × Reads p s text
-  built_s = (each_in (Built p) (rope s (slot_at p s).life text) (view_at views n).noted noted
-      (law.learnt n).noted).1 refl live
-
   cell_new : SetCell z (moved p ss cs) after (on z text m) s
   cell_new =
-      let b = built_s in
+      let b = built in
       record {
         made = (live_own p s live b.0).made;
         text = text;
-        kept = new_kept;
+        kept = rebound.new;
         is = is_text;
         begins = (b.1.0, b.1.1);
         reads = λ l. reads_moved p ss cs s text b.1;
@@ -232,13 +145,15 @@ module _ (z : Area) (p : Plain) (ss : List PlainSeat) (cs : List (Option SlotId)
 
   -- which text the new cell has
   one_kept : (x : SlotId) → keeps after x (slot_at p x).life ≤ 1
-  one_kept x = let a = sums x (slot_at p x).life in let b = law.once x (slot_at p x).life in
+  one_kept x =
+      let a = rebound.sums x (slot_at p x).life in
+      let b = law.once x (slot_at p x).life in
       omega arith
 
   new_text : (x : SlotId) (t : Text) → x ≡ s → KeptIn after x (slot_at p x).life t → t ≡ text
   new_text x t e k =
       same_text after s (slot_at p s).life t text (one_kept s)
-      (subst (λ (y : SlotId). KeptIn after y (slot_at p y).life t) e k) new_kept
+      (subst (λ (y : SlotId). KeptIn after y (slot_at p y).life t) e k) rebound.new
 
   -- a cell of the text on the walk that was set is passed
   old_before : (k : ℕ) (a : SlotId) → k < m → cell z p (on z text k) ≡ Some a
@@ -254,7 +169,7 @@ module _ (z : Area) (p : Plain) (ss : List PlainSeat) (cs : List (Option SlotId)
       let of_a = subst (λ (x : SlotId). KeptIn views x (slot_at p x).life other.0) (sym g)
       other.1 in
       absurd (other.2 (same_text after a (slot_at p a).life other.0 text (one_kept a)
-      (kept_on a (slot_at p a).life other.0 of_a) kept)))
+      (rebound.kept a (slot_at p a).life other.0 of_a) kept)))
       o.why
 
   -- and none stands beyond the null cell
@@ -263,7 +178,7 @@ module _ (z : Area) (p : Plain) (ss : List PlainSeat) (cs : List (Option SlotId)
   none_beyond j b lt h is kept =
       let o = law.cells (on z text j) b (on_inside z text j some_cells) is in
       let same : o.text ≡ text = same_text after b (slot_at p b).life o.text text (one_kept b)
-      (kept_on b (slot_at p b).life o.text o.kept) kept in
+      (rebound.kept b (slot_at p b).life o.text o.kept) kept in
       let v = subst (λ (t : Text). IsOnWay z p t (on z text j)) same o.way in
       let e : j ≡ v.0 = on_way z text j v.0 h v.1 v.2 in
       v.3 m (omega arith) null
@@ -306,7 +221,7 @@ module _ (z : Area) (p : Plain) (ss : List PlainSeat) (cs : List (Option SlotId)
   built_bind e h = built_moves z p (moved p ss cs) views after (λ x. ⊥) moves lawful law e
       (λ life changed. changed) h
 
-  learnt_bind : (v : View) → Learnt z p views v → (es : List Rope) → Each (Built p) es
+  pub learnt_bind : (v : View) → Learnt z p views v → (es : List Rope) → Each (Built p) es
       → Learnt z (moved p ss cs) after (record v { noted = es })
   learnt_bind v l es built =
       learnt_moves z p (moved p ss cs) views after (λ x. ⊥) moves lawful law v l es
@@ -322,7 +237,7 @@ module _ (z : Area) (p : Plain) (ss : List PlainSeat) (cs : List (Option SlotId)
         mark = l.mark;
         head = l.head;
         bound =
-            sym (fresh_other x (slot_at p x).life (λ b. ne b.0)) ∙ l.bound;
+            sym (rebound.fresh_other x (slot_at p x).life (λ b. ne b.0)) ∙ l.bound;
       }) in
       (b.0, b.1, stays b.0 x b.2))
       (cases_id x s)
@@ -339,43 +254,33 @@ module _ (z : Area) (p : Plain) (ss : List PlainSeat) (cs : List (Option SlotId)
       ))
       (λ (differs : (x ≡ s) × (l ≡ (slot_at p s).life) → ⊥).
       stands_moves z p (moved p ss cs) views after (λ x. ⊥) moves lawful law x l (let a =
-      kept_other x l differs in omega arith))
+      rebound.keeps_other x l differs in omega arith))
       (cases_pair x s l (slot_at p s).life)
 
-  pub law_bound : DirectoryLaw z (moved p ss cs) (set views n (record (view_at views n) {
-    noted = without s (slot_at p s).life (view_at views n).noted;
-    kept = rope s (slot_at p s).life text ∷ (view_at views n).kept;
-    used = (view_at views n).used + 1;
-  }))
-  unfolding after w
-  law_bound = record {
+  pub law_bound : ((n : ℕ) → Learnt z (moved p ss cs) after (view_at after n))
+      → DirectoryLaw z (moved p ss cs) after
+  law_bound learnt = record {
     cells = cell_bind;
     last = last_bind;
     bound = bound_bind;
     few =
-        let e = total_set (λ (v : View). v.used) views n w here in
-        let k = set_more z p (moved p ss cs) (on z text m) z.cells puts.there in let f = law.few in
-        omega arith;
-    quotas = let e = total_set (λ (v : View). v.quota) views n w here in let f = law.quotas in
-        omega arith;
-    quota = at_view views n w (λ v. v.used ≤ v.quota) here (omega arith) (λ k ne. law.quota k);
+        let e = rebound.used in
+        let k = set_more z p (moved p ss cs) (on z text m) z.cells puts.there in
+        let f = law.few in omega arith;
+    quotas = let e = rebound.quotas in let f = law.quotas in omega arith;
+    quota = rebound.quota;
     shape = λ x o.
-        let b = own_moved p ss cs x o in let h = law.shape x b in
+        let b = own_moved p ss cs x o in
+        let h = law.shape x b in
         (h.0, (h.1.0, along_moved p ss cs (slot_at p x).second h.1.0 h.1.1));
     ends = λ x o k. law.ends x (own_moved p ss cs x o) k;
     single = λ a b x oa ob ata atb.
         law.single a b x (own_moved p ss cs a oa) (own_moved p ss cs b ob) ata atb;
-    loose = λ t x o at. let a = law.loose t x (own_moved p ss cs t o) at in let b =
-        fewer x (slot_at p x).life in omega arith;
-    lives = λ x l h. law.lives x l (let a = sums x l in omega arith);
+    loose = λ t x o at.
+        let a = law.loose t x (own_moved p ss cs t o) at in
+        let b = rebound.fewer x (slot_at p x).life in omega arith;
+    lives = λ x l h. law.lives x l (let a = rebound.sums x l in omega arith);
     once = moves.once;
     stands = stands_bind;
-    learnt = at_view views n w (Learnt z (moved p ss cs) after) here
-        (let notes = without s (slot_at p s).life (view_at views n).noted in
-        let built = each_without (Built p) s (slot_at p s).life (view_at views n).noted
-        (law.learnt n).noted in
-        let l = learnt_bind (view_at views n) (law.learnt n) notes built in
-        record { noted = l.noted; seen = l.seen; ended = l.ended; ran = l.ran; led = l.led })
-        (λ k ne. learnt_bind (view_at views k) (law.learnt k) (view_at views k).noted
-        (law.learnt k).noted);
+    learnt = learnt;
   }

@@ -110,8 +110,8 @@ piece_tells n bytes payload small most packs =
     ∙ packs.eights k (omega arith)))
 
 part_size : (bytes : List ℕ) → length (take 120 bytes) ≤ 120
-part_size bytes = let e : length (take 120 bytes) ≡ min 120 (length bytes) =
-    length-take 120 bytes in omega arith
+part_size bytes =
+    let e : length (take 120 bytes) ≡ min 120 (length bytes) = length-take 120 bytes in omega arith
 
 parts_tell : (bytes : List ℕ) (ts : Text) → AreBytes bytes → ArePartsOf bytes ts
     → part_bytes ts ≡ bytes
@@ -233,6 +233,7 @@ piece_bounded payload is =
 
 -- interns that seats or tickets are given add up to one number
 pub area_sum : (first cells : ℕ) (interns : List ℕ) (to : GivenTo)
-    → sum (area first cells interns to).interns + sum (area first cells interns to).grants ≡ sum interns
+    → sum (area first cells interns to).interns + sum (area first cells interns to).grants ≡ sum
+    interns
 area_sum first cells interns Seats = omega arith
 area_sum first cells interns Tickets = omega arith

@@ -10,8 +10,11 @@ pub mod Leave
 pub mod Start
 pub mod Walks
 pub mod Making
+pub mod MakeNotes
 pub mod Linking
+pub mod LinkNotes
 pub mod Binding
+pub mod BindNotes
 pub mod Owns
 pub mod MakingDeeds
 pub mod Foreign

@@ -1,8 +1,7 @@
 -- A link: the slot that was made last, which stands nowhere, leads to a part that stands nowhere.
-use Rattle.std.proofs.Common.{◌≡◌, ◌≢◌, ⊎_elim, ℕ, ◌+◌, ◌<◌, ◌≤◌, List, [], ◌∷◌, length, set, refl, ap, sym, ◌∙◌, subst, arith}
+use Rattle.std.proofs.Common.{◌≡◌, ◌≢◌, ⊎_elim, ℕ, ◌<◌, ◌≤◌, List, ◌∷◌, length, set, refl, ap, sym, ◌∙◌, subst, arith}
 use Rattle.std.specs.Prelude.{Option, Some}
-use Rattle.std.proofs.lemmas.List.{get_or-set_same, get_or-set_other, get_or_past}
-use Rattle.std.proofs.lemmas.Bool.{cases_lt}
+use Rattle.std.proofs.lemmas.List.{get_or-set_same, get_or-set_other}
 use Rattle.plain_state.specs.declared.slot.PlainSlot.{PlainSlot}
 use Rattle.plain_state.specs.declared.slot.SlotId.{SlotId}
 use Rattle.plain_state.specs.declared.slot.Stage.TheVariants.{Live}
@@ -10,14 +9,12 @@ use Rattle.plain_state.specs.State.{Plain, PlainSeat, new_slot, slot_at, stage_a
 use Rattle.plain_state.specs.Lawful.{Lawful}
 use Rattle.plain_protocol.specs.Calm.{IsMade}
 use Rattle.directory_law.specs.Payloads.{Text, IsHead, IsPart, IsOwn}
-use Rattle.directory_law.specs.Views.{Rope, View, gone, view_at, rope, one_of, times_of, fresh, keeps, KeptIn, In, Each, without}
-use Rattle.directory_law.specs.Chains.{Along, OwnSlot}
+use Rattle.directory_law.specs.Views.{Rope, View, view_at, rope, total, fresh, keeps, KeptIn, Each}
+use Rattle.directory_law.specs.Chains.{Along, Reads, OwnSlot}
 use Rattle.directory_law.specs.Cells.{Area, LiveRecord, Stands}
 use Rattle.directory_law.specs.Learnt.{Built, Learnt}
 use Rattle.directory_law.specs.Law.{IsChain, DirectoryLaw}
-use Rattle.directory_law.proofs.Kit.{cases_id, number_other, some_same, total_set, total_at, total_both, at_view}
-use Rattle.directory_law.proofs.Notes.{none_of, cons_of, one_same, without_none, without_other, without_fewer, each_without, each_known, each_in, in_times}
-use Rattle.directory_law.proofs.Kept.{kept_set}
+use Rattle.directory_law.proofs.Kit.{cases_id, number_other, some_same}
 use Rattle.directory_law.proofs.CellCounts.{same_set}
 use Rattle.directory_law.proofs.Chains.{Pointed, part_own, along_on}
 use Rattle.directory_law.proofs.Moves.{Moves, links, along_slot, built_moves, learnt_moves, cell_moves, last_moves, stands_moves}
@@ -28,120 +25,30 @@ leads_to r x = record x { second = Some r }
 abbrev pub after_link : Plain → List PlainSeat → SlotId → SlotId → Plain
 after_link p ss s r = record p { seats = ss; slots = set p.slots s.0 (leads_to r (slot_at p s)) }
 
--- a view that has a note is there
-noting : (views : List View) (n : ℕ) (e : Rope) → In e (view_at views n).noted → n < length views
-noting views n e i =
-    ⊎_elim
-    (λ (h : n < length views). h)
-    (λ past. absurd (subst (λ (v : View). In e v.noted) (get_or_past views n gone past) i))
-    (cases_lt n (length views))
-
 head_not_part : (t : List ℕ) → IsHead t → IsPart t → ⊥
 head_not_part t h k = let a = h.1 in omega arith
 
-module _ (z : Area) (p : Plain) (ss : List PlainSeat) (s r : SlotId) (text : Text) (es : List Rope)
-    (views : List View) (n : ℕ) (inside : s.0 < length p.slots) (lawful : Lawful p)
-    (here : n < length views) (law : DirectoryLaw z p views) (live : stage_at p s ≡ Live)
-    (own : IsOwn (slot_at p s).payload) (live_r : stage_at p r ≡ Live)
-    (part : IsPart (slot_at p r).payload)
-    (noted : (view_at views n).noted ≡ rope s (slot_at p s).life ((slot_at p s).payload ∷ []) ∷ es)
-    (noted_r : In (rope r (slot_at p r).life text) es) where
-  before : Rope
-  before = rope s (slot_at p s).life ((slot_at p s).payload ∷ [])
-
-  w : View
-  w = record (view_at views n) {
-    noted = rope s (slot_at p s).life ((slot_at p s).payload ∷ text) ∷ without r (slot_at p r).life
-        es;
-  }
-
-  after : List View
-  after = set views n w
-
-  -- how often a life is noted in the view, before and after
-  before_is : (x : SlotId) (l : ℕ)
-      → times_of x l (view_at views n).noted ≡ one_of x l before + times_of x l es
-  unfolding before
-  before_is x l = ap (times_of x l) noted ∙ cons_of x l
-      (rope s (slot_at p s).life ((slot_at p s).payload ∷ [])) es
-
-  after_is : (x : SlotId) (l : ℕ)
-      → times_of x l w.noted ≡ one_of x l before + times_of x l (without r (slot_at p r).life es)
-  unfolding w before one_of
-  after_is x l = cons_of x l (rope s (slot_at p s).life ((slot_at p s).payload ∷ text))
-      (without r (slot_at p r).life es)
-
-  counted : (x : SlotId) (l : ℕ)
-      → fresh after x l + times_of x l es ≡ fresh views x l + times_of x l
-      (without r (slot_at p r).life es)
-  unfolding after
-  counted x l =
-      let e = total_set (λ (v : View). times_of x l v.noted) views n w here in
-      let a = before_is x l in let b = after_is x l in omega arith
-
-  fewer : (x : SlotId) (l : ℕ) → fresh after x l ≤ fresh views x l
-  fewer x l = let c = counted x l in let d = without_fewer r (slot_at p r).life x l es in
-      omega arith
-
-  others_same : (x : SlotId) (l : ℕ) → ((x ≡ r) × (l ≡ (slot_at p r).life) → ⊥)
+-- the views after a link of s to r: that life of r is noted no more, and all else is as it was
+pub record Relinked (p : Plain) (s r : SlotId) (views after : List View) : Type 0 where
+  pub apart : r ≢ s
+  pub was_noted : 0 < fresh views s (slot_at p s).life
+  pub part_noted : 0 < fresh views r (slot_at p r).life
+  pub no_more : fresh after r (slot_at p r).life ≡ 0
+  pub fewer : (x : SlotId) (l : ℕ) → fresh after x l ≤ fresh views x l
+  pub fresh_other : (x : SlotId) (l : ℕ) → ((x ≡ r) × (l ≡ (slot_at p r).life) → ⊥)
       → fresh after x l ≡ fresh views x l
-  others_same x l differs = let c = counted x l in let d =
-      without_other r (slot_at p r).life x l es differs in omega arith
+  pub keeps_same : (x : SlotId) (l : ℕ) → keeps after x l ≡ keeps views x l
+  pub kept : (x : SlotId) (l : ℕ) (t : Text) → KeptIn views x l t → KeptIn after x l t
+  pub used : total (λ v. v.used) after ≡ total (λ v. v.used) views
+  pub quotas : total (λ v. v.quota) after ≡ total (λ v. v.quota) views
+  pub quota : (n : ℕ) → (view_at after n).used ≤ (view_at after n).quota
 
-  count_r : 0 < times_of r (slot_at p r).life es
-  count_r = in_times r (slot_at p r).life (rope r (slot_at p r).life text) es refl refl noted_r
-
-  count_s : one_of s (slot_at p s).life before ≡ 1
-  unfolding before
-  count_s = one_same s (slot_at p s).life (rope s (slot_at p s).life ((slot_at p s).payload ∷ []))
-      refl refl
-
-  fresh_r : 0 < fresh views r (slot_at p r).life
-  fresh_r =
-      let a = before_is r (slot_at p r).life in let b = count_r in
-      let c = total_at (λ (v : View). times_of r (slot_at p r).life v.noted) views n here in
-      omega arith
-
-  fresh_s : 0 < fresh views s (slot_at p s).life
-  fresh_s =
-      let a = before_is s (slot_at p s).life in let b = count_s in
-      let c = total_at (λ (v : View). times_of s (slot_at p s).life v.noted) views n here in
-      omega arith
-
-  none_r : fresh after r (slot_at p r).life ≡ 0
-  none_r =
-      let c = counted r (slot_at p r).life in let d = without_none r (slot_at p r).life es in
-      let a = count_r in let o = law.once r (slot_at p r).life in omega arith
-
-  -- each life is noted once: the two are two slots, and no other note is of s in its life
-  apart : r ≢ s
-  apart e =
-      let a = before_is s (slot_at p s).life in
-      let b = count_s in
-      let c : 0 < times_of s (slot_at p s).life es =
-      subst (λ (k : SlotId). 0 < times_of k (slot_at p k).life es) e count_r in
-      let d = total_at (λ (v : View). times_of s (slot_at p s).life v.noted) views n here in
-      let o = law.once s (slot_at p s).life in omega arith
-
-  not_es : (e : Rope) → In e es → (e.slot ≡ s) × (e.life ≡ (slot_at p s).life) → ⊥
-  not_es e i b =
-      let a = before_is s (slot_at p s).life in
-      let c = count_s in
-      let t = in_times s (slot_at p s).life e es b.0 b.1 i in
-      let d = total_at (λ (v : View). times_of s (slot_at p s).life v.noted) views n here in
-      let o = law.once s (slot_at p s).life in omega arith
-
-  not_others : (m : ℕ) (e : Rope) → m ≢ n → In e (view_at views m).noted
-      → (e.slot ≡ s) × (e.life ≡ (slot_at p s).life) → ⊥
-  not_others m e ne i b =
-      let hm = noting views m e i in
-      let a = before_is s (slot_at p s).life in
-      let c = count_s in
-      let t = in_times s (slot_at p s).life e (view_at views m).noted b.0 b.1 i in
-      let d = total_both (λ (v : View). times_of s (slot_at p s).life v.noted) views n m
-      (none_of s (slot_at p s).life) here hm ne in
-      let o = law.once s (slot_at p s).life in omega arith
-
+-- s and r are live slots of the directory, and the text is read from r
+module _ (z : Area) (p : Plain) (ss : List PlainSeat) (s r : SlotId) (text : Text)
+    (views after : List View) (inside : s.0 < length p.slots) (lawful : Lawful p)
+    (law : DirectoryLaw z p views) (relinked : Relinked p s r views after)
+    (own : IsOwn (slot_at p s).payload) (live_r : stage_at p r ≡ Live)
+    (part : IsPart (slot_at p r).payload) (reads_r : Reads p r text) where
   here_slot : slot_at (after_link p ss s r) s ≡ leads_to r (slot_at p s)
   here_slot = get_or-set_same p.slots s.0 (leads_to r (slot_at p s)) new_slot inside
 
@@ -192,20 +99,11 @@ module _ (z : Area) (p : Plain) (ss : List PlainSeat) (s r : SlotId) (text : Tex
         subst IsOwn (payload_same x) o.own;
   }
 
-  keeps_same : (x : SlotId) (l : ℕ) → keeps after x l ≡ keeps views x l
-  unfolding after w
-  keeps_same x l = let e = total_set (λ (v : View). times_of x l v.kept) views n w here in
-      omega arith
-
-  kept_on : (x : SlotId) (l : ℕ) (t : Text) → KeptIn views x l t → KeptIn after x l t
-  unfolding after w
-  kept_on x l t k = kept_set views n w x l t here (λ e i. i) k
-
   noted_not : (x : SlotId) → fresh views x (slot_at p x).life ≡ 0 → x ≡ s → ⊥
   noted_not x none e =
       let b : fresh views s (slot_at p s).life ≡ 0 =
       subst (λ (k : SlotId). fresh views k (slot_at p k).life ≡ 0) e none in
-      let c = fresh_s in omega arith
+      let c = relinked.was_noted in omega arith
 
   moves : Moves z p (after_link p ss s r) views after (λ x. x ≡ s)
   moves = record {
@@ -217,26 +115,27 @@ module _ (z : Area) (p : Plain) (ss : List PlainSeat) (s r : SlotId) (text : Tex
     cells = λ d x h is. is;
     held = λ d x h is. (made_same x (law.cells d x h is).made, payload_same x, life_same x);
     still = noted_not;
-    fewer = λ x l began. fewer x l;
-    kept = kept_on;
-    once = λ x l. let a = fewer x l in let b = keeps_same x l in let c = law.once x l in
+    fewer = λ x l began. relinked.fewer x l;
+    kept = relinked.kept;
+    once = λ x l. let a = relinked.fewer x l in let b = relinked.keeps_same x l in let c =
+        law.once x l in
         omega arith;
   }
 
   unpointed_r : Pointed p r → ⊥
-  unpointed_r pt = let a = law.loose pt.0 r pt.1 pt.2 in let c = fresh_r in omega arith
+  unpointed_r pt = let a = law.loose pt.0 r pt.1 pt.2 in let c = relinked.part_noted in omega arith
 
   -- the chain from s
   along_new : Along (after_link p ss s r) (Some r) text
   along_new =
-      let l = subst (Each (Built p)) noted (law.learnt n).noted in
-      let b = ((each_in (Built p) (rope r (slot_at p r).life text) es noted_r l.1).1 refl
-      live_r).1 in
+      let of_own = part_own (slot_at p r).payload part in
       let tail = along_slot z p (after_link p ss s r) views after (λ x. x ≡ s) moves lawful law r
-      live_r (part_own (slot_at p r).payload part) apart b.0 b.2 in
-      subst (Along (after_link p ss s r) (Some r)) (sym b.1) (r, refl, payload_same r, part, tail)
+      live_r of_own relinked.apart reads_r.0 reads_r.2 in
+      subst (Along (after_link p ss s r) (Some r)) (sym reads_r.1)
+      (r, refl, payload_same r, part, tail)
 
-  built_new : Built (after_link p ss s r) (rope s (slot_at p s).life ((slot_at p s).payload ∷ text))
+  pub built_new : Built (after_link p ss s r)
+      (rope s (slot_at p s).life ((slot_at p s).payload ∷ text))
   built_new = (
     (let a = life_same s in omega arith),
     λ life l. (
@@ -251,32 +150,16 @@ module _ (z : Area) (p : Plain) (ss : List PlainSeat) (s r : SlotId) (text : Tex
   )
 
   -- notes of a slot other than s in its life
-  built_other : (e : Rope) → ((e.slot ≡ s) × (e.life ≡ (slot_at p s).life) → ⊥) → Built p e
+  pub built_other : (e : Rope) → ((e.slot ≡ s) × (e.life ≡ (slot_at p s).life) → ⊥) → Built p e
       → Built (after_link p ss s r) e
   built_other e differs h =
       built_moves z p (after_link p ss s r) views after (λ x. x ≡ s) moves lawful law e
       (λ life is. differs (is, sym life ∙ ap (λ (k : SlotId). (slot_at p k).life) is)) h
 
-  learnt_other : (v : View) → Learnt z p views v → (fs : List Rope)
+  pub learnt_other : (v : View) → Learnt z p views v → (fs : List Rope)
       → Each (Built (after_link p ss s r)) fs
       → Learnt z (after_link p ss s r) after (record v { noted = fs })
   learnt_other = learnt_moves z p (after_link p ss s r) views after (λ x. x ≡ s) moves lawful law
-
-  learnt_link : (m : ℕ) → Learnt z (after_link p ss s r) after (view_at after m)
-  unfolding after w
-  learnt_link =
-      at_view views n w (Learnt z (after_link p ss s r) after) here
-      (let k = subst (Each (Built p)) noted (law.learnt n).noted in
-      let rest = each_known (Built p) (Built (after_link p ss s r)) es
-      (λ e i h. built_other e (not_es e i) h) k.1 in
-      learnt_other (view_at views n) (law.learnt n)
-      (rope s (slot_at p s).life ((slot_at p s).payload ∷ text) ∷ without r (slot_at p r).life
-      es)
-      (built_new, each_without (Built (after_link p ss s r)) r (slot_at p r).life es rest))
-      (λ m ne.
-      learnt_other (view_at views m) (law.learnt m) (view_at views m).noted
-      (each_known (Built p) (Built (after_link p ss s r)) (view_at views m).noted
-      (λ e i h. built_other e (not_others m e ne i) h) (law.learnt m).noted))
 
   -- what s leads to is r alone
   new_is : (t x : SlotId) → t ≡ s → (slot_at (after_link p ss s r) t).second ≡ Some x → x ≡ r
@@ -318,9 +201,9 @@ module _ (z : Area) (p : Plain) (ss : List PlainSeat) (s r : SlotId) (text : Tex
       subst (λ (l : ℕ). fresh after x l ≡ 0) (sym (life_same x))
       (⊎_elim
       (λ (e : t ≡ s). subst (λ (k : SlotId). fresh after k (slot_at p k).life ≡ 0)
-      (sym (new_is t x e at)) none_r)
+      (sym (new_is t x e at)) relinked.no_more)
       (λ (ne : t ≢ s). let a = law.loose t x (own_back t o) (sym (second_same t ne) ∙ at) in let b =
-      fewer x (slot_at p x).life in omega arith)
+      relinked.fewer x (slot_at p x).life in omega arith)
       (cases_id t s))
 
   shape_link : (x : SlotId) → OwnSlot (after_link p ss s r) x
@@ -333,7 +216,8 @@ module _ (z : Area) (p : Plain) (ss : List PlainSeat) (s r : SlotId) (text : Tex
             (λ (e : x ≡ s). (
               text,
               subst (λ (y : Option SlotId). Along (after_link p ss s r) y text)
-                  (sym second_new ∙ ap (λ (k : SlotId). (slot_at (after_link p ss s r) k).second) (sym e))
+                  (sym second_new ∙ ap (λ (k : SlotId). (slot_at (after_link p ss s r) k).second)
+                  (sym e))
                   along_new,
             ))
             (λ (ne : x ≢ s).
@@ -357,33 +241,34 @@ module _ (z : Area) (p : Plain) (ss : List PlainSeat) (s r : SlotId) (text : Tex
         stage = sym (stage_same x) ∙ l.stage;
         mark = sym (mark_same x) ∙ l.mark;
         head = head;
-        bound = sym (others_same x (slot_at p x).life (λ b. ne b.0))
+        bound = sym (relinked.fresh_other x (slot_at p x).life (λ b. ne b.0))
             ∙ subst (λ (y : ℕ). fresh after x y ≡ 0) (life_same x) l.bound;
       })
 
-  pub law_linked : DirectoryLaw z (after_link p ss s r)
-      (set views n (record (view_at views n) {
-        noted =
-            rope s (slot_at p s).life ((slot_at p s).payload ∷ text) ∷ without r (slot_at p r).life es;
-      }))
-  unfolding after w
-  law_linked = record {
+  pub law_linked : ((n : ℕ) → Learnt z (after_link p ss s r) after (view_at after n))
+      → DirectoryLaw z (after_link p ss s r) after
+  law_linked learnt = record {
     cells = cell_moves z p (after_link p ss s r) views after (λ x. x ≡ s) moves lawful law;
     last = last_moves z p (after_link p ss s r) views after (λ x. x ≡ s) moves lawful law;
     bound = bound_link;
-    few = let e = total_set (λ (v : View). v.used) views n w here in let g =
-        same_set z p (after_link p ss s r) z.cells (λ d h. refl) in let f = law.few in omega arith;
-    quotas = let e = total_set (λ (v : View). v.quota) views n w here in let f = law.quotas in
-        omega arith;
-    quota = at_view views n w (λ v. v.used ≤ v.quota) here (law.quota n) (λ m ne. law.quota m);
+    few =
+        let e = relinked.used in
+        let g = same_set z p (after_link p ss s r) z.cells (λ d h. refl) in
+        let f = law.few in omega arith;
+    quotas = let e = relinked.quotas in let f = law.quotas in omega arith;
+    quota = relinked.quota;
     shape = shape_link;
     ends = λ x o m. stage_same x ∙ law.ends x (own_back x o) (sym (mark_same x) ∙ m);
     single = single_link;
     loose = loose_link;
-    lives = λ x l h. let a = fewer x l in let b = keeps_same x l in let c =
-        law.lives x l (omega arith) in let d = life_same x in omega arith;
+    lives = λ x l h.
+        let a = relinked.fewer x l in
+        let b = relinked.keeps_same x l in
+        let c = law.lives x l (omega arith) in
+        let d = life_same x in omega arith;
     once = moves.once;
-    stands = λ x l h. stands_moves z p (after_link p ss s r) views after (λ x. x ≡ s) moves lawful
-        law x l (let a = keeps_same x l in omega arith);
-    learnt = learnt_link;
+    stands = λ x l h.
+        stands_moves z p (after_link p ss s r) views after (λ x. x ≡ s) moves lawful law x l
+        (let a = relinked.keeps_same x l in omega arith);
+    learnt = learnt;
   }

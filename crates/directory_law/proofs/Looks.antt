@@ -1,7 +1,7 @@
 -- What a look or a check finds and leaves; looks at cells keep the law, and tell where a walk ends.
 use Rattle.std.proofs.Common.{◌≡◌, ⊎_elim, ℕ, zero, suc, ◌+◌, ◌-◌, ◌<◌, List, length, get_or, set, refl, ap, sym, ◌∙◌, subst, arith}
 use Rattle.std.specs.Prelude.{Option, Some, None}
-use Rattle.std.proofs.lemmas.List.{get_or-set_same, set-get_or}
+use Rattle.std.proofs.lemmas.List.{get_or-set_same}
 use Rattle.plain_state.specs.declared.act.EventPlace.{EventPlace}
 use Rattle.plain_state.specs.declared.act.EventPlace.TheVariants.{WeakCell}
 use Rattle.plain_state.specs.declared.act.PlainAct.{PlainAct}
@@ -29,7 +29,7 @@ use Rattle.directory_law.proofs.Walks.{walks_tell}
 use Rattle.directory_law.specs.Steps.{id, slot_of, LooksAt, place_of, weak_index, Stays}
 use Rattle.directory_law.proofs.Owns.{object_is}
 use Rattle.directory_law.specs.Lessons.{LookReady, look_next, LookTells, SeeReady, sees, see_next, SeeTells}
-use Rattle.directory_law.proofs.Turns.{law_knows}
+use Rattle.directory_law.proofs.Turns.{law_knows, same_law}
 
 -- it finds what the place holds, and leaves every slot and every cell
 pub record Looked (p q : Plain) (at : EventPlace) (step : PlainAct) (found : ℕ) : Type 0 where
@@ -71,10 +71,6 @@ word_slot zero None e = refl
 word_slot zero (Some x) e = absurd (omega arith)
 word_slot (suc s) None e = absurd (omega arith)
 word_slot (suc s) (Some x) e = ap Some (number_same x (id s) (omega arith))
-
-pub same_law : (z : Area) (p : Plain) (views : List View) (n : ℕ) → DirectoryLaw z p views
-    → DirectoryLaw z p (set views n (view_at views n))
-same_law z p views n law = subst (DirectoryLaw z p) (sym (set-get_or views n gone)) law
 
 pub calm_stays : (z : Area) (p q : Plain) (n : ℕ) (step : PlainAct) (found : ℕ) → Lawful p
     → IsCalm step

@@ -10,14 +10,13 @@ use Rattle.plain_state.specs.State.{Plain, PlainSeat, new_slot, slot_at, stage_a
 use Rattle.plain_state.specs.Lawful.{Lawful}
 use Rattle.plain_protocol.specs.Calm.{IsMade}
 use Rattle.directory_law.specs.Payloads.{Text, IsHead, IsOwn}
-use Rattle.directory_law.specs.Views.{Rope, View, view_at, rope, one_of, times_of, total, fresh, keeps, KeptIn}
+use Rattle.directory_law.specs.Views.{View, view_at, rope, total, fresh, keeps, KeptIn}
 use Rattle.directory_law.specs.Chains.{Along, OwnSlot}
 use Rattle.directory_law.specs.Cells.{Area, cell, LiveRecord, Stands}
 use Rattle.directory_law.specs.Learnt.{Began, Built, Learnt}
 use Rattle.directory_law.specs.Law.{IsChain, DirectoryLaw}
-use Rattle.directory_law.proofs.Kit.{cases_id, number_other, none_some, total_set, at_view, cases_pair}
-use Rattle.directory_law.proofs.Notes.{cons_of, one_same, one_other, one_later, each_map}
-use Rattle.directory_law.proofs.Kept.{kept_set}
+use Rattle.directory_law.proofs.Kit.{cases_id, number_other, none_some, cases_pair}
+use Rattle.directory_law.proofs.Notes.{each_map}
 use Rattle.directory_law.proofs.CellCounts.{same_set}
 use Rattle.directory_law.proofs.Chains.{second_live, along_on}
 use Rattle.directory_law.proofs.Moves.{Moves, links, built_moves, learnt_moves, cell_moves, last_moves, stands_moves}
@@ -73,8 +72,8 @@ module _ (z : Area) (p : Plain) (ss : List PlainSeat) (s : SlotId) (inside : s.0
       (n.0, n.1)
 
   not_live : (x : SlotId) → stage_at p x ≡ Live → x ≢ s
-  not_live x live e = let f : Live ≡ Blank =
-      sym live ∙ (ap (λ (k : SlotId). stage_at p k) e ∙ blank) in cc
+  not_live x live e =
+      let f : Live ≡ Blank = sym live ∙ (ap (λ (k : SlotId). stage_at p k) e ∙ blank) in cc
 
   payload_same : (r : SlotId) → (slot_at (after_make p ss s) r).payload ≡ (slot_at p r).payload
   payload_same = at_slot (λ r x. x.payload ≡ (slot_at p r).payload) refl (λ r ne. refl)
@@ -266,7 +265,9 @@ module _ (z : Area) (p : Plain) (ss : List PlainSeat) (s : SlotId) (inside : s.0
     cells = cell_moves z p (after_make p ss s) views after (λ r. ⊥) moves lawful law;
     last = last_moves z p (after_make p ss s) views after (λ r. ⊥) moves lawful law;
     bound = bound_made;
-    few = let e = mk.used in let g = same_set z p (after_make p ss s) z.cells (λ d h. refl) in
+    few =
+        let e = mk.used in
+        let g = same_set z p (after_make p ss s) z.cells (λ d h. refl) in
         let f = law.few in omega arith;
     quotas = let e = mk.quotas in let f = law.quotas in omega arith;
     quota = mk.quota;
@@ -281,82 +282,3 @@ module _ (z : Area) (p : Plain) (ss : List PlainSeat) (s : SlotId) (inside : s.0
         (let a = mk.keeps_same r l in omega arith);
     learnt = learnt;
   }
-
--- the seat that makes a slot notes it
-module _ (z : Area) (p : Plain) (s : SlotId) (views : List View) (n : ℕ) (here : n < length views)
-    (law : DirectoryLaw z p views) where
-  new : Rope
-  new = rope s ((slot_at p s).life + 1) ((slot_at p s).payload ∷ [])
-
-  w : View
-  w = record (view_at views n) { noted = new ∷ (view_at views n).noted }
-
-  counted : (r : SlotId) (l : ℕ) → fresh (set views n w) r l ≡ fresh views r l + one_of r l new
-  unfolding w
-  counted r l =
-      let e = total_set (λ (v : View). times_of r l v.noted) views n w here in
-      let f = cons_of r l new (view_at views n).noted in omega arith
-
-  new_times : one_of s ((slot_at p s).life + 1) new ≡ 1
-  unfolding new
-  new_times = one_same s ((slot_at p s).life + 1)
-      (rope s ((slot_at p s).life + 1) ((slot_at p s).payload ∷ [])) refl refl
-
-  new_other : (r : SlotId) (l : ℕ) → ((r ≡ s) × (l ≡ (slot_at p s).life + 1) → ⊥)
-      → one_of r l new ≡ 0
-  unfolding new
-  new_other r l differs =
-      ⊎_elim
-      (λ (e : s ≡ r). one_later r l (rope s ((slot_at p s).life + 1) ((slot_at p s).payload ∷ []))
-      (λ f. differs (sym e, sym f)))
-      (λ (ne : s ≢ r). one_other r l (rope s ((slot_at p s).life + 1) ((slot_at p s).payload ∷ []))
-      ne)
-      (cases_id s r)
-
-  made_views : Made p s views (set views n w)
-  unfolding w
-  made_views = record {
-    same = λ r l differs. let c = counted r l in let o = new_other r l differs in omega arith;
-    once =
-        let c = counted s ((slot_at p s).life + 1) in
-        let o = new_times in
-        ⊎_elim
-        (λ (h : 0 < fresh views s ((slot_at p s).life + 1)). let g =
-        law.lives s ((slot_at p s).life + 1) (omega arith) in absurd (omega arith))
-        (λ h. omega arith)
-        (cases_lt 0 (fresh views s ((slot_at p s).life + 1)));
-    head = λ h. let c = counted s ((slot_at p s).life + 1) in let o = new_times in omega arith;
-    keeps_same = λ r l. let e = total_set (λ (v : View). times_of r l v.kept) views n w here in
-        omega arith;
-    kept = λ r l t k. kept_set views n w r l t here (λ e i. i) k;
-    used = let e = total_set (λ (v : View). v.used) views n w here in omega arith;
-    quotas = let e = total_set (λ (v : View). v.quota) views n w here in omega arith;
-    quota = at_view views n w (λ v. v.used ≤ v.quota) here (law.quota n) (λ m ne. law.quota m);
-  }
-
-  pub law_noted : (ss : List PlainSeat) → s.0 < length p.slots → stage_at p s ≡ Blank → Lawful p
-      → IsOwn (slot_at p s).payload
-      → DirectoryLaw z (after_make p ss s)
-      (set views n (record (view_at views n) {
-        noted =
-            rope s ((slot_at p s).life + 1) ((slot_at p s).payload ∷ []) ∷ (view_at views n).noted;
-      }))
-  unfolding w new
-  law_noted ss inside blank lawful own =
-      law_made z p ss s inside blank lawful views (set views n w) made_views law
-      (at_view views n w (Learnt z (after_make p ss s) (set views n w)) here
-      (let l = learnt_made z p ss s inside blank lawful views (set views n w) made_views law
-      (view_at views n) (law.learnt n) in
-      record {
-        noted = (
-          built_new z p ss s inside blank lawful views (set views n w) made_views law
-              own,
-          l.noted,
-        );
-        seen = l.seen;
-        ended = l.ended;
-        ran = l.ran;
-        led = l.led;
-      })
-      (λ m ne. learnt_made z p ss s inside blank lawful views (set views n w) made_views law
-      (view_at views m) (law.learnt m)))

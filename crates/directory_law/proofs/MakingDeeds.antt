@@ -1,7 +1,7 @@
 -- The deeds of a make, a link and a bind keep the law.
 use Rattle.std.proofs.Common.{◌≡◌, ◌≢◌, inl, inr, ⊎_elim, ℕ, ◌+◌, ◌<◌, Bool, true, false, List, [], ◌∷◌, ◌++◌, length, set, refl, ap, sym, ◌∙◌, subst, arith}
 use Rattle.std.specs.Prelude.{if◌then◌else◌, ◌==◌, Option, Some, None}
-use Rattle.std.proofs.lemmas.List.{get_or-set_same, get_or-set_other, set-get_or}
+use Rattle.std.proofs.lemmas.List.{get_or-set_same, get_or-set_other}
 use Rattle.std.proofs.lemmas.Bool.Decides.{nat_tests}
 use Rattle.plain_state.specs.declared.act.EventPlace.TheVariants.{Field}
 use Rattle.plain_state.specs.declared.act.PlainAct.{PlainAct}
@@ -25,19 +25,19 @@ use Rattle.directory_law.specs.Learnt.{Built}
 use Rattle.directory_law.specs.Law.{DirectoryLaw, IsBound}
 use Rattle.directory_law.proofs.Kit.{none_some}
 use Rattle.directory_law.proofs.Notes.{each_in}
-use Rattle.directory_law.proofs.Making.{made, after_make, law_noted}
-use Rattle.directory_law.proofs.Linking.{after_link, law_linked}
-use Rattle.directory_law.proofs.Binding.{moved, Puts, reads_moved, law_bound}
+use Rattle.directory_law.proofs.Making.{made, after_make}
+use Rattle.directory_law.proofs.MakeNotes.{law_noted}
+use Rattle.directory_law.proofs.Linking.{after_link}
+use Rattle.directory_law.proofs.LinkNotes.{law_relinked}
+use Rattle.directory_law.proofs.Binding.{moved, Puts, reads_moved}
+use Rattle.directory_law.proofs.BindNotes.{law_kept}
 use Rattle.directory_law.proofs.Walks.{walked_passed}
 use Rattle.directory_law.specs.Steps.{life_in, payload_in, slot_in, Stays}
 use Rattle.directory_law.specs.Making.{MakeReady, alone, make_next, LinkReady, linked, link_next, BindReady, first_noted, bound, bind_next, MakeTells, BindTells}
+use Rattle.directory_law.proofs.Turns.{same_law}
 use Rattle.directory_law.proofs.Owns.{has_if, life_at, payload_at, has_owned, owned_live, inside_if}
 use Rattle.directory_law.specs.Walks.{Walked}
 use Rattle.directory_law.proofs.Moves.{on_inside}
-
-same_law : (z : Area) (p : Plain) (views : List View) (n : ℕ) → DirectoryLaw z p views
-    → DirectoryLaw z p (set views n (view_at views n))
-same_law z p views n law = subst (DirectoryLaw z p) (sym (set-get_or views n gone)) law
 
 -- MAKE
 module _ (p q : Plain) (n : ℕ) (s : SlotId) (found : ℕ) (does : Does p n (act.Make s) found q) where
@@ -65,8 +65,7 @@ module _ (p q : Plain) (n : ℕ) (s : SlotId) (found : ℕ) (does : Does p n (ac
   owns_it : HasSlot (seat_at q n) s
   unfolding owner
   owns_it =
-      let at : seat_at q n ≡ owner =
-      ap (λ (x : Plain). seat_at x n) does.1.3
+      let at : seat_at q n ≡ owner = ap (λ (x : Plain). seat_at x n) does.1.3
       ∙ get_or-set_same p.seats n owner new_seat does.0.0 in
       let more = times_push s s (seat_at p n).owned in
       let one = held_self s in
@@ -84,8 +83,8 @@ pub make_keeps : (z : Area) → Keeps (DirectoryLaw z) gone MakeReady make_next 
 make_keeps z p q views n step found meets here ready does =
     let s : SlotId = ready.slot in
     let d = subst (λ (a : PlainAct). Does p n a found q) ready.act_is does in
-    let fills : 0 < held_in s (seat_at p n).filling = let e = ap (held_in s) d.1.1 in let f =
-    held_self s in omega arith in
+    let fills : 0 < held_in s (seat_at p n).filling = let e = ap (held_in s) d.1.1 in
+    let f = held_self s in omega arith in
     let own = subst IsOwn (payload_at p n s (has_if (seat_at p n) s (omega arith))) ready.is_own in
     let ss = seats p q n s found d in
     let law = law_noted z p s views n here meets.law ss (inside p q n s found d) d.1.0 meets.lawful
@@ -136,8 +135,8 @@ link_keeps z p q views n step found meets here ready does =
           defers Strong (content p (Field s 1)) d.1.2.0.deferred;
     }) in
     let inside = inside_if p s (λ free. let e : Live ≡ Free = sym live_s ∙ free in cc) in
-    let a = law_linked z p ss s r ready.text (second ∷ ready.others) views n inside meets.lawful
-    here law live_s own_s live_r part noted (inl refl) in
+    let a = law_relinked z p s r ready.text (second ∷ ready.others) views n here law noted
+    (inl refl) ss inside meets.lawful own_s live_r part in
     let b = subst (λ (xs : List Rope). DirectoryLaw z (after_link p ss s r)
     (set views n (record (view_at views n) { noted = xs }))) (ap linked (sym noted)) a in (
       subst (λ (x : Plain). DirectoryLaw z x (set views n
@@ -204,8 +203,8 @@ bind_puts z p ss s m text views n here lawful law some_cells range null walked i
     let cs : List (Option SlotId) = set p.weak_cells (z.first + on z text m) (Some s) in
     let passed = walked_passed z p views law (view_at views n) text m (law.learnt n) walked in
     let puts = puts_at z p ss (on z text m) s range in
-    let after = law_bound z p ss cs s m text views n here lawful law some_cells puts null passed
-    is_text live.0 noted spare in
+    let after = law_kept z p s text views n here law noted spare ss cs m lawful some_cells puts null
+    passed is_text live.0 in
     let built = (each_in (Built p) (rope s (slot_at p s).life text) (view_at views n).noted noted
     (law.learnt n).noted).1 refl live.0 in (
       (

@@ -130,7 +130,8 @@ module _ (z : Area) (p q : Plain) (views after : List View) (changed : SlotId �
       none_after e.now e.now_life h.2 h.3,
       while_moves e.now e.now_life (Along p (slot_at p e.now).second h.0)
           (Along q (slot_at q e.now).second h.0) h.2
-          (λ was live own a. along_slot e.now live own (unwritten e.now e.now_life h.3 was) h.0 a) h.4,
+          (λ was live own a. along_slot e.now live own (unwritten e.now e.now_life h.3 was) h.0 a)
+          h.4,
     )
 
     leads_moves : (e : Led) → Leads p views e → Leads q after e
@@ -139,7 +140,8 @@ module _ (z : Area) (p q : Plain) (views after : List View) (changed : SlotId �
       none_after e.slot e.life h.0 h.1,
       while_moves e.slot e.life ((slot_at p e.slot).second ≡ e.next)
           ((slot_at q e.slot).second ≡ e.next) h.0
-          (λ was live own a. moves.second e.slot live own (unwritten e.slot e.life h.1 was) ∙ a) h.2,
+          (λ was live own a. moves.second e.slot live own (unwritten e.slot e.life h.1 was) ∙ a)
+          h.2,
     )
 
     -- what a view has learnt, with its notes apart
@@ -165,7 +167,8 @@ module _ (z : Area) (p q : Plain) (views after : List View) (changed : SlotId �
         → SetBefore z q text k
     set_before text k some h j lt = set_stays (on z text j) (on_inside z text j some) (h j lt)
 
-    pub cell_moves : (c : ℕ) (s : SlotId) → c < z.cells → cell z p c ≡ Some s → SetCell z q after c s
+    pub cell_moves : (c : ℕ) (s : SlotId) → c < z.cells → cell z p c ≡ Some s
+        → SetCell z q after c s
     cell_moves c s h is =
         let o = law.cells c s h is in
         let k = moves.held c s h is in

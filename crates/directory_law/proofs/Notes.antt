@@ -44,7 +44,9 @@ unfolding one_of
 one_isnt s l e a = rw a refl
 
 pub is_of_at : (s : SlotId) (l : ℕ) (e : Rope) → is_of s l e ≡ true → (e.slot ≡ s) × (e.life ≡ l)
-is_of_at s l e a = let n : e.slot.0 ≡ s.0 = grind (arith, nat_tests) in let b : e.slot ≡ s =
+is_of_at s l e a =
+    let n : e.slot.0 ≡ s.0 = grind (arith, nat_tests) in
+    let b : e.slot ≡ s =
     number_same e.slot s n in let c : e.life ≡ l = grind (arith, nat_tests) in (b, c)
 
 -- none of the notes is left
@@ -55,7 +57,9 @@ without_none s l (e ∷ es) = go (is_of s l e) refl (without_none s l es)
     go : (b : Bool) → is_of s l e ≡ b → times_of s l (without s l es) ≡ 0
         → times_of s l (if b then without s l es else e ∷ without s l es) ≡ 0
     go true is h = h
-    go false is h = let c = cons_of s l e (without s l es) in let d = one_isnt s l e is in
+    go false is h =
+        let c = cons_of s l e (without s l es) in
+        let d = one_isnt s l e is in
         omega arith
 
 -- notes of another slot or life stay
@@ -76,7 +80,9 @@ without_other s l r k (e ∷ es) h = go (is_of s l e) refl (without_other s l r 
     go : (b : Bool) → is_of s l e ≡ b → times_of r k (without s l es) ≡ times_of r k es
         → times_of r k (if b then without s l es else e ∷ without s l es) ≡ times_of r k (e ∷ es)
     go true is i = let c = cons_of r k e es in let d = none is in omega arith
-    go false is i = let c = cons_of r k e es in let d = cons_of r k e (without s l es) in
+    go false is i =
+        let c = cons_of r k e es in
+        let d = cons_of r k e (without s l es) in
         omega arith
 
 pub without_fewer : (s : SlotId) (l : ℕ) (r : SlotId) (k : ℕ) (es : List Rope)
@@ -87,7 +93,9 @@ without_fewer s l r k (e ∷ es) = go (is_of s l e) refl (without_fewer s l r k 
     go : (b : Bool) → is_of s l e ≡ b → times_of r k (without s l es) ≤ times_of r k es
         → times_of r k (if b then without s l es else e ∷ without s l es) ≤ times_of r k (e ∷ es)
     go true is i = let c = cons_of r k e es in omega arith
-    go false is i = let c = cons_of r k e es in let d = cons_of r k e (without s l es) in
+    go false is i =
+        let c = cons_of r k e es in
+        let d = cons_of r k e (without s l es) in
         omega arith
 
 -- what holds of each note

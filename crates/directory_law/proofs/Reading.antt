@@ -174,8 +174,7 @@ upgrade_keeps z spends p q views n step found meets here ready does =
     let s : SlotId = ready.slot in
     let d = subst (λ (a : PlainAct). Does p n a found q) ready.act_is does in
     let law_q = calmly z p q n (act.Add s) found views meets tt d in
-    let slots : slot_at q s ≡ slot_at p s =
-    ⊎_elim (λ up. ap (λ (x : Plain). slot_at x s) up.2)
+    let slots : slot_at q s ≡ slot_at p s = ⊎_elim (λ up. ap (λ (x : Plain). slot_at x s) up.2)
     (λ dead. ap (λ (x : Plain). slot_at x s) dead.2) d.1.1 in
     let a = law_upgrades z p q views n here s spends meets.law law_q slots ready.seen ready.spare
     found (⊎_elim (λ up. inl up.0) (λ dead. inr (dead.0, dead.1)) d.1.1) in

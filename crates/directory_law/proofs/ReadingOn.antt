@@ -20,12 +20,12 @@ use Rattle.directory_law.proofs.Kit.{some_same, none_some}
 use Rattle.directory_law.proofs.Notes.{each_in}
 use Rattle.directory_law.proofs.Chains.{live_own, part_own}
 use Rattle.directory_law.proofs.Foreign.{calmly}
-use Rattle.directory_law.proofs.Turns.{law_knows}
+use Rattle.directory_law.proofs.Turns.{law_knows, same_law}
 use Rattle.directory_law.specs.Steps.{id, slot_of}
 use Rattle.directory_law.proofs.Owns.{life_at, object_is, has_strongly, strongly_live}
 use Rattle.directory_law.specs.Lessons.{first_ran, ReadReady, leads, lead_next, reads_part, read_next, ReadTells}
 use Rattle.directory_law.proofs.Ends.{append_none, kept_is}
-use Rattle.directory_law.proofs.Looks.{Looked, looked, word_slot, same_law}
+use Rattle.directory_law.proofs.Looks.{Looked, looked, word_slot}
 
 -- one slot more is read
 run_on : (z : Area) (q : Plain) (views : List View) (e : Ran) (r : SlotId) → DirectoryLaw z q views

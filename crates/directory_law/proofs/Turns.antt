@@ -1,10 +1,11 @@
 -- What becomes of the law where views change alone.
 use Rattle.std.proofs.Common.{◌≡◌, ℕ, ◌+◌, ◌<◌, ◌≤◌, List, ◌++◌, length, set, sum, ap, sym, ◌∙◌, subst, arith}
 use Rattle.std.specs.Prelude.{Some}
+use Rattle.std.proofs.lemmas.List.{set-get_or}
 use Rattle.plain_state.specs.declared.slot.SlotId.{SlotId}
 use Rattle.plain_state.specs.State.{Plain, slot_at}
 use Rattle.directory_law.specs.Payloads.{Text}
-use Rattle.directory_law.specs.Views.{Ran, Led, View, view_at, times_of, total, fresh, keeps, KeptIn, In}
+use Rattle.directory_law.specs.Views.{Ran, Led, View, gone, view_at, times_of, total, fresh, keeps, KeptIn, In}
 use Rattle.directory_law.specs.Cells.{Area, cell, on, SetCell, LiveRecord}
 use Rattle.directory_law.specs.Learnt.{Running, Leads, Learnt}
 use Rattle.directory_law.specs.Law.{granted, LastOnWalk, DirectoryLaw}
@@ -140,8 +141,9 @@ law_learns z p views n w here noted kept quotas more spare learnt law =
     same_noted s l = ap (times_of s l) noted
 
     same : (s : SlotId) (l : ℕ) → fresh (set views n w) s l ≡ fresh views s l
-    same s l = let e = total_set (λ (v : View). times_of s l v.noted) views n w here in let f =
-        same_noted s l in omega arith
+    same s l =
+        let e = total_set (λ (v : View). times_of s l v.noted) views n w here in
+        let f = same_noted s l in omega arith
 
     turned : Turned views (set views n w)
     turned = turned_set views n w here (λ s l. let f = same_noted s l in omega arith) kept more
@@ -155,3 +157,8 @@ law_knows z p views n w here noted kept quota more spare learnt law =
     law_learns z p views n w here noted kept
     (let e = total_set (λ (v : View). v.quota) views n w here in let f = law.quotas in omega arith)
     more spare learnt law
+
+-- no view changes
+pub same_law : (z : Area) (p : Plain) (views : List View) (n : ℕ) → DirectoryLaw z p views
+    → DirectoryLaw z p (set views n (view_at views n))
+same_law z p views n law = subst (DirectoryLaw z p) (sym (set-get_or views n gone)) law

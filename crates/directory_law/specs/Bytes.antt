@@ -42,7 +42,8 @@ piece_bytes n payload = bytes_of_words n (drop 1 payload)
 
 -- what an object weighs: of a head the number of its bytes, at most 120; of a part that of its own
 abbrev pub piece_weight : List ℕ → ℕ
-piece_weight payload = if nat_lt 65536 (size payload) then size payload - 65536 else min 120 (size payload)
+piece_weight payload =
+    if nat_lt 65536 (size payload) then size payload - 65536 else min 120 (size payload)
 
 abbrev pub part_bytes : Text → List ℕ
 part_bytes [] = []

@@ -13,8 +13,8 @@ use Rattle.directory_law.specs.Places.{text_hash}
 use Rattle.directory_law.specs.Views.{View, KeptIn, fresh}
 use Rattle.directory_law.specs.Chains.{Begins, Reads}
 
--- a directory: its first weak cell and how many they are; the interns with which each seat begins, and those that each
--- ticket gives
+-- a directory: its first weak cell and how many they are; the interns with which each seat begins, and those that
+-- each ticket gives
 pub record Area : Type 0 where
   pub first : ℕ
   pub cells : ℕ
@@ -64,8 +64,8 @@ SetBefore z p text k = (j : ℕ) → j < k → cell z p (on z text j) ≢ None
 abbrev pub IsOnWay : Area → Plain → Text → ℕ → Type 0
 IsOnWay z p text c = (k : ℕ) × (k < z.cells) × (c ≡ on z text k) × SetBefore z p text k
 
--- cell c holds s, which is an object, alive or not. A view keeps the cell's text, which the slot has wherever that can
--- be read
+-- cell c holds s, which is an object, alive or not. A view keeps the cell's text, which the slot has wherever that
+-- can be read
 pub record SetCell (z : Area) (p : Plain) (views : List View) (c : ℕ) (s : SlotId) : Type 0 where
   pub made : IsMade (stage_at p s)
   pub text : Text

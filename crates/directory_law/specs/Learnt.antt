@@ -29,7 +29,8 @@ Saw z p e =
 
 -- a life that has ended
 abbrev pub Past : Plain → Note → Type 0
-Past p e = Began p e.slot e.life × ((slot_at p e.slot).life ≡ e.life → (slot_at p e.slot).marked ≡ true)
+Past p e =
+    Began p e.slot e.life × ((slot_at p e.slot).life ≡ e.life → (slot_at p e.slot).marked ≡ true)
 
 -- a text that was read so far: it is kept, and what follows is read on from the slot `now`
 abbrev pub Running : Plain → List View → Ran → Type 0

@@ -1,5 +1,5 @@
--- The deeds that make a record: its slots are made, the last part first; each leads to the one that was made before it;
--- the head goes into a cell.
+-- The deeds that make a record: its slots are made, the last part first; each leads to the one that was made before
+-- it; the head goes into a cell.
 use Rattle.std.specs.Prelude.{◌≡◌, ◌⊎◌, ℕ, ◌+◌, ◌<◌, ◌==◌, List, [], ◌∷◌, ◌++◌, if◌then◌else◌, Some, None}
 use Rattle.plain_state.specs.declared.act.EventPlace.TheVariants.{Field, WeakCell}
 use Rattle.plain_state.specs.declared.act.PlainAct.{PlainAct}

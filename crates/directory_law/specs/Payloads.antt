@@ -1,4 +1,5 @@
--- The payloads of heads and parts, as far as the law reads them: word 0 tells what a slot is, and how many bytes it has.
+-- The payloads of heads and parts, as far as the law reads them: word 0 tells what a slot is, and how many bytes it
+-- has.
 use Rattle.std.specs.Prelude.{◌≡◌, ℕ, ◌+◌, ◌-◌, ◌<◌, ◌≤◌, List, [], ◌∷◌, slice_index}
 
 -- a text as its slots have it: the payload of the head, and those of the parts

@@ -16,8 +16,8 @@ StandsAt z p views s text =
     (c : ℕ) × (c < z.cells) × (cell z p c ≡ Some s) × KeptIn views s (slot_at p s).life text
     × IsOnWay z p text c
 
--- a set cell: its slot is a head, alive or not. It has one text, which the slot has wherever that can be read: as long
--- as it lives, and for ever where it has at most 120 bytes
+-- a set cell: its slot is a head, alive or not. It has one text, which the slot has wherever that can be read: as
+-- long as it lives, and for ever where it has at most 120 bytes
 pub record IsSetCell (z : Area) (p : Plain) (views : List View) (c : ℕ) (s : SlotId)
     : Type 0 where
   pub made : IsMade (stage_at p s)

@@ -1,15 +1,15 @@
-//! The law of a directory over the plain state: a range of weak cells in which equal texts share one record as long as
-//! somebody uses it; and the lemmas that each step of a seat keeps it.
+//! The law of a directory over the plain state: a range of weak cells in which equal texts share one record as long
+//! as somebody uses it; and the lemmas that each step of a seat keeps it.
 //!
 //! A record is a chain of slots along field 1: a head with a text's length and first 120 bytes, and a part for each
-//! further 120. A walk for a text begins at the cell that its bytes tell, and goes on around the end. A head goes into
-//! the first null cell of its walk, and then that cell never changes: where its record has ended it is a gravestone,
-//! which every walk passes. The law stands over what seats' views note and keep: which slots were made and stand
-//! nowhere, and which text each cell has.
+//! further 120. A walk for a text begins at the cell that its bytes tell, and goes on around the end. A head goes
+//! into the first null cell of its walk, and then that cell never changes: where its record has ended it is a
+//! gravestone, which every walk passes. The law stands over what seats' views note and keep: which slots were made
+//! and stand nowhere, and which text each cell has.
 //!
 //! The rule gives a caller: each text has at most one live record, which stands in a cell of its text
-//! (`one_live_record`); a text that was bound stays as long as its head lives (`kept_texts_stay`); set cells are at most
-//! the interns that seats were given (`cells_within_interns`); bytes and payloads determine one another
+//! (`one_live_record`); a text that was bound stays as long as its head lives (`kept_texts_stay`); set cells are at
+//! most the interns that seats were given (`cells_within_interns`); bytes and payloads determine one another
 //! (`laws_of_texts`).
 //!
 //! Nothing here runs, and no step is promised to come.

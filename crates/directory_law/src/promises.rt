@@ -15,8 +15,8 @@ ghost use Rattle.directory_law.specs.Promises.{IsSetCell, OneRecord, WithinInter
 
 use crate::view::View;
 
-/// A set cell has one text, which a view keeps, and every cell from the text's place, around the end, to it is set. Its
-/// slot is a head, alive or not, and has this text wherever that can be read.
+/// A set cell has one text, which a view keeps, and every cell from the text's place, around the end, to it is set.
+/// Its slot is a head, alive or not, and has this text wherever that can be read.
 pub fn set_cells_have_texts()
     ensures { (z : Area) (p : Plain) (views : List View) → DirectoryLaw z p views
         → (c : ℕ) (s : SlotId) → c < z.cells → cell z p c ≡ Some s → IsSetCell z p views c s }
@@ -45,8 +45,8 @@ pub fn room_for_an_intern()
         → ¬ (Walked z (view_at views n) text z.cells) }
 {}
 
-/// Field 0 of each slot of the directory is null. Field 1 leads to a live part, to which no other leads; no part stands
-/// in a cell, and no slot reaches itself.
+/// Field 0 of each slot of the directory is null. Field 1 leads to a live part, to which no other leads; no part
+/// stands in a cell, and no slot reaches itself.
 #[tactic(auto, using(crate::proofs::Gives::parts_stand_once))]
 pub fn parts_are_linked_once()
     ensures { (z : Area) (p : Plain) (views : List View) → Lawful p → DirectoryLaw z p views
@@ -62,8 +62,8 @@ pub fn live_where_bound()
         → (text : Text) → NoneBound z p text → NoLive p views text }
 {}
 
-/// What is kept stands in a cell, in the life for which it is kept. As long as it lives it has its text, so no field of
-/// that changes; and its text may be read from the head on.
+/// What is kept stands in a cell, in the life for which it is kept. As long as it lives it has its text, so no field
+/// of that changes; and its text may be read from the head on.
 pub fn kept_texts_stay()
     ensures stands { (z : Area) (p : Plain) (views : List View) → DirectoryLaw z p views
         → (s : SlotId) → IsKept p views s → Stands z p s }

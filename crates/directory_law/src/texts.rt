@@ -6,8 +6,8 @@ ghost use Rattle.directory_law.specs.Places.{hash_on, text_hash};
 ghost use Rattle.directory_law.specs.Views.{Each};
 
 /// Bytes and payloads determine one another: some bytes have one text, and a text tells its bytes. It is what the law
-/// calls a text, each of its slots has the payload of a head or of a part, and all of them weigh as much as the text has
-/// bytes. The place is taken from the bytes; that of `ab` from 25285.
+/// calls a text, each of its slots has the payload of a head or of a part, and all of them weigh as much as the text
+/// has bytes. The place is taken from the bytes; that of `ab` from 25285.
 pub fn laws_of_texts()
     ensures one_text { (bytes : List ℕ) (a b : Text) → IsTextOf bytes a → IsTextOf bytes b → a ≡ b }
     ensures bytes { (bytes : List ℕ) (text : Text) → AreBytes bytes → IsTextOf bytes text

@@ -20,8 +20,8 @@ impl Deed<DirectoryLaw> for LookAtCell {
     ghost keeps = { λ it of. look_keeps (area of.first of.cells of.interns.items of.to) };
 }
 
-/// What a cell of the range held, if the seat then has it: it is a head, and noted as seen in its life. Where the cell is
-/// null and the walk of a text ends here, the text has no live record. It goes with both a look and a check.
+/// What a cell of the range held, if the seat then has it: it is a head, and noted as seen in its life. Where the
+/// cell is null and the walk of a text ends here, the text has no live record. It goes with both a look and a check.
 #[derive(Clone, Copy, Drop)]
 pub struct SeeHead;
 

@@ -61,9 +61,8 @@ impl DirectoryLaw {
     /// No more interns are given than there are cells. The call does nothing.
     #[tactic(auto, using(directory_law::proofs::Bytes::area_sum))]
     pub fn has_room(&self)
-        ensures { sum (area self.now.first self.now.cells self.now.interns.items self.now.to).interns
-            + sum (area self.now.first self.now.cells self.now.interns.items self.now.to).grants
-            ≤ self.now.cells }
+        ensures { let z = area self.now.first self.now.cells self.now.interns.items self.now.to in
+            sum z.interns + sum z.grants ≤ self.now.cells }
     {}
 }
 

@@ -6,7 +6,8 @@ ghost use Rattle.directory_law.proofs.MakingDeeds.{bind_keeps, link_keeps, make_
 use crate::law::DirectoryLaw;
 use plain_protocol::Deed;
 
-/// The slot that the seat is filling becomes a head or a part, which stands nowhere and is noted. The last part comes first.
+/// The slot that the seat is filling becomes a head or a part, which stands nowhere and is noted. The last part comes
+/// first.
 #[derive(Clone, Copy, Drop)]
 pub struct MakeSlot;
 
@@ -34,8 +35,9 @@ impl Deed<DirectoryLaw> for LinkPart {
     ghost keeps = { λ it of. link_keeps (area of.first of.cells of.interns.items of.to) };
 }
 
-/// The first null cell on the walk of a text gets the head that was noted last, where it is still null: the text is kept, and
-/// one intern more is used. It is the live record of its text then. The seat has walked over the cells before.
+/// The first null cell on the walk of a text gets the head that was noted last, where it is still null: the text is
+/// kept, and one intern more is used. It is the live record of its text then. The seat has walked over the cells
+/// before.
 #[derive(Clone, Copy, Drop)]
 pub struct BindHead;
 

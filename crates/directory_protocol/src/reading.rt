@@ -8,8 +8,8 @@ ghost use Rattle.directory_law.proofs.Answers.{answer_keeps};
 use crate::law::DirectoryLaw;
 use plain_protocol::Deed;
 
-/// An add to a head that was seen in a cell. Where it counts, the head is a live record, and its payload is read; else its
-/// life is noted as ended.
+/// An add to a head that was seen in a cell. Where it counts, the head is a live record, and its payload is read;
+/// else its life is noted as ended.
 #[derive(Clone, Copy, Drop)]
 pub struct UpgradeHead {
     /// Whether the step counts an intern of the seat.
@@ -23,11 +23,12 @@ impl Deed<DirectoryLaw> for UpgradeHead {
 
     ghost allows = { λ it of. UpgradeTells (area of.first of.cells of.interns.items of.to) };
 
-    ghost keeps = { λ it of. upgrade_keeps (area of.first of.cells of.interns.items of.to) it.intern };
+    ghost keeps = { λ it of.
+        upgrade_keeps (area of.first of.cells of.interns.items of.to) it.intern };
 }
 
-/// A look at field 1 of the slot that was read last: what it holds is noted, and stays as long as that slot lives. Where it
-/// is null, the whole text was read.
+/// A look at field 1 of the slot that was read last: what it holds is noted, and stays as long as that slot lives.
+/// Where it is null, the whole text was read.
 #[derive(Clone, Copy, Drop)]
 pub struct LeadOn;
 
@@ -41,8 +42,8 @@ impl Deed<DirectoryLaw> for LeadOn {
     ghost keeps = { λ it of. lead_keeps (area of.first of.cells of.interns.items of.to) };
 }
 
-/// A look or a check of field 1 of the slot that was read last. The part that it held is read, if the seat then has it; and
-/// it held what it was seen to hold. Where it is null, the whole text was read.
+/// A look or a check of field 1 of the slot that was read last. The part that it held is read, if the seat then has
+/// it; and it held what it was seen to hold. Where it is null, the whole text was read.
 #[derive(Clone, Copy, Drop)]
 pub struct ReadOn;
 
@@ -56,8 +57,8 @@ impl Deed<DirectoryLaw> for ReadOn {
     ghost keeps = { λ it of. read_keeps (area of.first of.cells of.interns.items of.to) };
 }
 
-/// A calm step, at which the seat owns a head that it saw in a cell and whose whole text it read: it is the live record of
-/// this text.
+/// A calm step, at which the seat owns a head that it saw in a cell and whose whole text it read: it is the live
+/// record of this text.
 #[derive(Clone, Copy, Drop)]
 pub struct AnswerHead {
     /// Whether the step counts an intern of the seat.
@@ -71,5 +72,6 @@ impl Deed<DirectoryLaw> for AnswerHead {
 
     ghost allows = { λ it of. AnswerTells (area of.first of.cells of.interns.items of.to) };
 
-    ghost keeps = { λ it of. answer_keeps (area of.first of.cells of.interns.items of.to) it.intern };
+    ghost keeps = { λ it of.
+        answer_keeps (area of.first of.cells of.interns.items of.to) it.intern };
 }
