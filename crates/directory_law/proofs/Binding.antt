@@ -273,7 +273,6 @@ module _ (z : Area) (p : Plain) (ss : List PlainSeat) (cs : List (Option SlotId)
         let b = own_moved p ss cs x o in
         let h = law.shape x b in
         (h.0, (h.1.0, along_moved p ss cs (slot_at p x).second h.1.0 h.1.1));
-    ends = λ x o k. law.ends x (own_moved p ss cs x o) k;
     single = λ a b x oa ob ata atb.
         law.single a b x (own_moved p ss cs a oa) (own_moved p ss cs b ob) ata atb;
     loose = λ t x o at.

@@ -258,7 +258,6 @@ module _ (z : Area) (p : Plain) (ss : List PlainSeat) (s r : SlotId) (text : Tex
     quotas = let e = relinked.quotas in let f = law.quotas in omega arith;
     quota = relinked.quota;
     shape = shape_link;
-    ends = λ x o m. stage_same x ∙ law.ends x (own_back x o) (sym (mark_same x) ∙ m);
     single = single_link;
     loose = loose_link;
     lives = λ x l h.

@@ -222,19 +222,6 @@ module _ (z : Area) (p : Plain) (ss : List PlainSeat) (s : SlotId) (inside : s.0
       ))
       (cases_id r s)
 
-  ends_made : (r : SlotId) → OwnSlot (after_make p ss s) r
-      → (slot_at (after_make p ss s) r).marked ≡ false
-      → stage_at (after_make p ss s) r ≡ Live
-  ends_made r o m =
-      ⊎_elim
-      (λ (e : r ≡ s). ap (λ (k : SlotId). stage_at (after_make p ss s) k) e
-      ∙ ap (λ (y : PlainSlot). y.stage) here_slot)
-      (λ (ne : r ≢ s).
-      let x = other_slot r ne in
-      ap (λ (y : PlainSlot). y.stage) x
-      ∙ law.ends r (own_other r ne o) (sym (ap (λ (y : PlainSlot). y.marked) x) ∙ m))
-      (cases_id r s)
-
   loose_made : (t r : SlotId) → OwnSlot (after_make p ss s) t
       → (slot_at (after_make p ss s) t).second ≡ Some r
       → fresh after r (slot_at (after_make p ss s) r).life ≡ 0
@@ -272,7 +259,6 @@ module _ (z : Area) (p : Plain) (ss : List PlainSeat) (s : SlotId) (inside : s.0
     quotas = let e = mk.quotas in let f = law.quotas in omega arith;
     quota = mk.quota;
     shape = shape_made;
-    ends = ends_made;
     single = λ a b r oa ob ata atb. let la = leads a r oa ata in let lb = leads b r ob atb in
         law.single a b r la.0 lb.0 la.1 lb.1;
     loose = loose_made;

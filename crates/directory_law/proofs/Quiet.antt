@@ -32,7 +32,6 @@ pub record SlotQuiet (refs : ℕ) (x y : PlainSlot) : Type 0 where
   pub life : y.life ≡ x.life
   pub mark : x.marked ≡ true → y.marked ≡ true
   pub live : y.stage ≡ Live → x.stage ≡ Live
-  pub ends : x.stage ≡ Live → y.marked ≡ false → y.stage ≡ Live
   pub payload : x.stage ≡ Live → y.payload ≡ x.payload
   pub second : x.stage ≡ Live → IsOwn x.payload → y.second ≡ x.second
   pub held : 0 < refs → IsMade x.stage → IsMade y.stage × (y.payload ≡ x.payload)
@@ -50,7 +49,6 @@ same_quiet refs x = record {
   life = refl;
   mark = λ h. h;
   live = λ h. h;
-  ends = λ h m. h;
   payload = λ h. refl;
   second = λ h own. refl;
   held = λ h made. (made, refl);
@@ -67,7 +65,6 @@ calmed_quiet z p q f = record {
         life = c.life;
         mark = c.mark;
         live = c.live;
-        ends = c.ends;
         payload = c.payload;
         second = λ h own. (c.fields h).1;
         held = c.held;
@@ -163,7 +160,6 @@ module _ (z : Area) (p q : Plain) (quiet : Quiet z p q) (lawful : Lawful p) (vie
     quotas = let e = law.quotas in let f = quiet.granted in omega arith;
     quota = law.quota;
     shape = shape_quiet;
-    ends = λ s o m. (quiet.slots s).ends (law.ends s (own_back s o) (unmarked s m)) m;
     single = λ s t r os ot ats att.
         law.single s t r (own_back s os) (own_back t ot) (second_back s r os ats)
         (second_back t r ot att);

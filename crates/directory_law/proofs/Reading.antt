@@ -1,11 +1,14 @@
 -- The deeds that begin to read a text and read on keep the law.
-use Rattle.std.proofs.Common.{◌≡◌, ◌⊎◌, inl, inr, ⊎_elim, ℕ, ◌+◌, ◌<◌, ◌≤◌, Bool, true, false, List, [], ◌∷◌, ◌++◌, length, set, refl, ap, sym, ◌∙◌, subst, arith}
+use Rattle.std.proofs.Common.{◌≡◌, ◌≢◌, ◌⊎◌, inl, inr, ⊎_elim, ℕ, ◌+◌, ◌<◌, ◌≤◌, Bool, true, false, List, [], ◌∷◌, ◌++◌, length, set, refl, ap, sym, ◌∙◌, subst, arith}
 use Rattle.std.specs.Prelude.{if◌then◌else◌, ◌==◌, Some}
 use Rattle.plain_state.specs.declared.act.PlainAct.{PlainAct}
 use Rattle.plain_state.specs.declared.act.PlainAct.TheVariants as act
 use Rattle.plain_state.specs.declared.slot.PlainSlot.{PlainSlot}
 use Rattle.plain_state.specs.declared.slot.SlotId.{SlotId}
-use Rattle.plain_state.specs.State.{Plain, slot_at}
+use Rattle.plain_state.specs.declared.slot.Stage.{Stage}
+use Rattle.plain_state.specs.declared.slot.Stage.TheVariants.{Free, Blank, Live, Ended, Husk}
+use Rattle.plain_state.specs.State.{Plain, slot_at, stage_at}
+use Rattle.plain_state.specs.Lawful.{Lawful}
 use Rattle.plain_state.specs.Steps.{Does}
 use Rattle.plain_protocol.specs.Laws.{Keeps}
 use Rattle.plain_protocol.specs.Owns.{OwnPart, own_part}
@@ -15,6 +18,7 @@ use Rattle.directory_law.specs.Chains.{Along, Reads}
 use Rattle.directory_law.specs.Cells.{Area, cell}
 use Rattle.directory_law.specs.Learnt.{Saw, Running}
 use Rattle.directory_law.specs.Law.{DirectoryLaw, IsBound}
+use Rattle.directory_law.proofs.Kit.{false≢true}
 use Rattle.directory_law.proofs.Notes.{each_in}
 use Rattle.directory_law.proofs.Chains.{begins_own, rest_of}
 use Rattle.directory_law.proofs.Moves.{kept_beside}
@@ -47,25 +51,34 @@ reads_from z p views c s l head law inside is life payload =
           (begins_own p s o.text o.is b, subst (Along p (slot_at p s).second) e r.2),
     )
 
+live_or_not : (g : Stage) → (g ≡ Live) ⊎ (g ≢ Live)
+live_or_not Free = inr (λ (e : Free ≡ Live). cc)
+live_or_not Blank = inr (λ (e : Blank ≡ Live). cc)
+live_or_not Live = inl refl
+live_or_not Ended = inr (λ (e : Ended ≡ Live). cc)
+live_or_not Husk = inr (λ (e : Husk ≡ Live). cc)
+
+unmarked_live : (p : Plain) (s : SlotId) → Lawful p → (slot_at p s).marked ≡ false → stage_at p s ≡ Live
+unmarked_live p s lawful mark =
+    ⊎_elim
+    (λ (live : stage_at p s ≡ Live). live)
+    (λ (dead : stage_at p s ≢ Live). absurd (false≢true (sym mark ∙ lawful.marks s dead)))
+    (live_or_not (stage_at p s))
+
 -- a slot in a cell without a zero mark is the live record of its text
 pub unmarked_bound : (z : Area) (p : Plain) (views : List View) (c : ℕ) (s : SlotId) (head : List ℕ)
-    → DirectoryLaw z p views → c < z.cells → cell z p c ≡ Some s → (slot_at p s).payload ≡ head
-    → (slot_at p s).marked ≡ false
+    → Lawful p → DirectoryLaw z p views → c < z.cells → cell z p c ≡ Some s
+    → (slot_at p s).payload ≡ head → (slot_at p s).marked ≡ false
     → (tail : Text) × IsText (head ∷ tail) × IsBound z p (head ∷ tail) s
-unmarked_bound z p views c s head law inside is payload mark =
+unmarked_bound z p views c s head lawful law inside is payload mark =
     let o = law.cells c s inside is in
     let b = o.begins in
     let text : o.text ≡ head ∷ b.0 = b.1 ∙ ap (λ (t : List ℕ). t ∷ b.0) payload in
-    let live = law.ends s (record { made = o.made; own = begins_own p s o.text o.is b }) mark in (
+    let live = unmarked_live p s lawful mark in
+    let reads = subst (Reads p s) text (o.reads live) in (
       b.0,
       subst IsText text o.is,
-      record {
-        stands = (c, inside, is);
-        stage = live;
-        mark = mark;
-        reads =
-            subst (Reads p s) text (o.reads live);
-      },
+      record { stands = (c, inside, is); stage = live; mark = mark; reads = reads },
     )
 
 -- UPGRADE
@@ -83,7 +96,7 @@ upgraded spends own v s found =
 
 module _ (z : Area) (p q : Plain) (views : List View) (n : ℕ) (here : n < length views) (s : SlotId)
     (spends : Bool)
-    (law : DirectoryLaw z p views) (law_q : DirectoryLaw z q views)
+    (lawful : Lawful p) (law : DirectoryLaw z p views) (law_q : DirectoryLaw z q views)
     (same : slot_at q s ≡ slot_at p s)
     (seen : HasSeen (own_part p n) (view_at views n) s)
     (spare : (view_at views n).used + spent spends ≤ (view_at views n).quota) where
@@ -163,7 +176,7 @@ module _ (z : Area) (p q : Plain) (views : List View) (n : ℕ) (here : n < leng
       subst (λ (x : Ran). (tail : Text) × IsText (x.before ++ tail)
       × IsBound z p (x.before ++ tail) x.slot)
       (first_is (starts_at (own_part p n) s) f (view_at views n).ran is)
-      (unmarked_bound z p views seen.0 s (payload_in (own_part p n) s) law saw.0 saw.1 saw.3 up.1)
+      (unmarked_bound z p views seen.0 s (payload_in (own_part p n) s) lawful law saw.0 saw.1 saw.3 up.1)
   upgrade_tells found (inr dead) f ran =
       absurd (longer f (view_at views n).ran (sym (rw dead refl) ∙ ran))
 
@@ -176,9 +189,9 @@ upgrade_keeps z spends p q views n step found meets here ready does =
     let law_q = calmly z p q n (act.Add s) found views meets tt d in
     let slots : slot_at q s ≡ slot_at p s = ⊎_elim (λ up. ap (λ (x : Plain). slot_at x s) up.2)
     (λ dead. ap (λ (x : Plain). slot_at x s) dead.2) d.1.1 in
-    let a = law_upgrades z p q views n here s spends meets.law law_q slots ready.seen ready.spare
+    let a = law_upgrades z p q views n here s spends meets.lawful meets.law law_q slots ready.seen ready.spare
     found (⊎_elim (λ up. inl up.0) (λ dead. inr (dead.0, dead.1)) d.1.1) in
-    let b = upgrade_tells z p q views n here s spends meets.law law_q slots ready.seen ready.spare
+    let b = upgrade_tells z p q views n here s spends meets.lawful meets.law law_q slots ready.seen ready.spare
     found (⊎_elim (λ up. inl (up.0, up.1)) (λ dead. inr dead.0) d.1.1) in
     let own = own_part p n in
     let at : s ≡ slot_in step = sym (ap slot_in ready.act_is) in

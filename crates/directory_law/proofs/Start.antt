@@ -126,7 +126,6 @@ module _ (z : Area) (seats slots cells weak_cells : ℕ) where
         omega arith;
     quota = λ n. at_views (λ v. v.used ≤ v.quota) n (omega arith) (omega arith);
     shape = λ s o. absurd (not_own s o);
-    ends = λ s o m. absurd (not_own s o);
     single = λ s t r os ot a b. absurd (not_own s os);
     loose = λ t s o a. absurd (not_own t o);
     lives = λ s l h. absurd (unnoted s l h);

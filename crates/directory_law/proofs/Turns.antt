@@ -88,7 +88,6 @@ module _ (z : Area) (p : Plain) (views after : List View) (turned : Turned views
     quotas = quotas;
     quota = quota;
     shape = law.shape;
-    ends = law.ends;
     single = law.single;
     loose = λ t s o at. none_turned s (slot_at p s).life (law.loose t s o at);
     lives = λ s l h. law.lives s l (let a = turned.fewer s l in let b = turned.keeps_same s l in

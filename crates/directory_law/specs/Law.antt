@@ -36,8 +36,6 @@ pub record DirectoryLaw (z : Area) (p : Plain) (views : List View) : Type 0 wher
   pub quotas : total (λ v. v.quota) views ≤ sum z.interns + granted z p
   pub quota : (n : ℕ) → (view_at views n).used ≤ (view_at views n).quota
   pub shape : (s : SlotId) → OwnSlot p s → IsChain p (slot_at p s)
-  -- a slot without a zero mark lives
-  pub ends : (s : SlotId) → OwnSlot p s → (slot_at p s).marked ≡ false → stage_at p s ≡ Live
   -- a slot stands in field 1 of at most one of them, and then no view notes it
   pub single : (s t r : SlotId) → OwnSlot p s → OwnSlot p t
       → (slot_at p s).second ≡ Some r → (slot_at p t).second ≡ Some r → s ≡ t
