@@ -107,17 +107,15 @@ leads e found = record { slot = e.now; life = e.now_life; next = slot_of found }
 abbrev pub lead_next : OwnPart → OwnPart → View → PlainAct → ℕ → View
 lead_next own after v step found = record v { led = leads (first_ran v.ran) found ∷ v.led }
 
+-- one slot more is read
+abbrev pub reads_on : Ran → SlotId → Object → Ran
+reads_on e s o =
+    record e { before = e.before ++ o.payload ∷ []; now = s; now_life = o.life }
+
 -- the part that it held is read, if the seat has it afterwards
 abbrev pub reads_part : SlotId → Option Object → View → View
 reads_part s None v = v
-reads_part s (Some o) v = record v {
-  ran = record (first_ran v.ran) {
-    before = (first_ran v.ran).before ++ o.payload ∷ [];
-    now = s;
-    now_life = o.life;
-  }
-      ∷ v.ran;
-}
+reads_part s (Some o) v = record v { ran = reads_on (first_ran v.ran) s o ∷ v.ran }
 
 abbrev pub read_next : OwnPart → OwnPart → View → PlainAct → ℕ → View
 read_next own after v step zero = v
