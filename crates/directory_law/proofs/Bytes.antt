@@ -3,7 +3,8 @@ use Rattle.std.proofs.Common.{◌≡◌, inl, inr, ⊎_elim, ℕ, zero, suc, ◌
 use Rattle.std.specs.Prelude.{◌%◌}
 use Rattle.std.proofs.lemmas.List.Sums.{sum_by-cons}
 use Rattle.std.proofs.lemmas.Bool.Decides.{nat_tests}
-use Rattle.directory_law.specs.Payloads.{Text, size, IsRest, IsText}
+use Rattle.plain_state.specs.State.{no_payload}
+use Rattle.directory_law.specs.Payloads.{IsOwn, Text, size, IsRest, IsText}
 use Rattle.directory_law.specs.Places.{text_hash}
 use Rattle.directory_law.specs.Views.{Each}
 use Rattle.directory_law.specs.declared.view.GivenTo.{GivenTo}
@@ -218,6 +219,17 @@ text_weighs bytes (t ∷ ts) h =
     let first = head_weighs t (omega arith) in
     let rest = parts_weigh (drop 120 bytes) ts h.3 in
     let all = sum_by-cons piece_weight t ts in omega arith
+
+-- such a payload is the directory's, and one with all words 0 isn't
+pub piece_own : (payload : List ℕ) → IsPiece payload → IsOwn payload
+piece_own payload is =
+    ⊎_elim
+    (λ (head : IsHeadOf is.0 payload). head.0.0)
+    (λ (part : IsPartOf is.0 payload). let s = part.2.size in let some = part.0 in omega arith)
+    is.2
+
+pub zeros_not_own : ¬ (IsOwn no_payload)
+zeros_not_own own = omega (arith, own)
 
 -- no object weighs more than 120
 pub piece_bounded : (payload : List ℕ) → IsPiece payload → piece_weight payload ≤ 2 ^ 32
