@@ -25,3 +25,4 @@ pub mod ReadingOn
 pub mod Answers
 pub mod Gives
 pub mod Bytes
+pub mod InTurn

@@ -1,16 +1,23 @@
 //! What the law gives a caller.
-ghost use Rattle.std.specs.Prelude.{◌≡◌, ◌+◌, ◌<◌, ◌≤◌, ℕ, List, Some, length, sum};
+ghost use Rattle.std.specs.Prelude.{◌≡◌, ◌+◌, ◌<◌, ◌≤◌, ℕ, List, [], ◌∷◌, Some, None, length, sum};
+ghost use Rattle.plain_state.specs.declared.act.EventPlace.TheVariants.{Field, WeakCell};
+ghost use Rattle.plain_state.specs.declared.act.PlainAct.{PlainAct};
+ghost use Rattle.plain_state.specs.declared.act.PlainAct.TheVariants as act;
 ghost use Rattle.plain_state.specs.declared.slot.SlotId.{SlotId};
 ghost use Rattle.plain_state.specs.declared.slot.Stage.TheVariants.{Live};
 ghost use Rattle.plain_state.specs.State.{Plain, slot_at, stage_at};
+ghost use Rattle.plain_state.specs.Lists.{times};
 ghost use Rattle.plain_state.specs.Lawful.{Lawful};
-ghost use Rattle.directory_law.specs.Payloads.{Text, IsText};
-ghost use Rattle.directory_law.specs.Views.{view_at, KeptIn};
+ghost use Rattle.plain_protocol.specs.Owns.{OwnPart};
+ghost use Rattle.directory_law.specs.Payloads.{Text, IsPart, IsText};
+ghost use Rattle.directory_law.specs.Views.{Rope, view_at, KeptIn};
 ghost use Rattle.directory_law.specs.Chains.{Reads};
-ghost use Rattle.directory_law.specs.Cells.{Area, cell, LiveRecord, Stands};
+ghost use Rattle.directory_law.specs.Cells.{Area, cell, on, LiveRecord, Stands};
 ghost use Rattle.directory_law.specs.Learnt.{Running};
 ghost use Rattle.directory_law.specs.Law.{DirectoryLaw, IsBound, NoneBound};
+ghost use Rattle.directory_law.specs.Steps.{life_in, payload_in};
 ghost use Rattle.directory_law.specs.Walks.{Walked};
+ghost use Rattle.directory_law.specs.Making.{BindReady, LinkReady, alone, link_next, make_next};
 ghost use Rattle.directory_law.specs.Promises.{IsSetCell, OneRecord, WithinInterns, PartsStandOnce, NoLive, IsKept, at_head};
 
 use crate::view::View;
@@ -72,4 +79,22 @@ pub fn kept_texts_stay()
         → stage_at p s ≡ Live → Reads p s text × IsText text }
     ensures runs { (z : Area) (p : Plain) (views : List View) → DirectoryLaw z p views
         → (s : SlotId) → IsKept p views s → Running p views (at_head p s) }
+{}
+
+/// The deeds that make a record follow one another. Where a part was made and then a slot, the slot can be linked to the
+/// part; and then it has the text of both, and can be bound in the cell at the text's place.
+pub fn records_are_made_in_turn()
+    ensures links { (v : View) (r s : SlotId) (first second third fourth own : OwnPart)
+        → alone second r ≡ alone own r → alone fourth s ≡ alone own s
+        → 0 < times s own.seat.owned → 0 < times r own.seat.owned → IsPart (payload_in own r)
+        → let w = make_next first second v (act.Make r) 0 in
+        LinkReady own (make_next third fourth w (act.Make s) 0) (act.Replace (Field s 1) (Some r)) }
+    ensures binds { (z : Area) (v : View) (r s : SlotId) (own after later : OwnPart)
+        (step : PlainAct) (es : List Rope)
+        → v.noted ≡ alone own s ∷ alone own r ∷ es
+        → life_in later s ≡ life_in own s → 0 < times s later.seat.owned
+        → 0 < z.cells → v.used < v.quota → IsText (payload_in own s ∷ payload_in own r ∷ [])
+        → let place = on z (payload_in own s ∷ payload_in own r ∷ []) 0 in
+        BindReady z later (link_next own after v step 0)
+        (act.TryReplace (WeakCell (z.first + place)) None (Some s)) }
 {}
