@@ -23,20 +23,20 @@ use Rattle.directory_law.specs.Views.{Rope, View, gone, view_at, rope, In, Each}
 use Rattle.directory_law.specs.Cells.{Area, cell, on}
 use Rattle.directory_law.specs.Learnt.{Built}
 use Rattle.directory_law.specs.Law.{DirectoryLaw, IsBound}
-use Rattle.directory_law.proofs.Kit.{none_some}
+use Rattle.directory_law.proofs.Kit.{number_other, none_some}
 use Rattle.directory_law.proofs.Notes.{each_in}
+use Rattle.directory_law.proofs.Turns.{same_law}
+use Rattle.directory_law.proofs.Linking.{leads_to, after_link}
+use Rattle.directory_law.specs.Steps.{life_in, payload_in, slot_in, Stays}
+use Rattle.directory_law.specs.Making.{MakeReady, alone, make_next, LinkReady, linked, link_next, BindReady, first_noted, bound, bind_next, MakeTells, LinkTells, BindTells}
 use Rattle.directory_law.proofs.Making.{made, after_make}
 use Rattle.directory_law.proofs.MakeNotes.{law_noted}
-use Rattle.directory_law.proofs.Linking.{after_link}
 use Rattle.directory_law.proofs.LinkNotes.{law_relinked}
 use Rattle.directory_law.proofs.Binding.{moved, Puts, reads_moved}
 use Rattle.directory_law.proofs.BindNotes.{law_kept}
-use Rattle.directory_law.proofs.Walks.{walked_passed}
-use Rattle.directory_law.specs.Steps.{life_in, payload_in, slot_in, Stays}
-use Rattle.directory_law.specs.Making.{MakeReady, alone, make_next, LinkReady, linked, link_next, BindReady, first_noted, bound, bind_next, MakeTells, BindTells}
-use Rattle.directory_law.proofs.Turns.{same_law}
 use Rattle.directory_law.proofs.Owns.{has_if, life_at, payload_at, has_owned, owned_live, inside_if}
 use Rattle.directory_law.specs.Walks.{Walked}
+use Rattle.directory_law.proofs.Walks.{walked_passed}
 use Rattle.directory_law.proofs.Moves.{on_inside}
 
 -- MAKE
@@ -105,7 +105,12 @@ make_keeps z p q views n step found meets here ready does =
     )
 
 -- LINK
-pub link_keeps : (z : Area) → Keeps (DirectoryLaw z) gone LinkReady link_next (MakeTells z)
+other_slot : (p : Plain) (ss : List PlainSeat) (s r x : SlotId) → x ≢ s
+    → slot_at (after_link p ss s r) x ≡ slot_at p x
+other_slot p ss s r x ne = get_or-set_other p.slots s.0 x.0 (leads_to r (slot_at p s)) new_slot
+    (number_other x s ne)
+
+pub link_keeps : (z : Area) → Keeps (DirectoryLaw z) gone LinkReady link_next (LinkTells z)
 link_keeps z p q views n step found meets here ready does =
     let s : SlotId = ready.slot in
     let r : SlotId = ready.part in
@@ -141,7 +146,13 @@ link_keeps z p q views n step found meets here ready does =
     (set views n (record (view_at views n) { noted = xs }))) (ap linked (sym noted)) a in (
       subst (λ (x : Plain). DirectoryLaw z x (set views n
           (link_next (own_part p n) (own_part q n) (view_at views n) step found))) (sym d.1.2.2) b,
-      λ c x h at. ap (λ (y : Plain). cell z y c) d.1.2.2 ∙ at,
+      (
+        λ c x h at. ap (λ (y : Plain). cell z y c) d.1.2.2 ∙ at,
+        λ x other.
+            let ne : x ≢ s = λ e. other (e ∙ sym (ap (λ (es : List Rope). (first_noted es).slot)
+            noted)) in
+            ap (λ (y : Plain). slot_at y x) d.1.2.2 ∙ other_slot p ss s r x ne,
+      ),
     )
 
 -- BIND

@@ -1,12 +1,12 @@
 -- The deeds that make a record: its slots are made, the last part first; each leads to the one that was made before
 -- it; the head goes into a cell.
-use Rattle.std.specs.Prelude.{◌≡◌, ◌⊎◌, ℕ, ◌+◌, ◌<◌, ◌==◌, List, [], ◌∷◌, ◌++◌, if◌then◌else◌, Some, None}
+use Rattle.std.specs.Prelude.{◌≡◌, ◌≢◌, ◌⊎◌, ℕ, ◌+◌, ◌<◌, ◌==◌, List, [], ◌∷◌, ◌++◌, if◌then◌else◌, Some, None}
 use Rattle.plain_state.specs.declared.act.EventPlace.TheVariants.{Field, WeakCell}
 use Rattle.plain_state.specs.declared.act.PlainAct.{PlainAct}
 use Rattle.plain_state.specs.declared.act.PlainAct.TheVariants as act
 use Rattle.plain_state.specs.declared.slot.SlotId.{SlotId}
 use Rattle.plain_state.specs.Lists.{times}
-use Rattle.plain_state.specs.State.{Plain}
+use Rattle.plain_state.specs.State.{Plain, slot_at}
 use Rattle.plain_protocol.specs.Owns.{OwnPart}
 use Rattle.directory_law.specs.Payloads.{Text, IsPart, IsOwn, IsText}
 use Rattle.directory_law.specs.Views.{Rope, View, rope, without}
@@ -77,10 +77,17 @@ bound e v = record v {
 abbrev pub bind_next : OwnPart → OwnPart → View → PlainAct → ℕ → View
 bind_next own after v step found = if found == 0 then bound (first_noted v.noted) v else v
 
--- WHAT THEY TELL. No set cell changes; and a head that was bound is the live record of its text
+-- WHAT THEY TELL. No set cell changes
 abbrev pub MakeTells : Area → Plain → Plain → ℕ → View → View → Type 0
 MakeTells z p q n v w = Stays z p q
 
+-- no slot changes but one that the seat notes, the last
+abbrev pub LinkTells : Area → Plain → Plain → ℕ → View → View → Type 0
+LinkTells z p q n v w =
+    Stays z p q
+    × ((s : SlotId) → s ≢ (first_noted v.noted).slot → slot_at q s ≡ slot_at p s)
+
+-- a head that was bound is the live record of its text
 abbrev pub BindTells : Area → Plain → Plain → ℕ → View → View → Type 0
 BindTells z p q n v w =
     Stays z p q

@@ -1,6 +1,6 @@
 //! The deeds that make a record.
 ghost use Rattle.directory_law.specs.Cells.{area};
-ghost use Rattle.directory_law.specs.Making.{BindReady, BindTells, LinkReady, MakeReady, MakeTells, bind_next, link_next, make_next};
+ghost use Rattle.directory_law.specs.Making.{BindReady, BindTells, LinkReady, LinkTells, MakeReady, MakeTells, bind_next, link_next, make_next};
 ghost use Rattle.directory_law.proofs.MakingDeeds.{bind_keeps, link_keeps, make_keeps};
 
 use crate::law::DirectoryLaw;
@@ -21,7 +21,8 @@ impl Deed<DirectoryLaw> for MakeSlot {
     ghost keeps = { λ it of. make_keeps (area of.first of.cells of.interns.items of.to) };
 }
 
-/// Field 1 of the slot that was made last gets the part that was noted before it, and takes over its note.
+/// Field 1 of the slot that was made last gets the part that was noted before it, and takes over its note. No other slot
+/// changes.
 #[derive(Clone, Copy, Drop)]
 pub struct LinkPart;
 
@@ -30,7 +31,7 @@ impl Deed<DirectoryLaw> for LinkPart {
 
     ghost next = { λ it of. link_next };
 
-    ghost allows = { λ it of. MakeTells (area of.first of.cells of.interns.items of.to) };
+    ghost allows = { λ it of. LinkTells (area of.first of.cells of.interns.items of.to) };
 
     ghost keeps = { λ it of. link_keeps (area of.first of.cells of.interns.items of.to) };
 }
