@@ -8,7 +8,7 @@ use Rattle.plain_state.specs.declared.slot.Stage.TheVariants.{Live}
 use Rattle.plain_state.specs.State.{Plain, slot_at, stage_at}
 use Rattle.plain_state.specs.Lawful.{Lawful}
 use Rattle.directory_law.specs.Payloads.{Text, IsText}
-use Rattle.directory_law.specs.Views.{View, view_at, total, KeptIn}
+use Rattle.directory_law.specs.Views.{View, view_at, total, keeps, KeptIn}
 use Rattle.directory_law.specs.Chains.{Along, Reads, OwnSlot}
 use Rattle.directory_law.specs.Cells.{Area, cell, on, IsOnWay, LiveRecord, Stands}
 use Rattle.directory_law.specs.Learnt.{Running}
@@ -95,6 +95,7 @@ pub one_record : (z : Area) (p : Plain) (views : List View) → DirectoryLaw z p
 one_record z p views law = record {
   stands = λ s text live reads. stands_at z p views s text law live reads;
   one = λ s r text a b reads_a reads_b. unique z p views s r text law a b reads_a reads_b;
+  last = law.last;
 }
 
 used_le : (vs : List View) → ((k : ℕ) → (view_at vs k).used ≤ (view_at vs k).quota)
@@ -220,11 +221,17 @@ none_live z p views law text none s live reads =
           reads;
     })
 
--- what is kept stands in a cell
-pub kept_stands : (z : Area) (p : Plain) (views : List View) → DirectoryLaw z p views → (s : SlotId)
-    → IsKept p views s
-    → Stands z p s
-kept_stands z p views law s kept = let b = law.stands s (slot_at p s).life kept in (b.0, b.1, b.2)
+-- each life is kept at most once
+pub kept_once : (z : Area) (p : Plain) (views : List View) → DirectoryLaw z p views
+    → (s : SlotId) (l : ℕ)
+    → keeps views s l ≤ 1
+kept_once z p views law s l = let a = law.once s l in omega arith
+
+-- what is kept stands in a cell, in that life
+pub kept_stands : (z : Area) (p : Plain) (views : List View) → DirectoryLaw z p views
+    → (s : SlotId) (l : ℕ)
+    → 0 < keeps views s l → Stands z p s × ((slot_at p s).life ≡ l)
+kept_stands z p views law s l kept = let b = law.stands s l kept in ((b.0, b.1, b.2), b.3)
 
 -- a kept head has its text as long as it lives
 pub kept_reads : (z : Area) (p : Plain) (views : List View) → DirectoryLaw z p views

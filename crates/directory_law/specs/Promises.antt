@@ -8,7 +8,7 @@ use Rattle.directory_law.specs.Payloads.{Text, size, IsHead, IsPart}
 use Rattle.directory_law.specs.Views.{Ran, View, total, keeps, KeptIn}
 use Rattle.directory_law.specs.Chains.{Reads, OwnSlot}
 use Rattle.directory_law.specs.Cells.{Area, cell, set_cells, IsOnWay, LiveRecord}
-use Rattle.directory_law.specs.Law.{granted}
+use Rattle.directory_law.specs.Law.{granted, LastOnWalk}
 
 -- s stands in a cell on the way of a text that a view keeps for it: every cell from the text's place to there is set
 abbrev pub StandsAt : Area → Plain → List View → SlotId → Text → Type 0
@@ -29,12 +29,14 @@ pub record IsSetCell (z : Area) (p : Plain) (views : List View) (c : ℕ) (s : S
   pub live : stage_at p s ≡ Live → Reads p s text
   pub short : size (slot_at p s).payload ≤ 120 → text ≡ (slot_at p s).payload ∷ []
 
--- each text has at most one live record, which stands in a cell of its text
+-- each text has at most one live record, which stands in a cell of its text; of the cells with that text all but the
+-- last on its walk have a slot with the zero mark
 pub record OneRecord (z : Area) (p : Plain) (views : List View) : Type 0 where
   pub stands : (s : SlotId) (text : Text) → LiveRecord p views s → Reads p s text
       → StandsAt z p views s text
   pub one : (s r : SlotId) (text : Text) → LiveRecord p views s → LiveRecord p views r
       → Reads p s text → Reads p r text → s ≡ r
+  pub last : LastOnWalk z p views
 
 -- set cells are at most the interns used, and these at most those given
 pub record WithinInterns (z : Area) (p : Plain) (views : List View) : Type 0 where

@@ -10,7 +10,7 @@ ghost use Rattle.plain_state.specs.Lists.{times};
 ghost use Rattle.plain_state.specs.Lawful.{Lawful};
 ghost use Rattle.plain_protocol.specs.Owns.{OwnPart};
 ghost use Rattle.directory_law.specs.Payloads.{Text, IsPart, IsText};
-ghost use Rattle.directory_law.specs.Views.{Rope, view_at, KeptIn};
+ghost use Rattle.directory_law.specs.Views.{Rope, view_at, keeps, KeptIn};
 ghost use Rattle.directory_law.specs.Chains.{Reads};
 ghost use Rattle.directory_law.specs.Cells.{Area, cell, on, LiveRecord, Stands};
 ghost use Rattle.directory_law.specs.Learnt.{Running};
@@ -69,11 +69,14 @@ pub fn live_where_bound()
         → (text : Text) → NoneBound z p text → NoLive p views text }
 {}
 
-/// What is kept stands in a cell, in the life for which it is kept. As long as it lives it has its text, so no field
-/// of that changes; and its text may be read from the head on.
+/// Each life is kept at most once. What is kept stands in a cell, in the life for which it is kept. As long as it
+/// lives it has its text, so no field of that changes; and its text may be read from the head on.
 pub fn kept_texts_stay()
+    ensures once { (z : Area) (p : Plain) (views : List View) → DirectoryLaw z p views
+        → (s : SlotId) (l : ℕ) → keeps views s l ≤ 1 }
     ensures stands { (z : Area) (p : Plain) (views : List View) → DirectoryLaw z p views
-        → (s : SlotId) → IsKept p views s → Stands z p s }
+        → (s : SlotId) (l : ℕ) → 0 < keeps views s l
+        → Stands z p s × ((slot_at p s).life ≡ l) }
     ensures reads { (z : Area) (p : Plain) (views : List View) → DirectoryLaw z p views
         → (s : SlotId) (text : Text) → KeptIn views s (slot_at p s).life text
         → stage_at p s ≡ Live → Reads p s text × IsText text }
@@ -81,8 +84,8 @@ pub fn kept_texts_stay()
         → (s : SlotId) → IsKept p views s → Running p views (at_head p s) }
 {}
 
-/// The deeds that make a record follow one another. Where a part was made and then a slot, the slot can be linked to the
-/// part; and then it has the text of both, and can be bound in the cell at the text's place.
+/// The deeds that make a record follow one another. Where a part was made and then a slot, the slot can be linked to
+/// the part; and then it has the text of both, and can be bound in the cell at the text's place.
 pub fn records_are_made_in_turn()
     ensures links { (v : View) (r s : SlotId) (first second third fourth own : OwnPart)
         → alone second r ≡ alone own r → alone fourth s ≡ alone own s
