@@ -39,6 +39,7 @@ set_more z p q c (suc n) at =
     let a : set_cells z q n ≡ set_cells z p n =
     same_set z p q n (λ d h. at d (λ f. absurd (omega arith))) in
     let b : full (cell z q n) ≤ 1 = full_one (cell z q n) in omega arith)
-    (λ (ne : n ≢ c). let a : full (cell z q n) ≡ full (cell z p n) = ap full (at n ne) in let i =
-    set_more z p q c n at in omega arith)
+    (λ (ne : n ≢ c).
+    let a : full (cell z q n) ≡ full (cell z p n) = ap full (at n ne) in
+    let i = set_more z p q c n at in omega arith)
     (cases_eq n c)

@@ -44,8 +44,8 @@ module _ (z : Area) (p : Plain) (views : List View) (j : ℕ) (inside : j < leng
   unfolding root after
   counted s l =
       total_two (λ (v : View). times_of s l v.noted) views j root gone inside other
-      (let a = append_of s l (view_at views 0).noted (view_at views j).noted in let b =
-      none_of s l in omega arith)
+      (let a = append_of s l (view_at views 0).noted (view_at views j).noted in
+      let b = none_of s l in omega arith)
 
   counted_kept : (s : SlotId) (l : ℕ) → keeps after s l ≡ keeps views s l
   unfolding root after

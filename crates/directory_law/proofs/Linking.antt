@@ -117,8 +117,10 @@ module _ (z : Area) (p : Plain) (ss : List PlainSeat) (s r : SlotId) (text : Tex
     still = noted_not;
     fewer = λ x l began. relinked.fewer x l;
     kept = relinked.kept;
-    once = λ x l. let a = relinked.fewer x l in let b = relinked.keeps_same x l in let c =
-        law.once x l in
+    once = λ x l.
+        let a = relinked.fewer x l in
+        let b = relinked.keeps_same x l in
+        let c = law.once x l in
         omega arith;
   }
 
@@ -202,8 +204,9 @@ module _ (z : Area) (p : Plain) (ss : List PlainSeat) (s r : SlotId) (text : Tex
       (⊎_elim
       (λ (e : t ≡ s). subst (λ (k : SlotId). fresh after k (slot_at p k).life ≡ 0)
       (sym (new_is t x e at)) relinked.no_more)
-      (λ (ne : t ≢ s). let a = law.loose t x (own_back t o) (sym (second_same t ne) ∙ at) in let b =
-      relinked.fewer x (slot_at p x).life in omega arith)
+      (λ (ne : t ≢ s).
+      let a = law.loose t x (own_back t o) (sym (second_same t ne) ∙ at) in
+      let b = relinked.fewer x (slot_at p x).life in omega arith)
       (cases_id t s))
 
   shape_link : (x : SlotId) → OwnSlot (after_link p ss s r) x

@@ -83,8 +83,8 @@ pub make_keeps : (z : Area) → Keeps (DirectoryLaw z) gone MakeReady make_next 
 make_keeps z p q views n step found meets here ready does =
     let s : SlotId = ready.slot in
     let d = subst (λ (a : PlainAct). Does p n a found q) ready.act_is does in
-    let fills : 0 < held_in s (seat_at p n).filling = let e = ap (held_in s) d.1.1 in
-    let f = held_self s in omega arith in
+    let filled = ap (held_in s) d.1.1 in
+    let self = held_self s in
     let own = subst IsOwn (payload_at p n s (has_if (seat_at p n) s (omega arith))) ready.is_own in
     let ss = seats p q n s found d in
     let law = law_noted z p s views n here meets.law ss (inside p q n s found d) d.1.0 meets.lawful

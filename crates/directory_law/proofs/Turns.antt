@@ -92,8 +92,10 @@ module _ (z : Area) (p : Plain) (views after : List View) (turned : Turned views
     loose = λ t s o at. none_turned s (slot_at p s).life (law.loose t s o at);
     lives = λ s l h. law.lives s l (let a = turned.fewer s l in let b = turned.keeps_same s l in
         omega arith);
-    once = λ s l. let a = turned.fewer s l in let b = turned.keeps_same s l in let c =
-        law.once s l in omega arith;
+    once = λ s l.
+        let a = turned.fewer s l in
+        let b = turned.keeps_same s l in
+        let c = law.once s l in omega arith;
     stands = λ s l h. law.stands s l (let a = turned.keeps_same s l in omega arith);
     learnt = learnt;
   }
@@ -104,8 +106,9 @@ pub turned_set : (views : List View) (n : ℕ) (w : View) → n < length views
     → w.kept ≡ (view_at views n).kept → (view_at views n).used ≤ w.used
     → Turned views (set views n w)
 turned_set views n w here noted kept used = record {
-  fewer = λ s l. let e = total_set (λ (v : View). times_of s l v.noted) views n w here in let f =
-      noted s l in omega arith;
+  fewer = λ s l.
+      let e = total_set (λ (v : View). times_of s l v.noted) views n w here in
+      let f = noted s l in omega arith;
   keeps_same = λ s l.
       let e = total_set (λ (v : View). times_of s l v.kept) views n w here in
       let f : times_of s l w.kept ≡ times_of s l (view_at views n).kept = ap (times_of s l) kept in
