@@ -1,5 +1,5 @@
 -- What the law says to callers.
-use Rattle.std.proofs.Common.{◌≡◌, ◌≢◌, ⊎_elim, ℕ, zero, suc, ◌+◌, ◌<◌, ◌≤◌, List, [], ◌∷◌, length, take, sum, refl, ap, sym, ◌∙◌, subst, arith}
+use Rattle.std.proofs.Common.{◌≡◌, ◌≢◌, ⊎_elim, ℕ, zero, suc, ◌+◌, ◌<◌, ◌≤◌, List, [], ◌∷◌, length, set, take, sum, refl, ap, sym, ◌∙◌, subst, arith}
 use Rattle.std.specs.Prelude.{Some, None}
 use Rattle.std.proofs.lemmas.List.Sums.{sum_by-cons}
 use Rattle.std.proofs.lemmas.Bool.{cases_eq, cases_lt}
@@ -22,7 +22,8 @@ use Rattle.directory_law.specs.Walks.{Walked}
 use Rattle.directory_law.proofs.Walks.{covers, walked_passed}
 use Rattle.directory_law.proofs.Ends.{short_text}
 use Rattle.directory_law.proofs.Reading.{reads_from}
-use Rattle.directory_law.specs.Promises.{StandsAt, IsSetCell, OneRecord, WithinInterns, Reaches, PartsStandOnce, NoLive, IsKept, at_head}
+use Rattle.directory_law.specs.Promises.{StandsAt, IsSetCell, OneRecord, WithinInterns, Reaches, PartsStandOnce, NoLive, IsKept, at_head, begins_at}
+use Rattle.directory_law.proofs.Turns.{law_knows}
 
 pub set_cell : (z : Area) (p : Plain) (views : List View) → DirectoryLaw z p views
     → (c : ℕ) (s : SlotId)
@@ -252,3 +253,16 @@ pub kept_runs : (z : Area) (p : Plain) (views : List View) → DirectoryLaw z p 
 kept_runs z p views law s kept =
     let b = law.stands s (slot_at p s).life kept in
     reads_from z p views b.0 s (slot_at p s).life (slot_at p s).payload law b.1 b.2 refl refl
+
+-- so a seat that knows it may begin
+pub law_begins : (z : Area) (p : Plain) (views : List View) (n : ℕ) → DirectoryLaw z p views
+    → n < length views
+    → (s : SlotId) → IsKept p views s
+    → DirectoryLaw z p (set views n (begins_at p s (view_at views n)))
+law_begins z p views n law here s kept =
+    let l = law.learnt n in
+    let run = kept_runs z p views law s kept in
+    law_knows z p views n (begins_at p s (view_at views n)) here refl refl refl (omega arith)
+    (law.quota n)
+    (record { noted = l.noted; seen = l.seen; ended = l.ended; ran = (run, l.ran); led = l.led })
+    law

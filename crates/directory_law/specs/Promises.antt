@@ -76,3 +76,7 @@ at_head p s = record {
   now = s;
   now_life = (slot_at p s).life;
 }
+
+-- the view of a seat that begins to read it
+abbrev pub begins_at : Plain → SlotId → View → View
+begins_at p s v = record v { ran = at_head p s ∷ v.ran }

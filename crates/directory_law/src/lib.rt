@@ -26,8 +26,9 @@ mod view;
 
 pub use laws::others_keep_the_law;
 pub use promises::{
-    cells_within_interns, kept_texts_stay, live_where_bound, one_live_record,
-    parts_are_linked_once, records_are_made_in_turn, room_for_an_intern, set_cells_have_texts,
+    cells_within_interns, kept_heads_may_be_read, kept_texts_stay, live_where_bound,
+    one_live_record, parts_are_linked_once, records_are_made_in_turn, room_for_an_intern,
+    set_cells_have_texts,
 };
 pub use texts::{laws_of_texts, texts_end};
 pub use view::{GivenTo, Led, Note, Ran, Rope, Seen, View};

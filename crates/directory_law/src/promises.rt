@@ -1,5 +1,5 @@
 //! What the law gives a caller.
-ghost use Rattle.std.specs.Prelude.{◌≡◌, ◌+◌, ◌<◌, ◌≤◌, ℕ, List, [], ◌∷◌, Some, None, length, sum};
+ghost use Rattle.std.specs.Prelude.{◌≡◌, ◌+◌, ◌<◌, ◌≤◌, ℕ, List, [], ◌∷◌, Some, None, length, slice_set, sum};
 ghost use Rattle.plain_state.specs.declared.act.EventPlace.TheVariants.{Field, WeakCell};
 ghost use Rattle.plain_state.specs.declared.act.PlainAct.{PlainAct};
 ghost use Rattle.plain_state.specs.declared.act.PlainAct.TheVariants as act;
@@ -18,7 +18,7 @@ ghost use Rattle.directory_law.specs.Law.{DirectoryLaw, IsBound, NoneBound};
 ghost use Rattle.directory_law.specs.Steps.{life_in, payload_in};
 ghost use Rattle.directory_law.specs.Walks.{Walked};
 ghost use Rattle.directory_law.specs.Making.{BindReady, LinkReady, alone, link_next, make_next};
-ghost use Rattle.directory_law.specs.Promises.{IsSetCell, OneRecord, WithinInterns, PartsStandOnce, NoLive, IsKept, at_head};
+ghost use Rattle.directory_law.specs.Promises.{IsSetCell, OneRecord, WithinInterns, PartsStandOnce, NoLive, IsKept, at_head, begins_at};
 
 use crate::view::View;
 
@@ -82,6 +82,14 @@ pub fn kept_texts_stay()
         → stage_at p s ≡ Live → Reads p s text × IsText text }
     ensures runs { (z : Area) (p : Plain) (views : List View) → DirectoryLaw z p views
         → (s : SlotId) → IsKept p views s → Running p views (at_head p s) }
+{}
+
+/// A seat that learns by whatever means that a head is kept, in the life that it is in, may note that it reads it from
+/// its head on.
+pub fn kept_heads_may_be_read()
+    ensures { (z : Area) (p : Plain) (views : List View) (n : ℕ) → DirectoryLaw z p views
+        → n < length views → (s : SlotId) → IsKept p views s
+        → DirectoryLaw z p (slice_set views n (begins_at p s (view_at views n))) }
 {}
 
 /// The deeds that make a record follow one another. Where a part was made and then a slot, the slot can be linked to

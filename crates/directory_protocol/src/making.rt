@@ -21,8 +21,8 @@ impl Deed<DirectoryLaw> for MakeSlot {
     ghost keeps = { λ it of. make_keeps (area of.first of.cells of.interns.items of.to) };
 }
 
-/// Field 1 of the slot that was made last gets the part that was noted before it, and takes over its note. No other slot
-/// changes.
+/// Field 1 of the slot that was made last gets the part that was noted before it, and takes over its note. No other
+/// slot changes.
 #[derive(Clone, Copy, Drop)]
 pub struct LinkPart;
 
