@@ -1,0 +1,14 @@
+pub mod Payloads
+pub mod Bytes
+pub mod Places
+pub mod Views
+pub mod Chains
+pub mod Cells
+pub mod Learnt
+pub mod Law
+pub mod Owned
+pub mod Steps
+pub mod Walks
+pub mod Making
+pub mod Lessons
+pub mod Promises
