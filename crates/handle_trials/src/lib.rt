@@ -19,6 +19,8 @@ mod draws;
 mod strong_turns;
 #[cfg(test)]
 mod tests;
+#[cfg(test)]
+mod tests_rows;
 mod turns;
 mod weak_turns;
 
