@@ -1,0 +1,9 @@
+pub mod Owning
+pub mod Leavings
+pub mod Looks
+pub mod NewNodes
+pub mod LaidQueues
+pub mod Sights
+pub mod Nodes
+pub mod Takings
+pub mod Poppings

@@ -1,0 +1,285 @@
+-- What a seat sees by the nodes of a queue that it loads.
+use Rattle.std.proofs.Common.{◌≡◌, ◌⊎◌, inl, inr, ℕ, suc, zero, ◌-◌, ◌<◌, Bool, true, false, [], ◌∷◌, ◌++◌, length, refl, ap, sym, ◌∙◌, subst, arith}
+use Rattle.std.specs.Prelude.{Err, IfErr, IfOk, IfSome, Ok, Option, Result, Some, None, cond, nat_lt, slice_set}
+use Rattle.std.proofs.lemmas.Bool.Decides.{nat_tests}
+use Rattle.plain_state.specs.declared.act.EventPlace.TheVariants.{Cell, Field}
+use Rattle.plain_state.specs.declared.act.PlainAct.{PlainAct}
+use Rattle.plain_state.specs.declared.act.PlainAct.TheVariants as plain
+use Rattle.plain_state.specs.declared.slot.Kind.TheVariants.{Strong}
+use Rattle.plain_state.specs.declared.slot.SlotId.{SlotId}
+use Rattle.plain_state.specs.Lists.{times}
+use Rattle.plain_protocol.specs.Owns.{Object, OwnPart}
+use Rattle.core_events.specs.declared.view.CoreView.{CoreView}
+use Rattle.core_events.specs.declared.view.Note.TheVariants as note
+use Rattle.core_events.specs.Shows.{show_seat}
+use Rattle.counted_handles.specs.Handles.{Handle}
+use Rattle.atomic_shared.specs.Places.{named}
+use Rattle.counted_handles.specs.declared.place.Place.TheVariants as place
+use Rattle.counted_handles.specs.declared.refusal.LoadError.{LoadError}
+use Rattle.counted_handles.specs.declared.refusal.LoadError.TheVariants as unloaded
+use Rattle.core_events.specs.Words.{slot_in}
+use Rattle.domain_rule.specs.Views.{object_in, own_of}
+use Rattle.acquire_retire.specs.Domains.{DomainState}
+use Rattle.acquire_retire.specs.Seats.{SeatState}
+use Rattle.control_word.specs.Moves.{KnowsStill}
+use Rattle.control_word.specs.Resting.{IsAtRest, IsSpent}
+use Rattle.protected_loads.specs.Loads.{FindsNull, Misses}
+use Rattle.protected_loads.specs.References.{IsReadyToLoad, Loads, Refers}
+use Rattle.protected_loads.proofs.Learning.{checked, client_found, client_null, has_found, known_found}
+use Rattle.protected_loads.proofs.Noting.{snapshot_gains, some_more}
+use Rattle.protected_loads.proofs.Telling.{four_notes}
+use Rattle.queue_law.specs.declared.view.View.{View}
+use Rattle.queue_law.specs.declared.view.Eyes.{Eyes}
+use Rattle.queue_law.specs.Lessons.{CellTells, ItemReady, ItemTells, NextTells, item_next, learn_next, learnt, next_next}
+use Rattle.queue_law.specs.Words.{held_times, life_in}
+use Rattle.queue_protocol.specs.declared.law.QueueLaw.{QueueLaw}
+use Rattle.queue_protocol.specs.Nodes.{IsNodePayload}
+use Rattle.linked_queue.specs.Queues.{IsAttached, deeds_in, ends_of}
+use Rattle.linked_queue.specs.Leaving.{found_by}
+use Rattle.linked_queue.specs.Seeing.{FindsLast, IsWhyUnloaded, SeesHead, SeesItem, SeesNext}
+use Rattle.linked_queue.proofs.Owning.{has_owned, own_life, owns_pushed, still_owned}
+use Rattle.linked_queue.proofs.Sights.{Sights, core_found, sights}
+
+-- THE DEEDS note what was found, and nothing else
+learn_notes_cond : (head b : Bool) (after : OwnPart) (v : View) (w : ℕ)
+    → deeds_in (cond b (record v { eyes = learnt head after w }) v) ≡ deeds_in v
+learn_notes_cond head true after v w = refl
+learn_notes_cond head false after v w = refl
+
+pub learn_notes : (head : Bool) (own after : OwnPart) (v : View) (a : PlainAct) (w : ℕ)
+    → deeds_in (learn_next head own after v a w) ≡ deeds_in v
+learn_notes head own after v a zero = refl
+learn_notes head own after v a (suc s) =
+    learn_notes_cond head (nat_lt 0 (held_times s after.seat)) after v (suc s)
+
+-- what follows for each slot that a load found follows for its answer
+pub found_sees : {E : Type 0} (loads : Option SlotId → Type 0) (sees : SlotId → Type 0)
+    (r : Result (Option Handle) E) → ((s : SlotId) → loads (Some s) → sees s)
+    → IfOk r (λ found. loads (named found)) → IfOk r (λ found. IfSome found (λ h. sees h.slot))
+found_sees loads sees (Ok None) follows l = tt
+found_sees loads sees (Ok (Some h)) follows l = follows h.slot l
+found_sees loads sees (Err e) follows l = tt
+
+pub found_none : {E : Type 0} (loads : Option SlotId → Type 0) (T : Type 0)
+    (r : Result (Option Handle) E) → (loads None → T) → IfOk r (λ found. loads (named found))
+    → IfOk r (λ found. named found ≡ None → T)
+found_none loads T (Ok None) follows l = λ is. follows l
+found_none loads T (Ok (Some h)) follows l = λ is. absurd (cc (is))
+found_none loads T (Err e) follows l = tt
+
+-- WHAT IS SEEN STAYS SEEN, as long as the seat owns it and its eyes are on it
+pub head_still : (front : SlotId) (old new : SeatState View) → SeesHead front old
+    → 0 < times front new.view.core.owned
+    → object_in new.view front ≡ object_in old.view front
+    → new.view.client.eyes.node ≡ old.view.client.eyes.node
+    → new.view.client.eyes.life ≡ old.view.client.eyes.life
+    → new.view.client.eyes.was_head ≡ old.view.client.eyes.was_head → SeesHead front new
+head_still front old new sees owns object node life head = record {
+  owns = owns;
+  node = node ∙ sees.node;
+  life = ap (λ (o : Object). o.life) object ∙ sees.life ∙ sym life;
+  was_head = head ∙ sees.was_head;
+}
+
+pub next_still : (front next : SlotId) (old new : SeatState View) → SeesNext front next old
+    → 0 < times front new.view.core.owned → 0 < times next new.view.core.owned
+    → object_in new.view front ≡ object_in old.view front
+    → new.view.client.eyes ≡ old.view.client.eyes → SeesNext front next new
+next_still front next old new sees owns owns_next object eyes = record {
+  head = head_still front old new sees.head owns object (ap (λ (e : Eyes). e.node) eyes)
+      (ap (λ (e : Eyes). e.life) eyes) (ap (λ (e : Eyes). e.was_head) eyes);
+  owns = owns_next;
+  following = ap (λ (e : Eyes). e.following) eyes ∙ sees.following;
+}
+
+module _ (d : DomainState QueueLaw) (old new : SeatState View) (rest : IsAtRest d old) where
+  -- HEAD. A seat that found a node in the head cell sees it
+  module _ (s : SlotId)
+      (r : Refers IsNodePayload d (Cell d.protocol.head) (learn_next true)
+      (CellTells d.protocol.head) s old new) where
+    abbrev mid : SeatState View
+    mid = checked d (Cell d.protocol.head) old new s rest r
+
+    held : nat_lt 0 (held_times s.0 (show_seat mid.view.core)) ≡ true
+    held =
+        let four = four_notes r.protects.announces.becomes.walks.1.told in
+        let there : 0 < length old.view.core.notes = omega arith in
+        let notes = slice_set old.view.core.notes 0 (note.Valid Strong s) in
+        let more = some_more old.view.core notes [] Strong s
+        (snapshot_gains old.view.core 0 there Strong s rest.first) in
+        subst (λ (v : CoreView). nat_lt 0 (held_times s.0 (show_seat v)) ≡ true)
+        (sym r.protects.core ∙ ap (λ (z : SeatState View). z.view.core) r.protects.checks.walks.2)
+        (grind (arith, nat_tests))
+
+    seen : new.view.client
+        ≡ record r.protects.mid.view.client { eyes = learnt true (own_of mid.view) (suc s.0) }
+    seen = client_found d (Cell d.protocol.head) old new s rest r
+        ∙ ap (λ b. cond b (record r.protects.mid.view.client {
+          eyes = learnt true (own_of mid.view) (suc s.0);
+        }) r.protects.mid.view.client) held
+
+    pub sees_head : SeesHead s new
+    sees_head =
+        let less : suc s.0 - 1 ≡ s.0 = omega arith in
+        let core = core_found d (place.Cell d.protocol.head) old new s r in
+        record {
+          owns = owns_pushed s old.view.core.owned new.view.core.owned
+              (ap (λ (v : CoreView). v.owned) core);
+          node = ap (λ (v : View). v.eyes.node) seen ∙ omega arith;
+          life =
+              ap (λ (o : Object). o.life) (known_found d (Cell d.protocol.head) old new s rest r)
+              ∙ sym (own_life s mid (has_found d (Cell d.protocol.head) old new s rest r))
+              ∙ sym (ap (λ (v : View). v.eyes.life) seen ∙ ap (life_in (own_of mid.view)) less);
+          was_head = ap (λ (v : View). v.eyes.was_head) seen;
+        }
+
+  -- NEXT. A seat that found a node behind one that it saw in the head cell sees both
+  module _ (front s : SlotId) (sees : SeesHead front old) (knows : KnowsStill old.view.core old new)
+      (r : Refers IsNodePayload d (Field front 0) next_next (NextTells (ends_of d)) s old new) where
+    next_seen : new.view.client
+        ≡ record r.protects.mid.view.client {
+          eyes = record r.protects.mid.view.client.eyes { following = suc s.0; found = 0 };
+        }
+    next_seen = client_found d (Field front 0) old new s rest r
+
+    next_owned : new.view.core.owned ≡ old.view.core.owned ++ s ∷ []
+    next_owned = ap (λ (v : CoreView). v.owned) (core_found d (place.Field front 0) old new s r)
+
+    pub sees_next : SeesNext front s new
+    sees_next =
+        let client = r.protects.announces.client in
+        record {
+          head = head_still front old new sees
+              (still_owned front s old.view.core.owned new.view.core.owned next_owned sees.owns)
+              (knows front (has_owned front old sees.owns))
+              (ap (λ (v : View). v.eyes.node) next_seen ∙ ap (λ (v : View). v.eyes.node) client)
+              (ap (λ (v : View). v.eyes.life) next_seen ∙ ap (λ (v : View). v.eyes.life) client)
+              (ap (λ (v : View). v.eyes.was_head) next_seen
+              ∙ ap (λ (v : View). v.eyes.was_head) client);
+          owns = owns_pushed s old.view.core.owned new.view.core.owned next_owned;
+          following = ap (λ (v : View). v.eyes.following) next_seen ∙ omega arith;
+        }
+
+  -- one that found none saw the last node, if that is the head's
+  pub finds_last : (front : SlotId) → SeesHead front old → IsAttached old.view.client
+      → FindsNull IsNodePayload d (Field front 0) next_next (NextTells (ends_of d)) old new
+      → FindsLast d front old new
+  finds_last front sees attached null = record {
+    null = null;
+    nothing =
+        let step = null.becomes.walks.1 in
+        let after = null.becomes.walks.0 in
+        let following : after.view.client.eyes.following ≡ 0 =
+        ap (λ (z : SeatState View). z.view.client.eyes.following) (sym null.becomes.walks.2)
+        ∙ ap (λ (v : View). v.eyes.following) (client_null d (Field front 0) old new null) in
+        step.told.happened.fact.2.none sees.was_head attached.attached following;
+  }
+
+  -- ITEM. A seat that found the item of the next node sees it
+  module _ (front next s : SlotId) (sees : SeesNext front next old)
+      (knows : KnowsStill old.view.core old new)
+      (r : Refers IsNodePayload d (Field next 1) item_next (ItemTells (ends_of d)) s old new) where
+    item_seen : new.view.client
+        ≡ record r.protects.mid.view.client {
+          eyes = record r.protects.mid.view.client.eyes { found = suc s.0 };
+        }
+    item_seen = client_found d (Field next 1) old new s rest r
+
+    item_owned : new.view.core.owned ≡ old.view.core.owned ++ s ∷ []
+    item_owned = ap (λ (v : CoreView). v.owned) (core_found d (place.Field next 1) old new s r)
+
+    pub sees_item : SeesItem front next s new
+    sees_item =
+        let client = r.protects.announces.client in
+        record {
+          nodes = record {
+            head = head_still front old new sees.head
+                (still_owned front s old.view.core.owned new.view.core.owned item_owned
+                sees.head.owns)
+                (knows front (has_owned front old sees.head.owns))
+                (ap (λ (v : View). v.eyes.node) item_seen ∙ ap (λ (v : View). v.eyes.node) client)
+                (ap (λ (v : View). v.eyes.life) item_seen ∙ ap (λ (v : View). v.eyes.life) client)
+                (ap (λ (v : View). v.eyes.was_head) item_seen
+                ∙ ap (λ (v : View). v.eyes.was_head) client);
+            owns = still_owned next s old.view.core.owned new.view.core.owned item_owned
+                sees.owns;
+            following = ap (λ (v : View). v.eyes.following) item_seen
+                ∙ ap (λ (v : View). v.eyes.following) client ∙ sees.following;
+          };
+          owns = owns_pushed s old.view.core.owned new.view.core.owned item_owned;
+          found = ap (λ (v : View). v.eyes.found) item_seen ∙ omega arith;
+        }
+
+  -- the deed that notes the item is ready for the look, and for the check of whatever was found
+  item_at : (front next : SlotId) (seat : SeatState View) (step : PlainAct)
+      → SeesNext front next seat → IsAttached seat.view.client
+      → (step ≡ plain.Look (Field next 1)) ⊎ ((j : ℕ) × (step ≡ plain.Check j (Field next 1)))
+      → ItemReady (own_of seat.view) seat.view.client step
+  item_at front next seat step sees attached reads = record {
+    node = next.0;
+    old = front.0;
+    reads = reads;
+    attached = attached.attached;
+    held = (let some' = sees.head.owns in omega arith);
+    seen = sees.head.node;
+    seen_life = own_life front seat (has_owned front seat sees.head.owns) ∙ sees.head.life;
+    following = sees.following;
+  }
+
+  pub item_ready : (front next : SlotId) → SeesNext front next old → IsAttached old.view.client
+      → IsReadyToLoad IsNodePayload d (Field next 1) ItemReady old
+  item_ready front next sees attached = record {
+    look = λ w. item_at front next old (plain.Look (Field next 1)) sees attached (inl refl);
+    check = λ s mid announces w.
+        let owned = ap (λ (v : CoreView). v.owned) announces.becomes.core in
+        item_at front next mid (plain.Check 0 (Field next 1))
+        (next_still front next old mid sees
+        (subst (λ l. 0 < times front l) (sym owned) sees.head.owns)
+        (subst (λ l. 0 < times next l) (sym owned) sees.owns)
+        (announces.knows front (has_owned front old sees.head.owns))
+        (ap (λ (v : View). v.eyes) announces.client))
+        (record {
+          here = ap (λ (v : View). v.here) announces.client ∙ attached.here;
+          attached = ap (λ (v : View). v.attached) announces.client ∙ attached.attached;
+        })
+        (inr (0, refl));
+  }
+
+-- whatever a load of the head cell answers, whose number the call knows by another name
+module _ (d : DomainState QueueLaw) (i : ℕ) (is : i ≡ d.protocol.head)
+    (old new : SeatState View) (rest : IsAtRest d old) (knows : KnowsStill old.view.core old new)
+    (r : Result (Option Handle) LoadError) (same : r ≡ Err unloaded.Spent → new ≡ old)
+    (spent : r ≡ Err unloaded.Spent → IsSpent old.view.core)
+    (loads : IfOk r (λ found.
+    Loads IsNodePayload d (Cell i) (learn_next true) (CellTells d.protocol.head) (named found) old
+    new))
+    (moved : (seen now : ℕ) → r ≡ Err (unloaded.Moved seen now)
+    → Misses IsNodePayload d 0 (Cell i) (learn_next true) (CellTells d.protocol.head) (slot_in seen)
+    (slot_in now) old new) where
+  at_head : IfOk r (λ found.
+      Loads IsNodePayload d (Cell d.protocol.head) (learn_next true) (CellTells d.protocol.head)
+      (named found) old new)
+      × ((seen now : ℕ) → r ≡ Err (unloaded.Moved seen now)
+      → Misses IsNodePayload d 0 (Cell d.protocol.head) (learn_next true)
+      (CellTells d.protocol.head) (slot_in seen) (slot_in now) old new)
+  at_head = subst (λ n. IfOk r (λ found.
+      Loads IsNodePayload d (Cell n) (learn_next true) (CellTells d.protocol.head) (named found) old
+      new)
+      × ((seen now : ℕ) → r ≡ Err (unloaded.Moved seen now)
+      → Misses IsNodePayload d 0 (Cell n) (learn_next true) (CellTells d.protocol.head)
+      (slot_in seen) (slot_in now) old new))
+      is (loads, moved)
+
+  pub head_seen : IfOk r (λ found. IfSome found (λ h. SeesHead h.slot new))
+  head_seen = found_sees (λ found.
+      Loads IsNodePayload d (Cell d.protocol.head) (learn_next true) (CellTells d.protocol.head)
+      found old new)
+      (λ s. SeesHead s new) r (sees_head d old new rest) at_head.0
+
+  pub head_sights :
+      Sights d (place.Cell d.protocol.head) (learn_next true) (CellTells d.protocol.head)
+      (learn_notes true) old new rest knows (found_by r)
+      × IfErr r (λ error. IsWhyUnloaded d error old)
+  head_sights = sights d (place.Cell d.protocol.head) (learn_next true)
+      (CellTells d.protocol.head) (learn_notes true) old new rest knows r same spent at_head.0
+      at_head.1 (λ seen now m. inl (old, new, m))

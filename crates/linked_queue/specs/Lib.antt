@@ -1,0 +1,7 @@
+pub mod UnlessRipe
+pub mod Attaching
+pub mod Queues
+pub mod Leaving
+pub mod Nodes
+pub mod Seeing
+pub mod Pops

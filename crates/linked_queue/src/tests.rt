@@ -1,0 +1,43 @@
+//! A queue on a domain of one seat.
+ghost use Rattle.std.specs.Prelude.{◌^◌, ◌≤◌, ◌≡◌, IfOk};
+ghost use Rattle.core_events.specs.Steps.{HasRoom};
+ghost use Rattle.control_word.specs.Resting.{IsAtRest};
+ghost use Rattle.linked_queue.specs.Queues.{CanLay, IsQueueOf};
+
+use crate::LinkedQueue;
+use acquire_retire::{Domain, OpenError, Quota, Seat, Shape, open_domain};
+use queue_protocol::QueueLaw;
+use std::test::Fail;
+
+const SHAPE: Shape = Shape {
+    seats: 1,
+    slots: 8,
+    cells: 2,
+    weak_cells: 0,
+    batch: 1,
+};
+
+/// A domain of one seat with a queue over cells 0 and 1, and that seat, which may use so many adds.
+fn open_alone(rt: &HostRuntime, adds: u64) -> Result<(Domain<QueueLaw>, Seat<QueueLaw>), OpenError>
+    requires { adds ≤ 2 ^ 40 }
+    ensures rest { IfOk result (λ r. IsAtRest r.0 r.1 × HasRoom r.1.view.core) }
+    ensures queue { IfOk result (λ r. IsQueueOf 0 1 r.0) }
+    ensures unlaid { IfOk result (λ r. CanLay r.1.view.client) }
+{
+    let quota = Quota { makes: 4, adds };
+    let (domain, mut seats) = open_domain(rt.alloc(), SHAPE, &[quota], QueueLaw::linked(0, 1))?;
+    Ok((domain, seats.remove(0)))
+}
+
+#[test]
+fn nothing_is_popped_of_a_queue_just_laid(rt: HostRuntime) -> Result<(), Fail> {
+    let (domain, mut seat) = open_alone(&rt, 40)?;
+    let Ok(queue) = LinkedQueue::lay(&domain, &mut seat, 0, 1) else {
+        panic!(rt; "a queue")
+    };
+    assert!(rt; queue.try_attach(&domain, &mut seat));
+    let Ok(None) = queue.try_pop(&domain, &mut seat) else {
+        panic!(rt; "an empty queue")
+    };
+    Ok(())
+}
