@@ -1,5 +1,5 @@
 -- What a seat sees by the nodes of a queue that it loads.
-use Rattle.std.proofs.Common.{◌≡◌, ◌⊎◌, inl, inr, ℕ, suc, zero, ◌-◌, ◌<◌, Bool, true, false, [], ◌∷◌, ◌++◌, length, refl, ap, sym, ◌∙◌, subst, arith}
+use Rattle.std.proofs.Common.{◌≡◌, ◌≢◌, ◌⊎◌, inl, inr, ℕ, suc, zero, ◌-◌, ◌<◌, Bool, true, false, [], ◌∷◌, ◌++◌, length, refl, ap, sym, ◌∙◌, subst, arith}
 use Rattle.std.specs.Prelude.{Err, IfErr, IfOk, IfSome, Ok, Option, Result, Some, None, cond, nat_lt, slice_set}
 use Rattle.std.proofs.lemmas.Bool.Decides.{nat_tests}
 use Rattle.plain_state.specs.declared.act.EventPlace.TheVariants.{Cell, Field}
@@ -8,6 +8,7 @@ use Rattle.plain_state.specs.declared.act.PlainAct.TheVariants as plain
 use Rattle.plain_state.specs.declared.slot.Kind.TheVariants.{Strong}
 use Rattle.plain_state.specs.declared.slot.SlotId.{SlotId}
 use Rattle.plain_state.specs.Lists.{times}
+use Rattle.plain_state.specs.Steps.{word_of}
 use Rattle.plain_protocol.specs.Owns.{Object, OwnPart}
 use Rattle.core_events.specs.declared.view.CoreView.{CoreView}
 use Rattle.core_events.specs.declared.view.Note.TheVariants as note
@@ -30,11 +31,12 @@ use Rattle.protected_loads.proofs.Noting.{snapshot_gains, some_more}
 use Rattle.protected_loads.proofs.Telling.{four_notes}
 use Rattle.queue_law.specs.declared.view.View.{View}
 use Rattle.queue_law.specs.declared.view.Eyes.{Eyes}
-use Rattle.queue_law.specs.Lessons.{CellTells, ItemReady, ItemTells, NextTells, item_next, learn_next, learnt, next_next}
+use Rattle.queue_law.specs.Lessons.{ItemReady, ItemTells, NextTells, item_next, learn_next, learnt, next_next}
 use Rattle.queue_law.specs.Words.{held_times, life_in}
 use Rattle.queue_protocol.specs.declared.law.QueueLaw.{QueueLaw}
 use Rattle.queue_protocol.specs.Nodes.{IsNodePayload}
-use Rattle.linked_queue.specs.Queues.{IsAttached, deeds_in, ends_of}
+use Rattle.linked_queue.specs.Cells.{HeadTells}
+use Rattle.linked_queue.specs.Queues.{IsAttached, beside_eyes, ends_of}
 use Rattle.linked_queue.specs.Leaving.{found_by}
 use Rattle.linked_queue.specs.Seeing.{FindsLast, IsWhyUnloaded, SeesHead, SeesItem, SeesNext}
 use Rattle.linked_queue.proofs.Owning.{has_owned, own_life, owns_pushed, still_owned}
@@ -42,12 +44,12 @@ use Rattle.linked_queue.proofs.Sights.{Sights, core_found, sights}
 
 -- THE DEEDS note what was found, and nothing else
 learn_notes_cond : (head b : Bool) (after : OwnPart) (v : View) (w : ℕ)
-    → deeds_in (cond b (record v { eyes = learnt head after w }) v) ≡ deeds_in v
+    → beside_eyes (cond b (record v { eyes = learnt head after w }) v) ≡ beside_eyes v
 learn_notes_cond head true after v w = refl
 learn_notes_cond head false after v w = refl
 
 pub learn_notes : (head : Bool) (own after : OwnPart) (v : View) (a : PlainAct) (w : ℕ)
-    → deeds_in (learn_next head own after v a w) ≡ deeds_in v
+    → beside_eyes (learn_next head own after v a w) ≡ beside_eyes v
 learn_notes head own after v a zero = refl
 learn_notes head own after v a (suc s) =
     learn_notes_cond head (nat_lt 0 (held_times s after.seat)) after v (suc s)
@@ -96,7 +98,7 @@ module _ (d : DomainState QueueLaw) (old new : SeatState View) (rest : IsAtRest 
   -- HEAD. A seat that found a node in the head cell sees it
   module _ (s : SlotId)
       (r : Refers IsNodePayload d (Cell d.protocol.head) (learn_next true)
-      (CellTells d.protocol.head) s old new) where
+      (HeadTells (ends_of d)) s old new) where
     abbrev mid : SeatState View
     mid = checked d (Cell d.protocol.head) old new s rest r
 
@@ -251,35 +253,53 @@ module _ (d : DomainState QueueLaw) (i : ℕ) (is : i ≡ d.protocol.head)
     (r : Result (Option Handle) LoadError) (same : r ≡ Err unloaded.Spent → new ≡ old)
     (spent : r ≡ Err unloaded.Spent → IsSpent old.view.core)
     (loads : IfOk r (λ found.
-    Loads IsNodePayload d (Cell i) (learn_next true) (CellTells d.protocol.head) (named found) old
+    Loads IsNodePayload d (Cell i) (learn_next true) (HeadTells (ends_of d)) (named found) old
     new))
     (moved : (seen now : ℕ) → r ≡ Err (unloaded.Moved seen now)
-    → Misses IsNodePayload d 0 (Cell i) (learn_next true) (CellTells d.protocol.head) (slot_in seen)
+    → Misses IsNodePayload d 0 (Cell i) (learn_next true) (HeadTells (ends_of d)) (slot_in seen)
     (slot_in now) old new) where
   at_head : IfOk r (λ found.
-      Loads IsNodePayload d (Cell d.protocol.head) (learn_next true) (CellTells d.protocol.head)
+      Loads IsNodePayload d (Cell d.protocol.head) (learn_next true) (HeadTells (ends_of d))
       (named found) old new)
       × ((seen now : ℕ) → r ≡ Err (unloaded.Moved seen now)
       → Misses IsNodePayload d 0 (Cell d.protocol.head) (learn_next true)
-      (CellTells d.protocol.head) (slot_in seen) (slot_in now) old new)
+      (HeadTells (ends_of d)) (slot_in seen) (slot_in now) old new)
   at_head = subst (λ n. IfOk r (λ found.
-      Loads IsNodePayload d (Cell n) (learn_next true) (CellTells d.protocol.head) (named found) old
+      Loads IsNodePayload d (Cell n) (learn_next true) (HeadTells (ends_of d)) (named found) old
       new)
       × ((seen now : ℕ) → r ≡ Err (unloaded.Moved seen now)
-      → Misses IsNodePayload d 0 (Cell n) (learn_next true) (CellTells d.protocol.head)
+      → Misses IsNodePayload d 0 (Cell n) (learn_next true) (HeadTells (ends_of d))
       (slot_in seen) (slot_in now) old new))
       is (loads, moved)
 
   pub head_seen : IfOk r (λ found. IfSome found (λ h. SeesHead h.slot new))
   head_seen = found_sees (λ found.
-      Loads IsNodePayload d (Cell d.protocol.head) (learn_next true) (CellTells d.protocol.head)
+      Loads IsNodePayload d (Cell d.protocol.head) (learn_next true) (HeadTells (ends_of d))
       found old new)
       (λ s. SeesHead s new) r (sees_head d old new rest) at_head.0
 
   pub head_sights :
-      Sights d (place.Cell d.protocol.head) (learn_next true) (CellTells d.protocol.head)
+      Sights d (place.Cell d.protocol.head) (learn_next true) (HeadTells (ends_of d))
       (learn_notes true) old new rest knows (found_by r)
       × IfErr r (λ error. IsWhyUnloaded d error old)
   head_sights = sights d (place.Cell d.protocol.head) (learn_next true)
-      (CellTells d.protocol.head) (learn_notes true) old new rest knows r same spent at_head.0
+      (HeadTells (ends_of d)) (learn_notes true) old new rest knows r same spent at_head.0
       at_head.1 (λ seen now m. inl (old, new, m))
+
+  -- an attached seat found a node
+  pub head_there : IsAttached old.view.client → IfOk r (λ found. named found ≢ None)
+  head_there attached = go r at_head.0
+    where
+      none : FindsNull IsNodePayload d (Cell d.protocol.head) (learn_next true)
+          (HeadTells (ends_of d)) old new → ⊥
+      none null = null.becomes.walks.1.told.happened.fact.2.1 attached.attached
+          (ap word_of null.null)
+
+      go : (o : Result (Option Handle) LoadError)
+          → IfOk o (λ found.
+          Loads IsNodePayload d (Cell d.protocol.head) (learn_next true) (HeadTells (ends_of d))
+          (named found) old new)
+          → IfOk o (λ found. named found ≢ None)
+      go (Ok None) null = λ is. none null
+      go (Ok (Some h)) l = λ is. absurd (cc (is))
+      go (Err e) l = tt

@@ -20,7 +20,7 @@ use Rattle.queue_law.specs.Lessons.{ItemTells, item_next}
 use Rattle.queue_protocol.specs.declared.law.QueueLaw.{QueueLaw}
 use Rattle.queue_protocol.specs.Nodes.{IsNodePayload}
 use Rattle.linked_queue.specs.Leaving.{Leaves, with_found}
-use Rattle.linked_queue.specs.Pops.{IsWhyUnpopped, Pops, PopsAtHead, PopsBy, item_in, popped_too, unpopped_by}
+use Rattle.linked_queue.specs.Pops.{IsWhyUnpopped, Pops, item_in, popped_too, unpopped_by}
 use Rattle.linked_queue.specs.Queues.{deeds_in, ends_of}
 use Rattle.linked_queue.specs.Seeing.{IsWhyUnloaded, LooksAgain, Passed, SeesNext}
 use Rattle.linked_queue.proofs.Owning.{found_more, holds_more, through}
@@ -55,12 +55,6 @@ module _ (d : DomainState QueueLaw) where
             null.becomes.walks.1.told.happened.fact.2 found (still ∙ is ∙ sym sees.head.node);
         looks = looks;
       }
-
-  -- what was popped at the head was popped
-  pub at_head : (found : Option SlotId) (old new : SeatState View) → PopsAtHead d found old new
-      → PopsBy d found old new
-  at_head None old new pops = inr pops
-  at_head (Some s) old new pops = pops
 
 -- LEVELS
 -- a slot that was found is owned

@@ -29,7 +29,7 @@ use Rattle.queue_law.specs.declared.view.View.{View}
 use Rattle.queue_protocol.specs.declared.law.QueueLaw.{QueueLaw}
 use Rattle.queue_protocol.specs.Nodes.{IsNodePayload}
 use Rattle.linked_queue.specs.Leaving.{Leaves, found_by, with_found}
-use Rattle.linked_queue.specs.Queues.{deeds_in}
+use Rattle.linked_queue.specs.Queues.{beside_eyes}
 use Rattle.linked_queue.specs.Seeing.{Differs, IsWhyUnloaded}
 use Rattle.linked_queue.proofs.Leavings.{leaves_all, leaves_as, leaves_same}
 
@@ -56,31 +56,31 @@ module _ (d : DomainState QueueLaw) (q : Place)
     (next : OwnPart → OwnPart → View → PlainAct → ℕ → View)
     (allows : Plain → Plain → ℕ → View → View → Type 0)
     (notes : (own after : OwnPart) (v : View) (a : PlainAct) (w : ℕ)
-    → deeds_in (next own after v a w) ≡ deeds_in v)
+    → beside_eyes (next own after v a w) ≡ beside_eyes v)
     (old new : SeatState View) (rest : IsAtRest d old) (knows : KnowsStill old.view.core old new)
   where
     -- one add more at most, no more deeds, and the reference found
     abbrev pub Sights : Option SlotId → Type 0
     Sights found =
         (new.view.core.adds ≤ old.view.core.adds + 1)
-        × (deeds_in new.view.client ≡ deeds_in old.view.client)
+        × (beside_eyes new.view.client ≡ beside_eyes old.view.client)
         × Leaves (with_found found old.view.core.owned) old new
 
     loaded : (found : Option SlotId)
         → Loads IsNodePayload d (strong_place q) next allows found old new → Sights found
     loaded None null = (
       (let adds = ap (λ (v : CoreView). v.adds) null.becomes.core in omega arith),
-      ap deeds_in (client_null d (strong_place q) old new null)
+      ap beside_eyes (client_null d (strong_place q) old new null)
           ∙ notes (own_of old.view) (own_of null.becomes.walks.0.view) old.view.client
           (plain.Look (strong_place q)) 0,
       leaves_all old new _ null.becomes.core knows,
     )
     loaded (Some s) r = (
       (let adds = ap (λ (v : CoreView). v.adds) (core_found d q old new s r) in omega arith),
-      ap deeds_in (client_found d (strong_place q) old new s rest r)
+      ap beside_eyes (client_found d (strong_place q) old new s rest r)
           ∙ notes (own_of r.protects.mid.view) (own_of r.protects.checks.walks.0.view)
           r.protects.mid.view.client (plain.Check 0 (strong_place q)) (suc s.0)
-          ∙ ap deeds_in r.protects.announces.client,
+          ∙ ap beside_eyes r.protects.announces.client,
       leaves_as old new (with_strong s old.view.core) old.view.core _ (core_found d q old new s r) refl knows
           (λ x was is. was),
     )
@@ -89,17 +89,17 @@ module _ (d : DomainState QueueLaw) (q : Place)
         → Misses IsNodePayload d 0 (strong_place q) next allows seen now old new → Sights None
     missed seen now m = (
       (let adds = ap (λ (v : CoreView). v.adds) m.core in omega arith),
-      ap deeds_in (client_moved d (strong_place q) old new seen now m)
+      ap beside_eyes (client_moved d (strong_place q) old new seen now m)
           ∙ notes (own_of m.mid.view) (own_of m.checks.walks.0.view) m.mid.view.client
           (plain.Check 0 (strong_place q)) m.checks.walks.1.word
-          ∙ ap deeds_in m.announces.client,
+          ∙ ap beside_eyes m.announces.client,
       leaves_all old new _ m.core knows,
     )
 
     unspent : new ≡ old → Sights None
     unspent is = (
       (let adds = ap (λ (z : SeatState View). z.view.core.adds) is in omega arith),
-      ap (λ (z : SeatState View). deeds_in z.view.client) is,
+      ap (λ (z : SeatState View). beside_eyes z.view.client) is,
       leaves_same old new is,
     )
 

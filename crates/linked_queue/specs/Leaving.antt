@@ -32,3 +32,8 @@ pub record Leaves {V : Type 0} (owned : List SlotId) (old new : SeatState V) : T
 abbrev pub found_by : {E : Type 0} → Result (Option Handle) E → Option SlotId
 found_by (Ok found) = named found
 found_by (Err error) = None
+
+-- the same of a call that answers a reference where it isn't refused
+abbrev pub handle_by : {E : Type 0} → Result Handle E → Option SlotId
+handle_by (Ok handle) = Some handle.slot
+handle_by (Err error) = None

@@ -1,5 +1,6 @@
 pub mod UnlessRipe
 pub mod Attaching
+pub mod Cells
 pub mod Queues
 pub mod Leaving
 pub mod Nodes

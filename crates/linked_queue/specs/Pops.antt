@@ -14,7 +14,7 @@ use Rattle.control_word.specs.Calls.{DropsStrong, GainsStrong}
 use Rattle.protected_loads.specs.Loads.{FindsNull}
 use Rattle.protected_loads.specs.References.{Refers}
 use Rattle.retiring_stores.specs.Exchanging.{Replaces, Stores}
-use Rattle.queue_law.specs.Lessons.{CellTells, ItemTells, NextTells, TellsNothing, item_next, learn_next, next_next}
+use Rattle.queue_law.specs.Lessons.{ItemTells, NextTells, TellsNothing, item_next, learn_next, next_next}
 use Rattle.queue_law.specs.Pops.{empty_next, take_next}
 use Rattle.queue_law.specs.declared.view.Item.{Item}
 use Rattle.queue_law.specs.declared.view.View.{View}
@@ -22,6 +22,7 @@ use Rattle.queue_protocol.specs.declared.law.QueueLaw.{QueueLaw}
 use Rattle.queue_protocol.specs.Nodes.{IsNodePayload}
 use Rattle.linked_queue.specs.declared.queue.PopError.{PopError}
 use Rattle.linked_queue.specs.declared.queue.PopError.TheVariants as unpopped
+use Rattle.linked_queue.specs.Cells.{HeadTells}
 use Rattle.linked_queue.specs.Leaving.{Leaves, with_found}
 use Rattle.linked_queue.specs.Nodes.{HasFewAdds}
 use Rattle.linked_queue.specs.Queues.{deeds_in, ends_of}
@@ -40,11 +41,6 @@ item_in seat s = record {
 abbrev pub popped_too : Item → View → View
 popped_too item v =
     record v { popped = v.popped ++ record { item = item; taker = v.number } ∷ [] }
-
--- the slot of what was popped, if anything was
-abbrev pub handle_by : {E : Type 0} → Result Handle E → Option SlotId
-handle_by (Ok handle) = Some handle.slot
-handle_by (Err error) = None
 
 -- the seat has popped what was found, as it knows it, or nothing
 abbrev pub popped_in : Option SlotId → SeatState View → View → View
@@ -107,18 +103,10 @@ module _ (d : DomainState QueueLaw) where
     pub seen : SeatState View
     pub popped : SeatState View
     pub loads :
-        Refers IsNodePayload d (Cell d.protocol.head) (learn_next true) (CellTells d.protocol.head)
-        front old seen
+        Refers IsNodePayload d (Cell d.protocol.head) (learn_next true) (HeadTells (ends_of d)) front
+        old seen
     pub pops : PopsBehind front found seen popped
     pub drops : DropsStrong IsNodePayload d front popped new
-
-  -- all events of a pop that isn't refused: the head cell was null, or a node was found there
-  abbrev pub PopsBy : Option SlotId → SeatState View → SeatState View → Type 0
-  PopsBy None old new =
-      FindsNull IsNodePayload d (Cell d.protocol.head) (learn_next true) (CellTells d.protocol.head)
-      old new
-      ⊎ PopsAtHead None old new
-  PopsBy (Some item) old new = PopsAtHead (Some item) old new
 
   -- why nothing was popped: at most n adds were left, or another seat was quicker
   abbrev pub IsWhyUnpopped : ℕ → PopError → SeatState View → Type 0

@@ -20,12 +20,13 @@ use Rattle.counted_handles.specs.declared.refusal.LoadError.{LoadError}
 use Rattle.counted_handles.specs.declared.refusal.LoadError.TheVariants as unloaded
 use Rattle.protected_loads.specs.Loads.{FindsNull, Misses}
 use Rattle.retiring_stores.specs.Exchanging.{Loses, shown_after}
-use Rattle.queue_law.specs.Lessons.{CellTells, ItemTells, NextTells, NothingLinked, TellsNothing, item_next, learn_next, next_next}
+use Rattle.queue_law.specs.Lessons.{ItemTells, NextTells, NothingLinked, TellsNothing, item_next, learn_next, next_next}
 use Rattle.queue_law.specs.Pops.{take_next}
 use Rattle.queue_law.specs.declared.view.View.{View}
 use Rattle.queue_law.specs.Words.{cell_at}
 use Rattle.queue_protocol.specs.declared.law.QueueLaw.{QueueLaw}
 use Rattle.queue_protocol.specs.Nodes.{IsNodePayload}
+use Rattle.linked_queue.specs.Cells.{HeadTells}
 use Rattle.linked_queue.specs.Queues.{ends_of}
 
 -- the seat owns the node that it saw in the head cell
@@ -66,7 +67,7 @@ module _ (d : DomainState QueueLaw) where
   -- node, or the head cell at the exchange.
   abbrev pub Differs : ℕ → ℕ → Type 0
   Differs seen now =
-      Missed (Cell d.protocol.head) (learn_next true) (CellTells d.protocol.head) seen now
+      Missed (Cell d.protocol.head) (learn_next true) (HeadTells (ends_of d)) seen now
       ⊎ ((x : SlotId) × Missed (Field x 0) next_next (NextTells (ends_of d)) seen now)
       ⊎ ((x : SlotId) × Missed (Field x 1) item_next (ItemTells (ends_of d)) seen now)
       ⊎ Lost seen now

@@ -3,6 +3,7 @@
 #![tactic(auto)]
 
 mod attaching;
+mod deeds;
 mod laying;
 mod popping;
 mod queue;

@@ -6,8 +6,8 @@ ghost use Rattle.std.specs.Prelude.{◌≡◌, ◌<◌, IfErr, IfOk, OnErr};
 ghost use Rattle.core_events.specs.Steps.{HasRoom};
 ghost use Rattle.atomic_shared.specs.Places.{named};
 ghost use Rattle.control_word.specs.Resting.{IsAtRest};
-ghost use Rattle.linked_queue.specs.Leaving.{found_by};
-ghost use Rattle.linked_queue.specs.Pops.{IsWhyUnpopped, Pops, PopsBehind, PopsBy, TakesItem, handle_by, unpopped_by};
+ghost use Rattle.linked_queue.specs.Leaving.{found_by, handle_by};
+ghost use Rattle.linked_queue.specs.Pops.{IsWhyUnpopped, Pops, PopsAtHead, PopsBehind, TakesItem, unpopped_by};
 ghost use Rattle.linked_queue.specs.Queues.{IsAttached, IsQueueOf};
 ghost use Rattle.linked_queue.specs.Seeing.{SeesHead, SeesNext};
 
@@ -35,7 +35,7 @@ impl LinkedQueue {
         requires room { HasRoom seat.old.view.core }
         requires queue { IsQueueOf self.now.head self.now.tail domain.now }
         requires attached { IsAttached seat.old.view.client }
-        ensures events { IfOk result (λ found. PopsBy domain.now (named found)
+        ensures events { IfOk result (λ found. PopsAtHead domain.now (named found)
             seat.old seat.new) }
         ensures popped { Pops (found_by result) seat.old seat.new }
         ensures why { IfErr result (λ error. IsWhyUnpopped domain.now 3 error seat.old) }
@@ -43,8 +43,7 @@ impl LinkedQueue {
         ensures rest { IsAtRest domain.now seat.new }
     {
         let front = match see_head(domain, seat, self.head) {
-            Ok(Some(front)) => front,
-            Ok(None) => return Ok(None),
+            Ok(front) => front,
             Err(error) => return Err(refusal_of(error)),
         };
         let popped = pop_behind(domain, seat, self.head, front.slot());

@@ -8,9 +8,9 @@ use Rattle.protected_loads.specs.References.{Loads}
 use Rattle.queue_law.specs.Lessons.{NextTells, next_next}
 use Rattle.queue_protocol.specs.Nodes.{IsNodePayload}
 use Rattle.linked_queue.specs.declared.queue.PopError.{PopError}
-use Rattle.linked_queue.specs.Leaving.{Leaves, with_found}
-use Rattle.linked_queue.specs.Pops.{IsWhyUnpopped, TakesItem, handle_by}
-use Rattle.linked_queue.specs.Queues.{ends_of}
+use Rattle.linked_queue.specs.Leaving.{Leaves, handle_by, with_found}
+use Rattle.linked_queue.specs.Pops.{IsWhyUnpopped, TakesItem}
+use Rattle.linked_queue.specs.Queues.{deeds_in, ends_of}
 use Rattle.linked_queue.proofs.Leavings.{drop_leaves}
 use Rattle.linked_queue.proofs.Poppings.{owns_found, pops_through, why_of}
 use Rattle.linked_queue.proofs.popping.pop_behind.Goals as goal
@@ -57,7 +57,7 @@ returns-in-Ok-clause-popped c =
     c.in-Ok-Some.field-0-is c.in-Ok-Some.ensures.leaves in
     pops_through c.in-Ok-Some.next.slot c.args.seat.now c.see_next.new.seat
     c.pop_node-popped.new.seat c.drop_strong.new.seat (Some c.in-Ok.item.slot) gains
-    c.see_next.ensures.deeds c.in-Ok.ensures.popped
+    (ap deeds_in c.see_next.ensures.beside) c.in-Ok.ensures.popped
     (drop_leaves c.in-Ok-Some.next.slot c.pop_node-popped.new.seat c.drop_strong.new.seat
     c.drop_strong.ensures.dropped c.drop_strong.ensures.objects)
     c.drop_strong.ensures.client
@@ -68,7 +68,7 @@ returns-in-Err-popped-clause-popped c =
     (with_found (named o) c.args.seat.now.view.core.owned) c.args.seat.now c.see_next.new.seat)
     c.in-Ok-Some.field-0-is c.in-Ok-Some.ensures.leaves in
     pops_through c.in-Ok-Some.next.slot c.args.seat.now c.see_next.new.seat
-    c.pop_node-popped.new.seat c.drop_strong.new.seat None gains c.see_next.ensures.deeds
+    c.pop_node-popped.new.seat c.drop_strong.new.seat None gains (ap deeds_in c.see_next.ensures.beside)
     c.in-Err-popped.ensures.popped
     (drop_leaves c.in-Ok-Some.next.slot c.pop_node-popped.new.seat c.drop_strong.new.seat
     c.drop_strong.ensures.dropped c.drop_strong.ensures.objects)

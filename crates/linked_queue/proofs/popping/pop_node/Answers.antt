@@ -1,4 +1,4 @@
-use Rattle.std.proofs.Common.{◌≡◌, inr, sym, subst}
+use Rattle.std.proofs.Common.{◌≡◌, inr, ap, sym, subst}
 use Rattle.std.specs.Prelude.{None, Option}
 use Rattle.plain_state.specs.declared.act.EventPlace.TheVariants.{Field}
 use Rattle.plain_state.specs.declared.slot.SlotId.{SlotId}
@@ -38,7 +38,7 @@ returns-in-Err-take-clause-popped c =
     (with_found (named o) c.args.seat.now.view.core.owned) c.args.seat.now c.see_item.new.seat)
     c.in-Ok-Some.field-0-is c.in-Ok-Some.ensures.leaves in
     pops_through c.in-Ok-Some.item.slot c.args.seat.now c.see_item.new.seat c.take.new.seat
-    c.drop_strong.new.seat None gains c.see_item.ensures.deeds
+    c.drop_strong.new.seat None gains (ap deeds_in c.see_item.ensures.beside)
     (record { leaves = c.take.ensures.leaves; deeds = c.in-Err-take.ensures.refused })
     (drop_leaves c.in-Ok-Some.item.slot c.take.new.seat c.drop_strong.new.seat
     c.drop_strong.ensures.dropped c.drop_strong.ensures.objects)
@@ -62,7 +62,7 @@ returns-clause-popped c =
     (with_found (named o) c.args.seat.now.view.core.owned) c.args.seat.now c.see_item.new.seat)
     c.in-Ok-Some.field-0-is c.in-Ok-Some.ensures.leaves in
     pops_item c.in-Ok-Some.item.slot c.args.seat.now c.see_item.new.seat c.take.new.seat
-    c.empty.new.seat gains c.take.ensures.leaves c.see_item.ensures.deeds
+    c.empty.new.seat gains c.take.ensures.leaves (ap deeds_in c.see_item.ensures.beside)
     (subst (λ (s : SlotId). deeds_in c.take.new.seat.view.client
     ≡ popped_too (item_in c.see_item.new.seat s) (deeds_in c.see_item.new.seat.view.client))
     c.slot.ensures c.in_default.ensures.popped)

@@ -31,8 +31,8 @@ returns-clause-adds c =
     c.try_load.ensures.spent.0 c.try_load.ensures.loaded c.try_load.ensures.moved
     (λ seen now m. inr (inr (inl (c.args.next, (c.args.seat.now, c.try_load.new.seat, m)))))).0.0
 
-pub returns-clause-deeds : goal.returns-clause-deeds
-returns-clause-deeds c =
+pub returns-clause-beside : goal.returns-clause-beside
+returns-clause-beside c =
     (sights c.args.domain.now (place.Field c.args.next 1) (item_next) (ItemTells (ends_of c.args.domain.now))
     (λ own after v a w. refl) c.args.seat.now c.try_load.new.seat c.requires.rest
     c.try_load.ensures.objects c.try_load.result c.try_load.ensures.refused

@@ -1,4 +1,4 @@
-use Rattle.std.proofs.Common.{true, sym, subst}
+use Rattle.std.proofs.Common.{ap, sym, subst}
 use Rattle.std.specs.Prelude.{Option}
 use Rattle.plain_state.specs.declared.act.EventPlace.TheVariants.{Cell}
 use Rattle.plain_state.specs.declared.slot.SlotId.{SlotId}
@@ -9,10 +9,11 @@ use Rattle.protected_loads.specs.References.{Loads}
 use Rattle.queue_law.specs.Lessons.{CellTells, learn_next}
 use Rattle.queue_protocol.specs.Nodes.{IsNodePayload}
 use Rattle.linked_queue.specs.declared.queue.PopError.{PopError}
-use Rattle.linked_queue.specs.Leaving.{Leaves, found_by, with_found}
-use Rattle.linked_queue.specs.Pops.{IsWhyUnpopped, PopsBehind, PopsBy}
+use Rattle.linked_queue.specs.Leaving.{found_by}
+use Rattle.linked_queue.specs.Queues.{deeds_in}
+use Rattle.linked_queue.specs.Pops.{IsWhyUnpopped, PopsAtHead, PopsBehind}
 use Rattle.linked_queue.proofs.Leavings.{drop_leaves}
-use Rattle.linked_queue.proofs.Poppings.{at_head, owns_found, pops_through, why_of}
+use Rattle.linked_queue.proofs.Poppings.{owns_found, pops_through, why_of}
 use Rattle.linked_queue.proofs.queue.LinkedQueue.try_pop.Goals as goal
 
 pub returns-in-Err-clause-why : goal.returns-in-Err-clause-why
@@ -23,10 +24,8 @@ returns-in-Err-clause-why c =
 
 pub drop_strong-requires-clause-owned : goal.drop_strong-requires-clause-owned
 drop_strong-requires-clause-owned c =
-    let gains = subst (λ (o : Option Handle). Leaves
-    (with_found (named o) c.args.seat.now.view.core.owned) c.args.seat.now c.see_head.new.seat)
-    c.in-Ok-Some.field-0-is c.in-Ok-Some.ensures.leaves in
-    owns_found c.in-Ok-Some.front.slot (found_by c.pop_behind-popped.result)
+    let gains = c.in-Ok.ensures.leaves in
+    owns_found c.in-Ok.front.slot (found_by c.pop_behind-popped.result)
     c.args.seat.now.view.core.owned c.see_head.new.seat.view.core.owned
     c.pop_behind-popped.new.seat.view.core.owned gains.owns
     c.pop_behind-popped.ensures.popped.leaves.owns
@@ -35,32 +34,25 @@ pub returns-clause-events : goal.returns-clause-events
 returns-clause-events c =
     then_ok (λ found. PopsBehind c.args.domain.now c.slot.result (named found)
     c.see_head.new.seat c.pop_behind-popped.new.seat)
-    (λ found. PopsBy c.args.domain.now (named found) c.args.seat.now c.drop_strong.new.seat)
+    (λ found. PopsAtHead c.args.domain.now (named found) c.args.seat.now c.drop_strong.new.seat)
     c.pop_behind-popped.result
-    (λ found pops. at_head c.args.domain.now (named found) c.args.seat.now
-    c.drop_strong.new.seat (record {
-      front = c.in-Ok-Some.front.slot;
+    (λ found pops. record {
+      front = c.in-Ok.front.slot;
       seen = c.see_head.new.seat;
       popped = c.pop_behind-popped.new.seat;
-      loads = subst (λ (o : Option Handle). Loads IsNodePayload c.args.domain.now
-          (Cell c.args.domain.now.protocol.head) (learn_next true)
-          (CellTells c.args.domain.now.protocol.head) (named o) c.args.seat.now
-          c.see_head.new.seat)
-          c.in-Ok-Some.field-0-is c.in-Ok-Some.ensures.loads;
+      loads = c.in-Ok.ensures.loads;
       pops = subst (λ (s : SlotId). PopsBehind c.args.domain.now s (named found)
           c.see_head.new.seat c.pop_behind-popped.new.seat) c.slot.ensures pops;
       drops = c.drop_strong.ensures.dropped;
-    }))
+    })
     c.pop_behind-popped.ensures.events
 
 pub returns-clause-popped : goal.returns-clause-popped
 returns-clause-popped c =
-    let gains = subst (λ (o : Option Handle). Leaves
-    (with_found (named o) c.args.seat.now.view.core.owned) c.args.seat.now c.see_head.new.seat)
-    c.in-Ok-Some.field-0-is c.in-Ok-Some.ensures.leaves in
-    pops_through c.in-Ok-Some.front.slot c.args.seat.now c.see_head.new.seat
+    let gains = c.in-Ok.ensures.leaves in
+    pops_through c.in-Ok.front.slot c.args.seat.now c.see_head.new.seat
     c.pop_behind-popped.new.seat c.drop_strong.new.seat (found_by c.pop_behind-popped.result)
-    gains c.see_head.ensures.deeds c.pop_behind-popped.ensures.popped
-    (drop_leaves c.in-Ok-Some.front.slot c.pop_behind-popped.new.seat c.drop_strong.new.seat
+    gains (ap deeds_in c.see_head.ensures.beside) c.pop_behind-popped.ensures.popped
+    (drop_leaves c.in-Ok.front.slot c.pop_behind-popped.new.seat c.drop_strong.new.seat
     c.drop_strong.ensures.dropped c.drop_strong.ensures.objects)
     c.drop_strong.ensures.client

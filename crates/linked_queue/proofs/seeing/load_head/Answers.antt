@@ -1,5 +1,5 @@
-use Rattle.linked_queue.proofs.Nodes.{head_seen, head_sights}
-use Rattle.linked_queue.proofs.seeing.see_head.Goals as goal
+use Rattle.linked_queue.proofs.Nodes.{head_seen, head_sights, head_there}
+use Rattle.linked_queue.proofs.seeing.load_head.Goals as goal
 
 pub returns-clause-sees : goal.returns-clause-sees
 returns-clause-sees c =
@@ -14,8 +14,8 @@ returns-clause-adds c =
     c.try_load.ensures.refused c.try_load.ensures.spent.0 c.try_load.ensures.loaded
     c.try_load.ensures.moved).0.0
 
-pub returns-clause-deeds : goal.returns-clause-deeds
-returns-clause-deeds c =
+pub returns-clause-beside : goal.returns-clause-beside
+returns-clause-beside c =
     (head_sights c.args.domain.now c.args.head c.requires.head c.args.seat.now
     c.try_load.new.seat c.requires.rest c.try_load.ensures.objects c.try_load.result
     c.try_load.ensures.refused c.try_load.ensures.spent.0 c.try_load.ensures.loaded
@@ -34,3 +34,10 @@ returns-clause-why c =
     c.try_load.new.seat c.requires.rest c.try_load.ensures.objects c.try_load.result
     c.try_load.ensures.refused c.try_load.ensures.spent.0 c.try_load.ensures.loaded
     c.try_load.ensures.moved).1
+
+pub returns-clause-there : goal.returns-clause-there
+returns-clause-there c =
+    head_there c.args.domain.now c.args.head c.requires.head c.args.seat.now c.try_load.new.seat
+    c.requires.rest c.try_load.ensures.objects c.try_load.result c.try_load.ensures.refused
+    c.try_load.ensures.spent.0 c.try_load.ensures.loaded c.try_load.ensures.moved
+    c.requires.attached
