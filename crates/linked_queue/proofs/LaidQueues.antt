@@ -46,6 +46,8 @@ module _ (d : DomainState QueueLaw) (s : SlotId) (old made copied half new : Sea
     node = ap (λ (v : View). v.load.node) client ∙ node.node;
     life = ap (λ (o : Object). o.life) (knows s (has_owned s made node.owns)) ∙ node.life
         ∙ sym (ap (λ (v : View). v.load.life) client);
+    is_node = ap (λ (o : Object). o.payload) (knows s (has_owned s made node.owns))
+        ∙ node.is_node;
     no_back = ap (λ (v : View). v.load.back) client ∙ node.no_back;
   }
 

@@ -7,3 +7,6 @@ pub mod Sights
 pub mod Nodes
 pub mod Takings
 pub mod Poppings
+pub mod Carryings
+pub mod Linkings
+pub mod Pushings

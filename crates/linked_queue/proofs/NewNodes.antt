@@ -74,5 +74,6 @@ module _ (d : DomainState QueueLaw) (s : SlotId) (old new : SeatState View)
             ∙ sym (ap (λ (v : View). v.load.life) client
             ∙ ap (λ a. life_in (own_of mid.view) (made a) + 1) is
             ∙ ap (λ n. n + 1) (own_life s mid (has d s old mid makes.begins)));
+        is_node = ap (λ (o : Object). o.payload) makes.object;
         no_back = ap (λ (v : View). v.load.back) client;
       }

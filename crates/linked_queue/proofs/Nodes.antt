@@ -1,5 +1,5 @@
 -- What a seat sees by the nodes of a queue that it loads.
-use Rattle.std.proofs.Common.{◌≡◌, ◌≢◌, ◌⊎◌, inl, inr, ℕ, suc, zero, ◌-◌, ◌<◌, Bool, true, false, [], ◌∷◌, ◌++◌, length, refl, ap, sym, ◌∙◌, subst, arith}
+use Rattle.std.proofs.Common.{◌≡◌, ◌≢◌, ◌⊎◌, inl, inr, ℕ, suc, ◌+◌, zero, ◌-◌, ◌<◌, Bool, true, false, [], ◌∷◌, ◌++◌, length, refl, ap, sym, ◌∙◌, subst, arith}
 use Rattle.std.specs.Prelude.{Err, IfErr, IfOk, IfSome, Ok, Option, Result, Some, None, cond, nat_lt, slice_set}
 use Rattle.std.proofs.lemmas.Bool.Decides.{nat_tests}
 use Rattle.plain_state.specs.declared.act.EventPlace.TheVariants.{Cell, Field}
@@ -8,8 +8,10 @@ use Rattle.plain_state.specs.declared.act.PlainAct.TheVariants as plain
 use Rattle.plain_state.specs.declared.slot.Kind.TheVariants.{Strong}
 use Rattle.plain_state.specs.declared.slot.SlotId.{SlotId}
 use Rattle.plain_state.specs.Lists.{times}
+use Rattle.plain_state.specs.State.{Plain}
 use Rattle.plain_state.specs.Steps.{word_of}
 use Rattle.plain_protocol.specs.Owns.{Object, OwnPart}
+use Rattle.core_events.specs.declared.shape.Shape.{Shape}
 use Rattle.core_events.specs.declared.view.CoreView.{CoreView}
 use Rattle.core_events.specs.declared.view.Note.TheVariants as note
 use Rattle.core_events.specs.Shows.{show_seat}
@@ -26,7 +28,7 @@ use Rattle.control_word.specs.Moves.{KnowsStill}
 use Rattle.control_word.specs.Resting.{IsAtRest, IsSpent}
 use Rattle.protected_loads.specs.Loads.{FindsNull, Misses}
 use Rattle.protected_loads.specs.References.{IsReadyToLoad, Loads, Refers}
-use Rattle.protected_loads.proofs.Learning.{checked, client_found, client_null, has_found, known_found}
+use Rattle.protected_loads.proofs.Learning.{checked, client_found, client_null, has_found, known_found, slot_there}
 use Rattle.protected_loads.proofs.Noting.{snapshot_gains, some_more}
 use Rattle.protected_loads.proofs.Telling.{four_notes}
 use Rattle.queue_law.specs.declared.view.View.{View}
@@ -35,10 +37,11 @@ use Rattle.queue_law.specs.Lessons.{ItemReady, ItemTells, NextTells, item_next, 
 use Rattle.queue_law.specs.Words.{held_times, life_in}
 use Rattle.queue_protocol.specs.declared.law.QueueLaw.{QueueLaw}
 use Rattle.queue_protocol.specs.Nodes.{IsNodePayload}
-use Rattle.linked_queue.specs.Cells.{HeadTells}
+use Rattle.linked_queue.specs.Cells.{NodeTells}
 use Rattle.linked_queue.specs.Queues.{IsAttached, beside_eyes, ends_of}
 use Rattle.linked_queue.specs.Leaving.{found_by}
-use Rattle.linked_queue.specs.Seeing.{FindsLast, IsWhyUnloaded, SeesHead, SeesItem, SeesNext}
+use Rattle.linked_queue.specs.Seeing.{FindsLast, IsWhyUnread, Missed, SeesHead, SeesItem, SeesNext}
+use Rattle.linked_queue.specs.Pushes.{SeesBehind, SeesTail}
 use Rattle.linked_queue.proofs.Owning.{has_owned, own_life, owns_pushed, still_owned}
 use Rattle.linked_queue.proofs.Sights.{Sights, core_found, sights}
 
@@ -95,12 +98,11 @@ next_still front next old new sees owns owns_next object eyes = record {
 }
 
 module _ (d : DomainState QueueLaw) (old new : SeatState View) (rest : IsAtRest d old) where
-  -- HEAD. A seat that found a node in the head cell sees it
-  module _ (s : SlotId)
-      (r : Refers IsNodePayload d (Cell d.protocol.head) (learn_next true)
-      (HeadTells (ends_of d)) s old new) where
+  -- CELLS. A seat that found a node in the head cell or the tail cell sees it
+  module _ (c : ℕ) (head : Bool) {allows : Plain → Plain → ℕ → View → View → Type 0} (s : SlotId)
+      (r : Refers IsNodePayload d (Cell c) (learn_next head) allows s old new) where
     abbrev mid : SeatState View
-    mid = checked d (Cell d.protocol.head) old new s rest r
+    mid = checked d (Cell c) old new s rest r
 
     held : nat_lt 0 (held_times s.0 (show_seat mid.view.core)) ≡ true
     held =
@@ -113,27 +115,48 @@ module _ (d : DomainState QueueLaw) (old new : SeatState View) (rest : IsAtRest 
         (sym r.protects.core ∙ ap (λ (z : SeatState View). z.view.core) r.protects.checks.walks.2)
         (grind (arith, nat_tests))
 
-    seen : new.view.client
-        ≡ record r.protects.mid.view.client { eyes = learnt true (own_of mid.view) (suc s.0) }
-    seen = client_found d (Cell d.protocol.head) old new s rest r
+    cell_view : new.view.client
+        ≡ record r.protects.mid.view.client { eyes = learnt head (own_of mid.view) (suc s.0) }
+    cell_view = client_found d (Cell c) old new s rest r
         ∙ ap (λ b. cond b (record r.protects.mid.view.client {
-          eyes = learnt true (own_of mid.view) (suc s.0);
+          eyes = learnt head (own_of mid.view) (suc s.0);
         }) r.protects.mid.view.client) held
 
-    pub sees_head : SeesHead s new
-    sees_head =
+    cell_owns : 0 < times s new.view.core.owned
+    cell_owns = owns_pushed s old.view.core.owned new.view.core.owned
+        (ap (λ (v : CoreView). v.owned) (core_found d (place.Cell c) old new s r))
+
+    cell_node : new.view.client.eyes.node ≡ s.0 + 1
+    cell_node = ap (λ (v : View). v.eyes.node) cell_view ∙ omega arith
+
+    cell_life : (object_in new.view s).life ≡ new.view.client.eyes.life
+    cell_life =
         let less : suc s.0 - 1 ≡ s.0 = omega arith in
-        let core = core_found d (place.Cell d.protocol.head) old new s r in
-        record {
-          owns = owns_pushed s old.view.core.owned new.view.core.owned
-              (ap (λ (v : CoreView). v.owned) core);
-          node = ap (λ (v : View). v.eyes.node) seen ∙ omega arith;
-          life =
-              ap (λ (o : Object). o.life) (known_found d (Cell d.protocol.head) old new s rest r)
-              ∙ sym (own_life s mid (has_found d (Cell d.protocol.head) old new s rest r))
-              ∙ sym (ap (λ (v : View). v.eyes.life) seen ∙ ap (life_in (own_of mid.view)) less);
-          was_head = ap (λ (v : View). v.eyes.was_head) seen;
-        }
+        ap (λ (o : Object). o.life) (known_found d (Cell c) old new s rest r)
+        ∙ sym (own_life s mid (has_found d (Cell c) old new s rest r))
+        ∙ sym (ap (λ (v : View). v.eyes.life) cell_view ∙ ap (life_in (own_of mid.view)) less)
+
+  pub sees_head : (c : ℕ) {allows : Plain → Plain → ℕ → View → View → Type 0} (s : SlotId)
+      → Refers IsNodePayload d (Cell c) (learn_next true) allows s old new → SeesHead s new
+  sees_head c s r = record {
+    owns = cell_owns c true s r;
+    node = cell_node c true s r;
+    life = cell_life c true s r;
+    was_head = ap (λ (v : View). v.eyes.was_head) (cell_view c true s r);
+  }
+
+  pub sees_tail : (c : ℕ) {allows : Plain → Plain → ℕ → View → View → Type 0} (s : SlotId)
+      → Refers IsNodePayload d (Cell c) (learn_next false) allows s old new → SeesTail s new
+  sees_tail c s r = record {
+    owns = cell_owns c false s r;
+    node = cell_node c false s r;
+    life = cell_life c false s r;
+    was_tail = ap (λ (v : View). v.eyes.was_tail) (cell_view c false s r);
+    inside =
+        let there = slot_there d (Cell c) old new s rest r in
+        let shape = ap (λ (v : CoreView). v.shape.slots) (core_found d (place.Cell c) old new s r)
+        ∙ ap (λ (z : Shape). z.slots) rest.of_domain.1 in omega arith;
+  }
 
   -- NEXT. A seat that found a node behind one that it saw in the head cell sees both
   module _ (front s : SlotId) (sees : SeesHead front old) (knows : KnowsStill old.view.core old new)
@@ -161,6 +184,61 @@ module _ (d : DomainState QueueLaw) (old new : SeatState View) (rest : IsAtRest 
           owns = owns_pushed s old.view.core.owned new.view.core.owned next_owned;
           following = ap (λ (v : View). v.eyes.following) next_seen ∙ omega arith;
         }
+
+  -- one that it saw in the tail cell it sees still, and the node that it found behind it
+  tail_on : (last : SlotId) → SeesTail last old → KnowsStill old.view.core old new
+      → 0 < times last new.view.core.owned
+      → new.view.core.shape ≡ old.view.core.shape
+      → new.view.client.eyes.node ≡ old.view.client.eyes.node
+      → new.view.client.eyes.life ≡ old.view.client.eyes.life
+      → new.view.client.eyes.was_tail ≡ old.view.client.eyes.was_tail → SeesTail last new
+  tail_on last sees knows owns shape node life tail = record {
+    owns = owns;
+    node = node ∙ sees.node;
+    life = ap (λ (o : Object). o.life) (knows last (has_owned last old sees.owns)) ∙ sees.life
+        ∙ sym life;
+    was_tail = tail ∙ sees.was_tail;
+    inside = subst (λ (z : Shape). last.0 < z.slots) (sym shape) sees.inside;
+  }
+
+  module _ (last s : SlotId) (sees : SeesTail last old) (knows : KnowsStill old.view.core old new)
+      (r : Refers IsNodePayload d (Field last 0) next_next (NextTells (ends_of d)) s old new) where
+    behind_view : new.view.client
+        ≡ record r.protects.mid.view.client {
+          eyes = record r.protects.mid.view.client.eyes { following = suc s.0; found = 0 };
+        }
+    behind_view = client_found d (Field last 0) old new s rest r
+
+    behind_owned : new.view.core.owned ≡ old.view.core.owned ++ s ∷ []
+    behind_owned = ap (λ (v : CoreView). v.owned) (core_found d (place.Field last 0) old new s r)
+
+    pub sees_behind : SeesBehind last s new
+    sees_behind =
+        let client = r.protects.announces.client in
+        record {
+          tail = tail_on last sees knows
+              (still_owned last s old.view.core.owned new.view.core.owned behind_owned sees.owns)
+              (ap (λ (v : CoreView). v.shape) (core_found d (place.Field last 0) old new s r))
+              (ap (λ (v : View). v.eyes.node) behind_view ∙ ap (λ (v : View). v.eyes.node) client)
+              (ap (λ (v : View). v.eyes.life) behind_view ∙ ap (λ (v : View). v.eyes.life) client)
+              (ap (λ (v : View). v.eyes.was_tail) behind_view
+              ∙ ap (λ (v : View). v.eyes.was_tail) client);
+          owns = owns_pushed s old.view.core.owned new.view.core.owned behind_owned;
+          following = ap (λ (v : View). v.eyes.following) behind_view ∙ omega arith;
+        }
+
+  pub still_tail : (last : SlotId) (found : Option SlotId) → SeesTail last old
+      → KnowsStill old.view.core old new
+      → Loads IsNodePayload d (Field last 0) next_next (NextTells (ends_of d)) found old new
+      → SeesTail last new
+  still_tail last None sees knows null =
+      let client = client_null d (Field last 0) old new null in
+      tail_on last sees knows
+      (subst (λ l. 0 < times last l) (sym (ap (λ (v : CoreView). v.owned) null.becomes.core))
+      sees.owns)
+      (ap (λ (v : CoreView). v.shape) null.becomes.core) (ap (λ (v : View). v.eyes.node) client)
+      (ap (λ (v : View). v.eyes.life) client) (ap (λ (v : View). v.eyes.was_tail) client)
+  still_tail last (Some s) sees knows r = (sees_behind last s sees knows r).tail
 
   -- one that found none saw the last node, if that is the head's
   pub finds_last : (front : SlotId) → SeesHead front old → IsAttached old.view.client
@@ -247,59 +325,62 @@ module _ (d : DomainState QueueLaw) (old new : SeatState View) (rest : IsAtRest 
         (inr (0, refl));
   }
 
--- whatever a load of the head cell answers, whose number the call knows by another name
-module _ (d : DomainState QueueLaw) (i : ℕ) (is : i ≡ d.protocol.head)
+-- whatever a load of a cell answers, whose number the call knows by another name
+module _ (d : DomainState QueueLaw) (head : Bool)
+    (allows : Plain → Plain → ℕ → View → View → Type 0) (c i : ℕ) (is : i ≡ c)
     (old new : SeatState View) (rest : IsAtRest d old) (knows : KnowsStill old.view.core old new)
     (r : Result (Option Handle) LoadError) (same : r ≡ Err unloaded.Spent → new ≡ old)
     (spent : r ≡ Err unloaded.Spent → IsSpent old.view.core)
     (loads : IfOk r (λ found.
-    Loads IsNodePayload d (Cell i) (learn_next true) (HeadTells (ends_of d)) (named found) old
-    new))
+    Loads IsNodePayload d (Cell i) (learn_next head) allows (named found) old new))
     (moved : (seen now : ℕ) → r ≡ Err (unloaded.Moved seen now)
-    → Misses IsNodePayload d 0 (Cell i) (learn_next true) (HeadTells (ends_of d)) (slot_in seen)
-    (slot_in now) old new) where
-  at_head : IfOk r (λ found.
-      Loads IsNodePayload d (Cell d.protocol.head) (learn_next true) (HeadTells (ends_of d))
-      (named found) old new)
-      × ((seen now : ℕ) → r ≡ Err (unloaded.Moved seen now)
-      → Misses IsNodePayload d 0 (Cell d.protocol.head) (learn_next true)
-      (HeadTells (ends_of d)) (slot_in seen) (slot_in now) old new)
-  at_head = subst (λ n. IfOk r (λ found.
-      Loads IsNodePayload d (Cell n) (learn_next true) (HeadTells (ends_of d)) (named found) old
-      new)
-      × ((seen now : ℕ) → r ≡ Err (unloaded.Moved seen now)
-      → Misses IsNodePayload d 0 (Cell n) (learn_next true) (HeadTells (ends_of d))
-      (slot_in seen) (slot_in now) old new))
-      is (loads, moved)
+    → Misses IsNodePayload d 0 (Cell i) (learn_next head) allows (slot_in seen) (slot_in now) old new)
+  where
+    at_cell : IfOk r (λ found.
+        Loads IsNodePayload d (Cell c) (learn_next head) allows (named found) old new)
+        × ((seen now : ℕ) → r ≡ Err (unloaded.Moved seen now)
+        → Misses IsNodePayload d 0 (Cell c) (learn_next head) allows (slot_in seen) (slot_in now)
+        old new)
+    at_cell = subst (λ n. IfOk r (λ found.
+        Loads IsNodePayload d (Cell n) (learn_next head) allows (named found) old new)
+        × ((seen now : ℕ) → r ≡ Err (unloaded.Moved seen now)
+        → Misses IsNodePayload d 0 (Cell n) (learn_next head) allows (slot_in seen) (slot_in now)
+        old new))
+        is (loads, moved)
 
-  pub head_seen : IfOk r (λ found. IfSome found (λ h. SeesHead h.slot new))
-  head_seen = found_sees (λ found.
-      Loads IsNodePayload d (Cell d.protocol.head) (learn_next true) (HeadTells (ends_of d))
-      found old new)
-      (λ s. SeesHead s new) r (sees_head d old new rest) at_head.0
+    pub cell_seen : (sees : SlotId → Type 0)
+        → ((s : SlotId) → Refers IsNodePayload d (Cell c) (learn_next head) allows s old new
+        → sees s)
+        → IfOk r (λ found. IfSome found (λ h. sees h.slot))
+    cell_seen sees follows = found_sees (λ found.
+        Loads IsNodePayload d (Cell c) (learn_next head) allows found old new)
+        sees r follows at_cell.0
 
-  pub head_sights :
-      Sights d (place.Cell d.protocol.head) (learn_next true) (HeadTells (ends_of d))
-      (learn_notes true) old new rest knows (found_by r)
-      × IfErr r (λ error. IsWhyUnloaded d error old)
-  head_sights = sights d (place.Cell d.protocol.head) (learn_next true)
-      (HeadTells (ends_of d)) (learn_notes true) old new rest knows r same spent at_head.0
-      at_head.1 (λ seen now m. inl (old, new, m))
+    pub cell_sights : (differs : ℕ → ℕ → Type 0)
+        → ((seen now : ℕ) → Missed d (Cell c) (learn_next head) allows seen now → differs seen now)
+        → Sights d (place.Cell c) (learn_next head) allows (learn_notes head) old new rest knows
+        (found_by r)
+        × IfErr r (λ error. IsWhyUnread differs error old)
+    cell_sights differs told = sights d (place.Cell c) (learn_next head) allows (learn_notes head)
+        old new rest knows r same spent at_cell.0 at_cell.1 differs
+        (λ seen now m. told seen now (old, new, m))
 
-  -- an attached seat found a node
-  pub head_there : IsAttached old.view.client → IfOk r (λ found. named found ≢ None)
-  head_there attached = go r at_head.0
-    where
-      none : FindsNull IsNodePayload d (Cell d.protocol.head) (learn_next true)
-          (HeadTells (ends_of d)) old new → ⊥
-      none null = null.becomes.walks.1.told.happened.fact.2.1 attached.attached
-          (ap word_of null.null)
+    -- where null tells a contradiction, a node was found
+    pub cell_there : (FindsNull IsNodePayload d (Cell c) (learn_next head) allows old new → ⊥)
+        → IfOk r (λ found. named found ≢ None)
+    cell_there none = go r at_cell.0
+      where
+        go : (o : Result (Option Handle) LoadError)
+            → IfOk o (λ found.
+            Loads IsNodePayload d (Cell c) (learn_next head) allows (named found) old new)
+            → IfOk o (λ found. named found ≢ None)
+        go (Ok None) null = λ is. none null
+        go (Ok (Some h)) l = λ is. absurd (cc (is))
+        go (Err e) l = tt
 
-      go : (o : Result (Option Handle) LoadError)
-          → IfOk o (λ found.
-          Loads IsNodePayload d (Cell d.protocol.head) (learn_next true) (HeadTells (ends_of d))
-          (named found) old new)
-          → IfOk o (λ found. named found ≢ None)
-      go (Ok None) null = λ is. none null
-      go (Ok (Some h)) l = λ is. absurd (cc (is))
-      go (Err e) l = tt
+-- what the cell of an attached seat tells
+pub not_null : (d : DomainState QueueLaw) (c : ℕ) (head : Bool) (old new : SeatState View)
+    → IsAttached old.view.client
+    → FindsNull IsNodePayload d (Cell c) (learn_next head) (NodeTells c) old new → ⊥
+not_null d c head old new attached null =
+    null.becomes.walks.1.told.happened.fact.2.1 attached.attached (ap word_of null.null)

@@ -1,11 +1,11 @@
 -- What a pop leaves of a seat, level by level, and why it answers nothing.
-use Rattle.std.proofs.Common.{◌≡◌, inl, inr, ℕ, ◌+◌, ◌<◌, List, [], ◌∷◌, ◌++◌, refl, ap, sym, ◌∙◌, arith}
+use Rattle.std.proofs.Common.{◌≡◌, inl, ℕ, ◌+◌, ◌<◌, List, [], ◌∷◌, ◌++◌, refl, ap, sym, ◌∙◌, arith}
 use Rattle.std.specs.Prelude.{Option, Some, None}
 use Rattle.plain_state.specs.declared.act.EventPlace.TheVariants.{Field}
 use Rattle.plain_state.specs.declared.slot.SlotId.{SlotId}
 use Rattle.plain_state.specs.Lists.{times}
 use Rattle.plain_protocol.specs.Owns.{Object}
-use Rattle.core_events.specs.Views.{Holds, without}
+use Rattle.core_events.specs.Views.{without}
 use Rattle.core_invariant.proofs.Kit.{one_same, times_push}
 use Rattle.counted_handles.specs.declared.refusal.LoadError.{LoadError}
 use Rattle.counted_handles.specs.declared.refusal.LoadError.TheVariants as unloaded
@@ -68,12 +68,12 @@ owns_found n found xs ys zs gained kept =
     let one = one_same n n refl in
     let more = found_more found n ys (omega arith) in omega arith
 
-some_found : (s : SlotId) (xs : List SlotId) → 0 < times s (xs ++ s ∷ [])
+pub some_found : (s : SlotId) (xs : List SlotId) → 0 < times s (xs ++ s ∷ [])
 some_found s xs =
     let push = times_push s s xs in let one = one_same s s refl in omega arith
 
 -- what the seat knows of the item that it gained is known on
-item_still : (s : SlotId) (b c : SeatState View) → object_in c.view s ≡ object_in b.view s
+pub item_still : (s : SlotId) (b c : SeatState View) → object_in c.view s ≡ object_in b.view s
     → item_in c s ≡ item_in b s
 item_still s b c same = ap (λ (o : Object). record { slot = s.0; life = o.life; payload = o.payload }) same
 
@@ -100,26 +100,22 @@ module _ (n : SlotId) (a b c e : SeatState View) where
             ∙ ap (λ (x : Item). popped_too x (deeds_in a.view.client)) (sym item);
       }
 
+-- what was left by one call, and then nothing more
+pub leaves_on : (xs : List SlotId) (x y z : SeatState View) → Leaves xs x y
+    → Leaves y.view.core.owned y z → Leaves xs x z
+leaves_on xs x y z first more = record {
+  owns = λ w. more.owns w ∙ first.owns w;
+  same = more.same ∙ first.same;
+  knows = λ w was is.
+      let at = more.owns w in
+      let mid = holds_more w z.view.core y.view.core more.same (omega arith) is in
+      more.knows w mid is ∙ first.knows w was mid;
+}
+
 -- THE ITEM: it was loaded, the head's node exchanged, and the new dummy emptied
 module _ (s : SlotId) (a b c e : SeatState View)
     (loads : Leaves (a.view.core.owned ++ s ∷ []) a b)
     (takes : Leaves b.view.core.owned b c) where
-  -- each later state owns what the first one after the load owned
-  same_still : (x y : SeatState View) → Leaves x.view.core.owned x y → (z : SlotId)
-      → Holds y.view.core z → Holds x.view.core z
-  same_still x y leaves z =
-      let is = leaves.owns z in
-      holds_more z y.view.core x.view.core leaves.same (omega arith)
-
-  pub leaves_on : (xs : List SlotId) (x y z : SeatState View) → Leaves xs x y
-      → Leaves y.view.core.owned y z → Leaves xs x z
-  leaves_on xs x y z first more = record {
-    owns = λ w. more.owns w ∙ first.owns w;
-    same = more.same ∙ first.same;
-    knows = λ w was is.
-        more.knows w (same_still y z more w is) is ∙ first.knows w was (same_still y z more w is);
-  }
-
   pub pops_item : deeds_in b.view.client ≡ deeds_in a.view.client
       → deeds_in c.view.client ≡ popped_too (item_in b s) (deeds_in b.view.client)
       → Leaves c.view.core.owned c e → e.view.client ≡ c.view.client → Pops (Some s) a e

@@ -30,7 +30,7 @@ use Rattle.queue_protocol.specs.declared.law.QueueLaw.{QueueLaw}
 use Rattle.queue_protocol.specs.Nodes.{IsNodePayload}
 use Rattle.linked_queue.specs.Leaving.{Leaves, found_by, with_found}
 use Rattle.linked_queue.specs.Queues.{beside_eyes}
-use Rattle.linked_queue.specs.Seeing.{Differs, IsWhyUnloaded}
+use Rattle.linked_queue.specs.Seeing.{IsWhyUnread}
 use Rattle.linked_queue.proofs.Leavings.{leaves_all, leaves_as, leaves_same}
 
 kind_of : (q : Place) → place_kind (strong_place q) ≡ Strong
@@ -110,19 +110,20 @@ module _ (d : DomainState QueueLaw) (q : Place)
         Loads IsNodePayload d (strong_place q) next allows (named found) old new))
         (moved : (seen now : ℕ) → r ≡ Err (unloaded.Moved seen now)
         → Misses IsNodePayload d 0 (strong_place q) next allows (slot_in seen) (slot_in now) old new)
-        (differs : (seen now : ℕ)
+        (differs : ℕ → ℕ → Type 0)
+        (told : (seen now : ℕ)
         → Misses IsNodePayload d 0 (strong_place q) next allows (slot_in seen) (slot_in now) old new
-        → Differs d seen now) where
-      pub sights : Sights (found_by r) × IfErr r (λ error. IsWhyUnloaded d error old)
+        → differs seen now) where
+      pub sights : Sights (found_by r) × IfErr r (λ error. IsWhyUnread differs error old)
       sights = go r refl loads
         where
           go : (o : Result (Option Handle) LoadError) → r ≡ o
               → IfOk o (λ found.
               Loads IsNodePayload d (strong_place q) next allows (named found) old new)
-              → Sights (found_by o) × IfErr o (λ error. IsWhyUnloaded d error old)
+              → Sights (found_by o) × IfErr o (λ error. IsWhyUnread differs error old)
           go (Ok found) is l = (loaded (named found) l, tt)
           go (Err unloaded.Spent) is l = (unspent (same is), spent is)
           go (Err (unloaded.Moved seen now)) is l = (
             missed (slot_in seen) (slot_in now) (moved seen now is),
-            differs seen now (moved seen now is),
+            told seen now (moved seen now is),
           )

@@ -37,7 +37,7 @@ use Rattle.linked_queue.proofs.Nodes.{next_still}
 use Rattle.linked_queue.proofs.Owning.{has_owned, own_life, own_payload, still_owned, through}
 
 -- an exchange that answers that it is done found what was expected
-is_done : (w n : ℕ) (o : Outcome) (b : Bool) → (w == n) ≡ b
+pub is_done : (w n : ℕ) (o : Outcome) (b : Bool) → (w == n) ≡ b
     → outcome.Done ≡ (if b then outcome.Done else outcome.LostTo (slot_in w)) → (w == n) ≡ true
 is_done w n o true test is = test
 is_done w n o false test is = absurd (cc (is))

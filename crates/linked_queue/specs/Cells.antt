@@ -1,5 +1,5 @@
 -- What a load of the head cell or the tail cell tells an attached seat.
-use Rattle.std.proofs.Common.{◌≡◌, ◌≢◌, ⊎_elim, ℕ, true, false, List, arith}
+use Rattle.std.proofs.Common.{◌≡◌, ◌≢◌, ⊎_elim, ℕ, true, false, arith}
 use Rattle.plain_state.specs.State.{Plain}
 use Rattle.plain_protocol.specs.Laws.{Keeps}
 use Rattle.queue_law.specs.declared.view.View.{View}

@@ -6,3 +6,5 @@ pub mod Leaving
 pub mod Nodes
 pub mod Seeing
 pub mod Pops
+pub mod Pushes
+pub mod NotPushed

@@ -33,6 +33,7 @@ pub record HasNode (s : SlotId) (seat : SeatState View) : Type 0 where
   pub owns : 0 < times s seat.view.core.owned
   pub node : seat.view.client.load.node ≡ s.0 + 1
   pub life : (object_in seat.view s).life ≡ seat.view.client.load.life
+  pub is_node : (object_in seat.view s).payload ≡ no_payload
   pub no_back : seat.view.client.load.back ≡ 0
 
 -- the view once the seat's own node stands in the tail cell

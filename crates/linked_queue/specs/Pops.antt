@@ -1,9 +1,8 @@
 -- What a pop does, and what it leaves.
-use Rattle.std.specs.Prelude.{ℕ, ◌≡◌, ◌⊎◌, ◌+◌, ◌<◌, true, [], ◌∷◌, ◌++◌, Option, Some, None, Result, Ok, Err}
+use Rattle.std.specs.Prelude.{ℕ, ◌≡◌, ◌⊎◌, ◌+◌, ◌<◌, true, [], ◌∷◌, ◌++◌, Option, Some, None}
 use Rattle.plain_state.specs.declared.act.EventPlace.TheVariants.{Cell, Field}
 use Rattle.plain_state.specs.declared.slot.SlotId.{SlotId}
 use Rattle.plain_state.specs.Lists.{times}
-use Rattle.counted_handles.specs.Handles.{Handle}
 use Rattle.counted_handles.specs.declared.refusal.LoadError.{LoadError}
 use Rattle.counted_handles.specs.declared.refusal.LoadError.TheVariants as unloaded
 use Rattle.domain_rule.specs.Views.{object_in}
@@ -11,7 +10,6 @@ use Rattle.acquire_retire.specs.Calls.{IsSameView, same_view}
 use Rattle.acquire_retire.specs.Domains.{DomainState}
 use Rattle.acquire_retire.specs.Seats.{SeatState}
 use Rattle.control_word.specs.Calls.{DropsStrong, GainsStrong}
-use Rattle.protected_loads.specs.Loads.{FindsNull}
 use Rattle.protected_loads.specs.References.{Refers}
 use Rattle.retiring_stores.specs.Exchanging.{Replaces, Stores}
 use Rattle.queue_law.specs.Lessons.{ItemTells, NextTells, TellsNothing, item_next, learn_next, next_next}

@@ -48,6 +48,11 @@ pub record SeesItem (front next item : SlotId) (seat : SeatState View) : Type 0 
   pub owns : 0 < times item seat.view.core.owned
   pub found : seat.view.client.eyes.found ≡ item.0 + 1
 
+-- why a load gave nothing: no add was left, or a place has changed
+abbrev pub IsWhyUnread : (ℕ → ℕ → Type 0) → LoadError → SeatState View → Type 0
+IsWhyUnread differs unloaded.Spent old = IsSpent old.view.core
+IsWhyUnread differs (unloaded.Moved seen now) old = differs seen now
+
 module _ (d : DomainState QueueLaw) where
   -- a check of a place, with this deed, found `now` where a look had found `seen`, which is another content
   abbrev pub Missed : EventPlace → (OwnPart → OwnPart → View → PlainAct → ℕ → View)
@@ -94,10 +99,9 @@ module _ (d : DomainState QueueLaw) where
         d.protocol.head ≢ seen
     pub looks : LooksAgain now mid new
 
-  -- why a load gave nothing
+  -- why a load of a pop gave nothing
   abbrev pub IsWhyUnloaded : LoadError → SeatState View → Type 0
-  IsWhyUnloaded unloaded.Spent old = IsSpent old.view.core
-  IsWhyUnloaded (unloaded.Moved seen now) old = Differs seen now
+  IsWhyUnloaded error old = IsWhyUnread Differs error old
 
   -- The seat's look at field 0 of a node that it saw in the head cell found null, and nothing was linked behind the
   -- head's node then.

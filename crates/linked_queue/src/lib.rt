@@ -3,9 +3,12 @@
 #![tactic(auto)]
 
 mod attaching;
+mod carrying;
 mod deeds;
 mod laying;
+mod linking;
 mod popping;
+mod pushing;
 mod queue;
 mod seeing;
 mod taking;
@@ -14,5 +17,5 @@ mod tests;
 mod unless_ripe;
 
 pub use counted_handles::Strong;
-pub use queue::{LinkedQueue, PopError};
+pub use queue::{LinkedQueue, PopError, PushError, PushRefused};
 pub use slot_store::MakeError;

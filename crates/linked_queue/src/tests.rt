@@ -1,10 +1,12 @@
 //! A queue on a domain of one seat.
-ghost use Rattle.std.specs.Prelude.{◌^◌, ◌≤◌, ◌≡◌, IfOk};
+ghost use Rattle.std.specs.Prelude.{◌^◌, ◌<◌, ◌≤◌, ◌≡◌, IfOk};
+ghost use Rattle.plain_state.specs.Lists.{times};
 ghost use Rattle.core_events.specs.Steps.{HasRoom};
 ghost use Rattle.control_word.specs.Resting.{IsAtRest};
-ghost use Rattle.linked_queue.specs.Queues.{CanLay, IsQueueOf};
+ghost use Rattle.linked_queue.specs.Queues.{CanLay, IsAttached, IsQueueOf};
 
-use crate::LinkedQueue;
+use crate::laying::make_node;
+use crate::{LinkedQueue, MakeError, Strong};
 use acquire_retire::{Domain, OpenError, Quota, Seat, Shape, open_domain};
 use queue_protocol::QueueLaw;
 use std::test::Fail;
@@ -29,6 +31,19 @@ fn open_alone(rt: &HostRuntime, adds: u64) -> Result<(Domain<QueueLaw>, Seat<Que
     Ok((domain, seats.remove(0)))
 }
 
+/// An object that the queue may carry: in a domain with nothing but a queue, a node.
+fn make_item(domain: &Domain<QueueLaw>, seat: &mut Seat<QueueLaw>) -> Result<Strong, MakeError>
+    requires rest { IsAtRest domain.now seat.old }
+    requires room { HasRoom seat.old.view.core }
+    requires attached { IsAttached seat.old.view.client }
+    ensures attached { IsAttached seat.new.view.client }
+    ensures owned { IfOk result (λ item. 0 < times item.slot seat.new.view.core.owned) }
+    ensures room { HasRoom seat.new.view.core }
+    ensures rest { IsAtRest domain.now seat.new }
+{
+    make_node(domain, seat)
+}
+
 #[test]
 fn nothing_is_popped_of_a_queue_just_laid(rt: HostRuntime) -> Result<(), Fail> {
     let (domain, mut seat) = open_alone(&rt, 40)?;
@@ -36,6 +51,29 @@ fn nothing_is_popped_of_a_queue_just_laid(rt: HostRuntime) -> Result<(), Fail> {
         panic!(rt; "a queue")
     };
     assert!(rt; queue.try_attach(&domain, &mut seat));
+    let Ok(None) = queue.try_pop(&domain, &mut seat) else {
+        panic!(rt; "an empty queue")
+    };
+    Ok(())
+}
+
+#[test]
+fn what_was_pushed_is_popped_once(rt: HostRuntime) -> Result<(), Fail> {
+    let (domain, mut seat) = open_alone(&rt, 40)?;
+    let Ok(queue) = LinkedQueue::lay(&domain, &mut seat, 0, 1) else {
+        panic!(rt; "a queue")
+    };
+    let Ok(item) = make_item(&domain, &mut seat) else {
+        panic!(rt; "a free slot")
+    };
+    let slot = item.slot();
+    let Ok(()) = queue.try_push(&domain, &mut seat, item) else {
+        panic!(rt; "a push")
+    };
+    let Ok(Some(item)) = queue.try_pop(&domain, &mut seat) else {
+        panic!(rt; "an item")
+    };
+    assert_eq!(rt; item.slot(), slot);
     let Ok(None) = queue.try_pop(&domain, &mut seat) else {
         panic!(rt; "an empty queue")
     };

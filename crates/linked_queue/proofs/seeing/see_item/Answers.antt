@@ -5,7 +5,7 @@ use Rattle.protected_loads.specs.References.{Loads}
 use Rattle.queue_law.specs.Lessons.{ItemTells, item_next}
 use Rattle.queue_protocol.specs.Nodes.{IsNodePayload}
 use Rattle.linked_queue.specs.Queues.{ends_of}
-use Rattle.linked_queue.specs.Seeing.{SeesItem}
+use Rattle.linked_queue.specs.Seeing.{Differs, SeesItem}
 use Rattle.linked_queue.proofs.Nodes.{found_sees, item_ready, sees_item}
 use Rattle.linked_queue.proofs.Sights.{sights}
 use Rattle.linked_queue.proofs.seeing.see_item.Goals as goal
@@ -29,7 +29,7 @@ returns-clause-adds c =
     (λ own after v a w. refl) c.args.seat.now c.try_load.new.seat c.requires.rest
     c.try_load.ensures.objects c.try_load.result c.try_load.ensures.refused
     c.try_load.ensures.spent.0 c.try_load.ensures.loaded c.try_load.ensures.moved
-    (λ seen now m. inr (inr (inl (c.args.next, (c.args.seat.now, c.try_load.new.seat, m)))))).0.0
+    (Differs c.args.domain.now) (λ seen now m. inr (inr (inl (c.args.next, (c.args.seat.now, c.try_load.new.seat, m)))))).0.0
 
 pub returns-clause-beside : goal.returns-clause-beside
 returns-clause-beside c =
@@ -37,7 +37,7 @@ returns-clause-beside c =
     (λ own after v a w. refl) c.args.seat.now c.try_load.new.seat c.requires.rest
     c.try_load.ensures.objects c.try_load.result c.try_load.ensures.refused
     c.try_load.ensures.spent.0 c.try_load.ensures.loaded c.try_load.ensures.moved
-    (λ seen now m. inr (inr (inl (c.args.next, (c.args.seat.now, c.try_load.new.seat, m)))))).0.1
+    (Differs c.args.domain.now) (λ seen now m. inr (inr (inl (c.args.next, (c.args.seat.now, c.try_load.new.seat, m)))))).0.1
 
 pub returns-clause-leaves : goal.returns-clause-leaves
 returns-clause-leaves c =
@@ -45,7 +45,7 @@ returns-clause-leaves c =
     (λ own after v a w. refl) c.args.seat.now c.try_load.new.seat c.requires.rest
     c.try_load.ensures.objects c.try_load.result c.try_load.ensures.refused
     c.try_load.ensures.spent.0 c.try_load.ensures.loaded c.try_load.ensures.moved
-    (λ seen now m. inr (inr (inl (c.args.next, (c.args.seat.now, c.try_load.new.seat, m)))))).0.2
+    (Differs c.args.domain.now) (λ seen now m. inr (inr (inl (c.args.next, (c.args.seat.now, c.try_load.new.seat, m)))))).0.2
 
 pub returns-clause-why : goal.returns-clause-why
 returns-clause-why c =
@@ -53,4 +53,4 @@ returns-clause-why c =
     (λ own after v a w. refl) c.args.seat.now c.try_load.new.seat c.requires.rest
     c.try_load.ensures.objects c.try_load.result c.try_load.ensures.refused
     c.try_load.ensures.spent.0 c.try_load.ensures.loaded c.try_load.ensures.moved
-    (λ seen now m. inr (inr (inl (c.args.next, (c.args.seat.now, c.try_load.new.seat, m)))))).1
+    (Differs c.args.domain.now) (λ seen now m. inr (inr (inl (c.args.next, (c.args.seat.now, c.try_load.new.seat, m)))))).1

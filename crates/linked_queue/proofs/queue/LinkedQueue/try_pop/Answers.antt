@@ -1,13 +1,7 @@
 use Rattle.std.proofs.Common.{ap, sym, subst}
-use Rattle.std.specs.Prelude.{Option}
-use Rattle.plain_state.specs.declared.act.EventPlace.TheVariants.{Cell}
 use Rattle.plain_state.specs.declared.slot.SlotId.{SlotId}
-use Rattle.counted_handles.specs.Handles.{Handle}
 use Rattle.acquire_retire.proofs.Wholes.{then_ok}
 use Rattle.atomic_shared.specs.Places.{named}
-use Rattle.protected_loads.specs.References.{Loads}
-use Rattle.queue_law.specs.Lessons.{CellTells, learn_next}
-use Rattle.queue_protocol.specs.Nodes.{IsNodePayload}
 use Rattle.linked_queue.specs.declared.queue.PopError.{PopError}
 use Rattle.linked_queue.specs.Leaving.{found_by}
 use Rattle.linked_queue.specs.Queues.{deeds_in}
