@@ -1,5 +1,5 @@
 -- The exchanges at the end of a queue: what their deeds ask, and what they leave.
-use Rattle.std.proofs.Common.{◌≡◌, ℕ, ◌-◌, ◌<◌, Bool, true, false, [], ◌∷◌, ◌++◌, refl, ap, sym, ◌∙◌, subst, arith}
+use Rattle.std.proofs.Common.{◌≡◌, ℕ, ◌-◌, ◌<◌, Bool, true, false, [], ◌∷◌, ◌++◌, refl, ap, sym, ◌∙◌, subst, arith, ◌+◌, ◌≤◌}
 use Rattle.std.specs.Prelude.{◌==◌, Option, Some, None, cond}
 use Rattle.plain_state.specs.declared.act.EventPlace.{EventPlace}
 use Rattle.plain_state.specs.declared.act.EventPlace.TheVariants.{Field}
@@ -16,6 +16,8 @@ use Rattle.core_events.specs.Views.{without}
 use Rattle.core_events.specs.Words.{slot_in}
 use Rattle.core_invariant.proofs.Kit.{times_without}
 use Rattle.core_shows.proofs.ShownPlaces.{slot_word}
+use Rattle.counted_handles.specs.declared.refusal.LoadError.{LoadError}
+use Rattle.counted_handles.specs.declared.refusal.LoadError.TheVariants as unloaded
 use Rattle.domain_rule.specs.Views.{object_in, own_of}
 use Rattle.acquire_retire.specs.Calls.{IsReady, IsSameView, same_view}
 use Rattle.acquire_retire.specs.Domains.{DomainState}
@@ -33,7 +35,7 @@ use Rattle.queue_law.specs.Words.{life_in}
 use Rattle.queue_protocol.specs.declared.law.QueueLaw.{QueueLaw}
 use Rattle.queue_protocol.specs.Nodes.{IsNodePayload}
 use Rattle.linked_queue.specs.Leaving.{Leaves}
-use Rattle.linked_queue.specs.Pushes.{HasLoad, LostLink, SeesBehind, SeesTail, advanced_in}
+use Rattle.linked_queue.specs.Pushes.{HasLoad, IsWhyUnlinked, LostLink, SeesBehind, SeesTail, advanced_in}
 use Rattle.linked_queue.specs.Queues.{IsAttached, ends_of}
 use Rattle.linked_queue.proofs.Leavings.{copy_leaves, drop_leaves, leaves_all, leaves_same}
 use Rattle.linked_queue.proofs.Owning.{has_owned, holds_more, own_life, own_payload, still_owned, through}
@@ -254,3 +256,11 @@ tail_still last old new sees owns object shape client = record {
   was_tail = ap (λ (v : View). v.eyes.was_tail) client ∙ sees.was_tail;
   inside = subst (λ (z : Shape). last.0 < z.slots) (sym shape) sees.inside;
 }
+
+-- why a later step was refused tells why all of it was, by the adds that were used before
+pub why_later : (d : DomainState QueueLaw) (k n j : ℕ) → n ≡ k + j → (error : LoadError)
+    (old mid : SeatState View) → mid.view.core.adds ≤ old.view.core.adds + j
+    → mid.view.core.quota.adds ≡ old.view.core.quota.adds → IsWhyUnlinked d k error mid
+    → IsWhyUnlinked d n error old
+why_later d k n j is unloaded.Spent old mid adds quota why = omega arith
+why_later d k n j is (unloaded.Moved seen now) old mid adds quota why = why

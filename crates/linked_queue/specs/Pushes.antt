@@ -14,11 +14,15 @@ use Rattle.acquire_retire.specs.Calls.{IsSameView, same_view}
 use Rattle.acquire_retire.specs.Domains.{DomainState}
 use Rattle.acquire_retire.specs.Seats.{SeatState}
 use Rattle.control_word.specs.Calls.{DropsStrong, GainsStrong}
-use Rattle.retiring_stores.specs.Exchanging.{Loses, LosesTo, Replaces}
+use Rattle.retiring_stores.specs.Exchanging.{Loses, LosesTo, Replaces, Stores}
 use Rattle.slot_store.specs.declared.making.MakeError.{MakeError}
 use Rattle.slot_store.specs.declared.making.MakeError.TheVariants as refused
-use Rattle.slot_store.specs.Calls.{HasNoMake}
+use Rattle.slot_store.specs.Calls.{HasNoMake, Makes}
 use Rattle.slot_store.specs.Searching.{Misses as MissesSlots}
+use Rattle.protected_loads.specs.References.{Refers}
+use Rattle.protected_loads.specs.Loads.{FindsNull}
+use Rattle.linked_queue.specs.UnlessRipe.{next_unless}
+use Rattle.queue_law.specs.Nodes.{carry_next, make_next}
 use Rattle.queue_law.specs.declared.view.Item.{Item}
 use Rattle.queue_law.specs.declared.view.View.{View}
 use Rattle.queue_law.specs.Lessons.{NextTells, TellsNothing, learn_next, next_next}
@@ -110,6 +114,70 @@ module _ (d : DomainState QueueLaw) where
     pub copies : GainsStrong IsNodePayload d same_view IsSameView node old copied
     pub replaces :
         Replaces IsNodePayload d link_next TellsNothing (Field last 0) (Some node) None copied new
+
+  -- It made a node, counted a reference to the item, and put that into field 1 of the node.
+  pub record LoadsNode (item node : SlotId) (old new : SeatState View) : Type 0 where
+    pub made : SeatState View
+    pub copied : SeatState View
+    pub makes : Makes IsNodePayload d make_next TellsNothing no_payload node old made
+    pub copies : GainsStrong IsNodePayload d same_view IsSameView item made copied
+    pub stores :
+        Stores IsNodePayload d (next_unless carry_next) TellsNothing (Field node 1) (Some item)
+        copied new
+
+  -- It counted a reference to the next node, with which it advanced the tail cell, or found it advanced already.
+  pub record Helps (last next : SlotId) (old new : SeatState View) : Type 0 where
+    pub copied : SeatState View
+    pub copies : GainsStrong IsNodePayload d same_view IsSameView next old copied
+    pub advances : Advances last next copied new
+
+  -- Behind a node of the tail cell it found another, to which it helped the tail cell on.
+  pub record GoesOn (first last : SlotId) (old new : SeatState View) : Type 0 where
+    pub seen : SeatState View
+    pub helped : SeatState View
+    pub loads :
+        Refers IsNodePayload d (Field first 0) next_next (NextTells (ends_of d)) last old seen
+    pub helps : Helps first last seen helped
+    pub drops : DropsStrong IsNodePayload d first helped new
+
+  -- behind it there was none
+  abbrev pub Stays : SlotId → SlotId → SeatState View → SeatState View → Type 0
+  Stays first last old new =
+      (last ≡ first)
+      × FindsNull IsNodePayload d (Field first 0) next_next (NextTells (ends_of d)) old new
+
+  -- It found the last node by the tail cell.
+  pub record FindsEnd (last : SlotId) (old new : SeatState View) : Type 0 where
+    pub first : SlotId
+    pub seen : SeatState View
+    pub loads :
+        Refers IsNodePayload d (Cell d.protocol.tail) (learn_next false) (TailTells (ends_of d))
+        first old seen
+    pub which : Stays first last seen new ⊎ GoesOn first last seen new
+
+  -- It found the last node, linked its own behind it, advanced the tail cell, and gave the last node up.
+  pub record PushesNode (node : SlotId) (old new : SeatState View) : Type 0 where
+    pub last : SlotId
+    pub found : SeatState View
+    pub linked : SeatState View
+    pub late : SeatState View
+    pub finds : FindsEnd last old found
+    pub links : Links last node found linked
+    pub advances : Advances last node linked late
+    pub drops : DropsStrong IsNodePayload d last late new
+
+  -- It did so with a node that carries a reference of its own to the item.
+  pub record PushesCopy (item : SlotId) (old new : SeatState View) : Type 0 where
+    pub node : SlotId
+    pub loaded : SeatState View
+    pub loads : LoadsNode item node old loaded
+    pub pushes : PushesNode node loaded new
+
+  -- all events of a push: in the end it gave up the reference that it was called with
+  pub record PushesBy (item : SlotId) (old new : SeatState View) : Type 0 where
+    pub pushed : SeatState View
+    pub copy : PushesCopy item old pushed
+    pub drops : DropsStrong IsNodePayload d item pushed new
 
 -- The seat has given its reference to the item, and has pushed it, as it knows it.
 pub record Pushes (item : SlotId) (old new : SeatState View) : Type 0 where

@@ -27,7 +27,7 @@ use slot_store::{MakeError, make};
 impl LinkedQueue {
     /// Lays a queue over two cells: makes the dummy, and puts it into the tail cell and then into the head cell. It is
     /// for seat 0, once, and attaches it. A refusal has the cause of the `make`, or the seat had no add left for the
-    /// second reference; then nothing is laid, and a dummy that was made is given up. At most 23 steps more than there
+    /// second reference; then nothing is laid, and a dummy that was made is given up. At most 21 steps more than there
     /// are slots, and two collects.
     pub fn lay(
         domain: &Domain<QueueLaw>,

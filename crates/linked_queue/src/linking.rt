@@ -12,7 +12,7 @@ ghost use Rattle.queue_law.specs.Lessons.{NextTells, learn_next, next_next};
 ghost use Rattle.queue_protocol.specs.Nodes.{IsNodePayload};
 ghost use Rattle.linked_queue.specs.Cells.{TailTells};
 ghost use Rattle.linked_queue.specs.Leaving.{Leaves, found_by, handle_by, with_found};
-ghost use Rattle.linked_queue.specs.Pushes.{Advances, HasLoad, IsWhyUnlinked, Links, PushDiffers, SeesBehind, SeesTail, advanced_in};
+ghost use Rattle.linked_queue.specs.Pushes.{Advances, FindsEnd, HasLoad, Helps, IsWhyUnlinked, Links, PushDiffers, SeesBehind, SeesTail, advanced_in};
 ghost use Rattle.linked_queue.specs.Queues.{IsAttached, beside_eyes, ends_of};
 ghost use Rattle.linked_queue.specs.Seeing.{IsWhyUnread};
 
@@ -37,6 +37,7 @@ pub(crate) fn find_last(
     requires there { tail < domain.now.shape.cells }
     requires queue { domain.now.protocol.form ≡ Linked }
     requires attached { IsAttached seat.old.view.client }
+    ensures events { IfOk result (λ last. FindsEnd domain.now last.slot seat.old seat.new) }
     ensures sees { IfOk result (λ last. SeesTail last.slot seat.new) }
     ensures adds { seat.new.view.core.adds ≤ seat.old.view.core.adds + 3 }
     ensures beside { beside_eyes seat.new.view.client ≡ beside_eyes seat.old.view.client }
@@ -137,6 +138,7 @@ fn help(
     requires queue { domain.now.protocol.form ≡ Linked }
     requires attached { IsAttached seat.old.view.client }
     requires behind { SeesBehind old next.now.slot seat.old }
+    ensures helps { IfOk result (λ done. Helps domain.now old next.now.slot seat.old seat.new) }
     ensures sees { IfOk result (λ done. SeesTail next.now.slot seat.new) }
     ensures adds { seat.new.view.core.adds ≤ seat.old.view.core.adds + 1 }
     ensures beside { beside_eyes seat.new.view.client ≡ beside_eyes seat.old.view.client }

@@ -25,7 +25,7 @@ impl LinkedQueue {
     /// Takes the first item off the queue, in one try, and answers a reference to it. `None` only where nothing was
     /// linked behind the head's node at a step of this call. `Again` only where a place of the queue changed
     /// meanwhile, which this call didn't change, and `Spent` only where at most three adds were left. Then nothing is
-    /// taken, and the seat has what it had. At most 25 steps, and two collects.
+    /// taken, and the seat has what it had. At most 29 steps, and two collects.
     pub fn try_pop(
         &self,
         domain: &Domain<QueueLaw>,

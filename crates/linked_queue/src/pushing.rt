@@ -13,7 +13,7 @@ ghost use Rattle.queue_law.specs.declared.view.Form.TheVariants.{Linked};
 ghost use Rattle.queue_law.specs.Pushes.{carried_item};
 ghost use Rattle.linked_queue.specs.Leaving.{Leaves, handle_by, with_found};
 ghost use Rattle.linked_queue.specs.Pops.{item_in};
-ghost use Rattle.linked_queue.specs.Pushes.{HasLoad, IsWhyRefused, IsWhyUnlinked, IsWhyUnpushed, Pushes, PushesNothing, back_of, pushed_too};
+ghost use Rattle.linked_queue.specs.Pushes.{HasLoad, LoadsNode, PushesBy, PushesCopy, PushesNode, IsWhyRefused, IsWhyUnlinked, IsWhyUnpushed, Pushes, PushesNothing, back_of, pushed_too};
 ghost use Rattle.linked_queue.specs.NotPushed.{IsWhyNotPushed};
 ghost use Rattle.linked_queue.specs.Queues.{IsAttached, IsQueueOf, deeds_in};
 
@@ -29,7 +29,10 @@ use queue_protocol::QueueLaw;
 use slot_store::MakeError;
 
 impl LinkedQueue {
-    /// Appends an item to the queue, in one try.
+    /// Appends an item to the queue, in one try, and gives the seat's reference to it. `Again` where another seat was
+    /// quicker, and `Refused` with the causes of `make`, where `AddsSpent` is told too by a later increment of the call:
+    /// at most five adds were left. Then nothing is pushed, and the item is handed back; a node that was made is given
+    /// up. At most 50 steps more than there are slots, and four collects.
     pub fn try_push(
         &self,
         domain: &Domain<QueueLaw>,
@@ -41,6 +44,7 @@ impl LinkedQueue {
         requires queue { IsQueueOf self.now.head self.now.tail domain.now }
         requires attached { IsAttached seat.old.view.client }
         requires item { 0 < times item.slot seat.old.view.core.owned }
+        ensures events { IfOk result (λ done. PushesBy domain.now item.slot seat.old seat.new) }
         ensures pushed { IfOk result (λ done. Pushes item.slot seat.old seat.new) }
         ensures refused { OnErr result (PushesNothing seat.old seat.new) }
         ensures back { IfErr result (λ error. back_of error ≡ item) }
@@ -86,6 +90,8 @@ fn push_copy(
     requires there { tail < domain.now.shape.cells }
     requires attached { IsAttached seat.old.view.client }
     requires item { 0 < times item.now.slot seat.old.view.core.owned }
+    ensures events { IfOk result (λ done. PushesCopy domain.now item.now.slot
+        seat.old seat.new) }
     ensures pushed { IfOk result (λ done. deeds_in seat.new.view.client
         ≡ pushed_too (item_in seat.old item.now.slot) (deeds_in seat.old.view.client)) }
     ensures refused { OnErr result (deeds_in seat.new.view.client
@@ -115,6 +121,8 @@ fn load_node(
     requires rest { IsAtRest domain.now seat.old }
     requires room { HasRoom seat.old.view.core }
     requires item { 0 < times item.now.slot seat.old.view.core.owned }
+    ensures events { IfOk result (λ node. LoadsNode domain.now item.now.slot node.slot
+        seat.old seat.new) }
     ensures load { IfOk result (λ node. HasLoad node.slot seat.new) }
     ensures carried { IfOk result (λ node. carried_item seat.new.view.client
         ≡ item_in seat.old item.now.slot) }
@@ -149,6 +157,7 @@ fn push_node(
     requires there { tail < domain.now.shape.cells }
     requires attached { IsAttached seat.old.view.client }
     requires load { HasLoad node.slot seat.old }
+    ensures events { IfOk result (λ done. PushesNode domain.now node.slot seat.old seat.new) }
     ensures pushed { IfOk result (λ done. deeds_in seat.new.view.client
         ≡ pushed_too (carried_item seat.old.view.client) (deeds_in seat.old.view.client)) }
     ensures refused { OnErr result (deeds_in seat.new.view.client

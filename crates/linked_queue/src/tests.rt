@@ -1,12 +1,12 @@
 //! A queue on a domain of one seat.
-ghost use Rattle.std.specs.Prelude.{◌^◌, ◌<◌, ◌≤◌, ◌≡◌, IfOk};
+ghost use Rattle.std.specs.Prelude.{◌^◌, ◌<◌, ◌≤◌, ◌≡◌, true, IfOk};
 ghost use Rattle.plain_state.specs.Lists.{times};
 ghost use Rattle.core_events.specs.Steps.{HasRoom};
 ghost use Rattle.control_word.specs.Resting.{IsAtRest};
 ghost use Rattle.linked_queue.specs.Queues.{CanLay, IsAttached, IsQueueOf};
 
 use crate::laying::make_node;
-use crate::{LinkedQueue, MakeError, Strong};
+use crate::{LinkedQueue, MakeError, PopError, PushError, Strong};
 use acquire_retire::{Domain, OpenError, Quota, Seat, Shape, open_domain};
 use queue_protocol::QueueLaw;
 use std::test::Fail;
@@ -26,9 +26,27 @@ fn open_alone(rt: &HostRuntime, adds: u64) -> Result<(Domain<QueueLaw>, Seat<Que
     ensures queue { IfOk result (λ r. IsQueueOf 0 1 r.0) }
     ensures unlaid { IfOk result (λ r. CanLay r.1.view.client) }
 {
-    let quota = Quota { makes: 4, adds };
+    let quota = Quota { makes: 8, adds };
     let (domain, mut seats) = open_domain(rt.alloc(), SHAPE, &[quota], QueueLaw::linked(0, 1))?;
     Ok((domain, seats.remove(0)))
+}
+
+type TwoSeats = (Domain<QueueLaw>, Seat<QueueLaw>, Seat<QueueLaw>);
+
+/// The same of two seats.
+fn open_pair(rt: &HostRuntime) -> Result<TwoSeats, OpenError>
+    ensures rest { IfOk result (λ r. IsAtRest r.0 r.1 × HasRoom r.1.view.core) }
+    ensures queue { IfOk result (λ r. IsQueueOf 0 1 r.0) }
+    ensures unlaid { IfOk result (λ r. CanLay r.1.view.client) }
+    ensures other { IfOk result (λ r. IsAtRest r.0 r.2 × HasRoom r.2.view.core
+        × (r.2.view.client.here ≡ true)) }
+{
+    let quota = Quota { makes: 8, adds: 40 };
+    let shape = Shape { seats: 2, ..SHAPE };
+    let law = QueueLaw::linked(0, 1);
+    let (domain, mut seats) = open_domain(rt.alloc(), shape, &[quota, quota], law)?;
+    let root = seats.remove(0);
+    Ok((domain, root, seats.remove(0)))
 }
 
 /// An object that the queue may carry: in a domain with nothing but a queue, a node.
@@ -50,7 +68,6 @@ fn nothing_is_popped_of_a_queue_just_laid(rt: HostRuntime) -> Result<(), Fail> {
     let Ok(queue) = LinkedQueue::lay(&domain, &mut seat, 0, 1) else {
         panic!(rt; "a queue")
     };
-    assert!(rt; queue.try_attach(&domain, &mut seat));
     let Ok(None) = queue.try_pop(&domain, &mut seat) else {
         panic!(rt; "an empty queue")
     };
@@ -63,14 +80,68 @@ fn what_was_pushed_is_popped_once(rt: HostRuntime) -> Result<(), Fail> {
     let Ok(queue) = LinkedQueue::lay(&domain, &mut seat, 0, 1) else {
         panic!(rt; "a queue")
     };
-    let Ok(item) = make_item(&domain, &mut seat) else {
-        panic!(rt; "a free slot")
-    };
-    let slot = item.slot();
-    let Ok(()) = queue.try_push(&domain, &mut seat, item) else {
-        panic!(rt; "a push")
-    };
+    let first = make_item(&domain, &mut seat).expect(&rt, "a free slot");
+    let second = make_item(&domain, &mut seat).expect(&rt, "a free slot");
+    let slots = (first.slot(), second.slot());
+    assert!(rt; queue.try_push(&domain, &mut seat, first).is_ok());
+    assert!(rt; queue.try_push(&domain, &mut seat, second).is_ok());
     let Ok(Some(item)) = queue.try_pop(&domain, &mut seat) else {
+        panic!(rt; "two items")
+    };
+    assert_eq!(rt; item.slot(), slots.0);
+    let Ok(Some(item)) = queue.try_pop(&domain, &mut seat) else {
+        panic!(rt; "an item")
+    };
+    assert_eq!(rt; item.slot(), slots.1);
+    let Ok(None) = queue.try_pop(&domain, &mut seat) else {
+        panic!(rt; "an empty queue")
+    };
+    Ok(())
+}
+
+#[test]
+fn a_push_that_runs_out_of_adds_hands_the_item_back(rt: HostRuntime) -> Result<(), Fail> {
+    let (domain, mut seat) = open_alone(&rt, 6)?;
+    let Ok(queue) = LinkedQueue::lay(&domain, &mut seat, 0, 1) else {
+        panic!(rt; "a queue")
+    };
+    let item = make_item(&domain, &mut seat).expect(&rt, "a free slot");
+    let slot = item.slot();
+    let Err(PushError::Refused(refused)) = queue.try_push(&domain, &mut seat, item) else {
+        panic!(rt; "a refusal")
+    };
+    assert_eq!(rt; refused.why, MakeError::AddsSpent);
+    assert_eq!(rt; refused.back.slot(), slot);
+    Ok(())
+}
+
+#[test]
+fn a_pop_that_runs_out_of_adds_takes_nothing(rt: HostRuntime) -> Result<(), Fail> {
+    let (domain, mut seat) = open_alone(&rt, 9)?;
+    let Ok(queue) = LinkedQueue::lay(&domain, &mut seat, 0, 1) else {
+        panic!(rt; "a queue")
+    };
+    let item = make_item(&domain, &mut seat).expect(&rt, "a free slot");
+    assert!(rt; queue.try_push(&domain, &mut seat, item).is_ok());
+    let Err(PopError::Spent) = queue.try_pop(&domain, &mut seat) else {
+        panic!(rt; "no add for the item")
+    };
+    Ok(())
+}
+
+#[test]
+fn a_second_seat_pops_what_the_first_pushed(rt: HostRuntime) -> Result<(), Fail> {
+    let (domain, mut seat, mut other) = open_pair(&rt)?;
+    let Ok(queue) = LinkedQueue::lay(&domain, &mut seat, 0, 1) else {
+        panic!(rt; "a queue")
+    };
+    if !queue.try_attach(&domain, &mut other) {
+        panic!(rt; "a queue that is laid")
+    }
+    let item = make_item(&domain, &mut seat).expect(&rt, "a free slot");
+    let slot = item.slot();
+    assert!(rt; queue.try_push(&domain, &mut seat, item).is_ok());
+    let Ok(Some(item)) = queue.try_pop(&domain, &mut other) else {
         panic!(rt; "an item")
     };
     assert_eq!(rt; item.slot(), slot);

@@ -6,7 +6,7 @@ use Rattle.core_events.specs.declared.view.CoreView.{CoreView}
 use Rattle.core_events.specs.Views.{without}
 use Rattle.control_word.proofs.Finding.{slot_there}
 use Rattle.linked_queue.specs.Leaving.{Leaves}
-use Rattle.linked_queue.specs.Pushes.{SeesBehind, advanced_in}
+use Rattle.linked_queue.specs.Pushes.{Advances, SeesBehind, advanced_in}
 use Rattle.linked_queue.proofs.Leavings.{copy_leaves, leaves_same}
 use Rattle.linked_queue.proofs.Owning.{has_owned, still_owned, through}
 use Rattle.linked_queue.proofs.Linkings.{advanced_tail, behind_still}
@@ -70,3 +70,11 @@ returns-clause-sees c =
     (omega arith) object
     (subst (λ (z : Shape). next.0 < z.slots) (sym c.advance.ensures.rest.of_domain.1)
     (slot_there copies.walks.1.told next (omega arith)))
+
+pub returns-clause-helps : goal.returns-clause-helps
+returns-clause-helps c = record {
+  copied = c.copy_strong.new.seat;
+  copies = c.in-Ok.ensures.copied.1;
+  advances = subst (λ (s : SlotId). Advances c.args.domain.now c.args.old s c.copy_strong.new.seat
+      c.advance.new.seat) c.in-Ok.ensures.copied.0 c.advance.ensures.advances;
+}

@@ -1,5 +1,11 @@
 use Rattle.std.proofs.Common.{◌<◌, [], ◌∷◌, ◌++◌, refl, ap, sym, ◌∙◌, subst, arith}
-use Rattle.std.specs.Prelude.{None}
+use Rattle.std.specs.Prelude.{None, Some}
+use Rattle.plain_state.specs.declared.act.EventPlace.TheVariants.{Field}
+use Rattle.retiring_stores.specs.Exchanging.{Stores}
+use Rattle.queue_law.specs.Lessons.{TellsNothing}
+use Rattle.queue_law.specs.Nodes.{carry_next}
+use Rattle.queue_protocol.specs.Nodes.{IsNodePayload}
+use Rattle.linked_queue.specs.UnlessRipe.{next_unless}
 use Rattle.plain_state.specs.declared.slot.SlotId.{SlotId}
 use Rattle.plain_state.specs.Lists.{times}
 use Rattle.core_events.specs.declared.view.CoreView.{CoreView}
@@ -78,3 +84,15 @@ returns-clause-leaves c =
     (leaves_same c.copy_strong.new.seat c.copy_strong.new.seat refl)
     (subst (λ (s : SlotId). Leaves (without s c.copy_strong.new.seat.view.core.owned)
     c.copy_strong.new.seat c.carry.new.seat) c.in-Ok.ensures.copied.0 c.carry.ensures.leaves))
+
+pub returns-clause-events : goal.returns-clause-events
+returns-clause-events c = record {
+  made = c.make_node.new.seat;
+  copied = c.copy_strong.new.seat;
+  makes = c.in_ok-node.ensures.made;
+  copies = c.in-Ok.ensures.copied.1;
+  stores = subst (λ (x : SlotId × SlotId). Stores IsNodePayload c.args.domain.now
+      (next_unless carry_next) TellsNothing (Field x.0 1) (Some x.1) c.copy_strong.new.seat
+      c.carry.new.seat)
+      (λ i. (c.slot.ensures i, c.in-Ok.ensures.copied.0 i)) c.carry.ensures.stores;
+}

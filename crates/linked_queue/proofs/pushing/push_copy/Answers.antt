@@ -21,3 +21,11 @@ returns-in-Err-Spent-clause-leaves c =
     through c.in-Ok.node.slot None c.args.seat.now c.load_node.new.seat c.load_node.new.seat
     c.push_node.new.seat c.in-Ok.ensures.leaves
     (leaves_same c.load_node.new.seat c.load_node.new.seat refl) c.push_node.ensures.leaves
+
+pub returns-in-Ok-push_node-clause-events : goal.returns-in-Ok-push_node-clause-events
+returns-in-Ok-push_node-clause-events c = record {
+  node = c.in-Ok.node.slot;
+  loaded = c.load_node.new.seat;
+  loads = c.in-Ok.ensures.events;
+  pushes = c.in-Ok-push_node.ensures.events;
+}

@@ -1,9 +1,10 @@
-use Rattle.std.proofs.Common.{sym, subst, arith}
+use Rattle.std.proofs.Common.{sym, subst, arith, ap, refl}
 use Rattle.plain_state.specs.declared.slot.SlotId.{SlotId}
+use Rattle.core_events.specs.declared.view.CoreView.{CoreView}
 use Rattle.core_invariant.proofs.Kit.{times_push}
-use Rattle.linked_queue.specs.Pushes.{HasLoad}
+use Rattle.linked_queue.specs.Pushes.{Advances, HasLoad, Links}
 use Rattle.linked_queue.proofs.Leavings.{drop_leaves}
-use Rattle.linked_queue.proofs.Linkings.{then_gives}
+use Rattle.linked_queue.proofs.Linkings.{then_gives, why_later}
 use Rattle.linked_queue.proofs.Pushings.{gives_both, l_there, load_still}
 use Rattle.linked_queue.proofs.pushing.push_node.Goals as goal
 
@@ -69,3 +70,23 @@ returns-clause-leaves c =
     c.advance.ensures.leaves
     (drop_leaves c.in-Ok.last.slot c.advance.new.seat c.drop_strong-2.new.seat
     c.drop_strong-2.ensures.dropped c.drop_strong-2.ensures.objects)
+
+pub returns-clause-events : goal.returns-clause-events
+returns-clause-events c = record {
+  last = c.in-Ok.last.slot;
+  found = c.find_last.new.seat;
+  linked = c.link.new.seat;
+  late = c.advance.new.seat;
+  finds = c.in-Ok.ensures.events;
+  links = subst (λ (x : SlotId × SlotId). Links c.args.domain.now x.0 x.1 c.find_last.new.seat
+      c.link.new.seat) (λ i. (c.slot.ensures i, c.slot-2.ensures i)) c.in_default.ensures.links;
+  advances = subst (λ (s : SlotId). Advances c.args.domain.now s c.args.node.slot
+      c.link.new.seat c.advance.new.seat) c.slot-3.ensures c.advance.ensures.advances;
+  drops = c.drop_strong-2.ensures.dropped;
+}
+
+pub returns-in-Err-link-clause-why : goal.returns-in-Err-link-clause-why
+returns-in-Err-link-clause-why c =
+    why_later c.args.domain.now 0 3 3 refl c.in-Err-link.error c.args.seat.now c.find_last.new.seat
+    c.find_last.ensures.adds
+    (ap (λ (v : CoreView). v.quota.adds) c.in-Ok.ensures.leaves.same) c.in-Err-link.ensures.why

@@ -12,3 +12,10 @@ returns-in-Ok-clause-pushed c = record {
       c.drop_strong.ensures.dropped c.drop_strong.ensures.objects);
   deeds = ap deeds_in c.drop_strong.ensures.client ∙ c.in-Ok.ensures.pushed;
 }
+
+pub returns-in-Ok-clause-events : goal.returns-in-Ok-clause-events
+returns-in-Ok-clause-events c = record {
+  pushed = c.push_copy.new.seat;
+  copy = c.in-Ok.ensures.events;
+  drops = c.drop_strong.ensures.dropped;
+}
