@@ -1,6 +1,6 @@
 -- What a seat sees by the nodes of a queue that it loads.
-use Rattle.std.proofs.Common.{◌≡◌, ◌≢◌, ◌⊎◌, inl, inr, ℕ, suc, ◌+◌, zero, ◌-◌, ◌<◌, Bool, true, false, [], ◌∷◌, ◌++◌, length, refl, ap, sym, ◌∙◌, subst, arith}
-use Rattle.std.specs.Prelude.{Err, IfErr, IfOk, IfSome, Ok, Option, Result, Some, None, cond, nat_lt, slice_set}
+use Rattle.std.proofs.Common.{◌≡◌, ◌⊎◌, inl, inr, ℕ, suc, ◌+◌, ◌-◌, ◌<◌, Bool, true, false, [], ◌∷◌, ◌++◌, length, refl, ap, sym, ◌∙◌, subst, arith}
+use Rattle.std.specs.Prelude.{cond, nat_lt, slice_set}
 use Rattle.std.proofs.lemmas.Bool.Decides.{nat_tests}
 use Rattle.plain_state.specs.declared.act.EventPlace.TheVariants.{Cell, Field}
 use Rattle.plain_state.specs.declared.act.PlainAct.{PlainAct}
@@ -9,25 +9,19 @@ use Rattle.plain_state.specs.declared.slot.Kind.TheVariants.{Strong}
 use Rattle.plain_state.specs.declared.slot.SlotId.{SlotId}
 use Rattle.plain_state.specs.Lists.{times}
 use Rattle.plain_state.specs.State.{Plain}
-use Rattle.plain_state.specs.Steps.{word_of}
-use Rattle.plain_protocol.specs.Owns.{Object, OwnPart}
+use Rattle.plain_protocol.specs.Owns.{Object}
 use Rattle.core_events.specs.declared.shape.Shape.{Shape}
 use Rattle.core_events.specs.declared.view.CoreView.{CoreView}
 use Rattle.core_events.specs.declared.view.Note.TheVariants as note
 use Rattle.core_events.specs.Shows.{show_seat}
-use Rattle.counted_handles.specs.Handles.{Handle}
-use Rattle.atomic_shared.specs.Places.{named}
 use Rattle.counted_handles.specs.declared.place.Place.TheVariants as place
-use Rattle.counted_handles.specs.declared.refusal.LoadError.{LoadError}
-use Rattle.counted_handles.specs.declared.refusal.LoadError.TheVariants as unloaded
-use Rattle.core_events.specs.Words.{slot_in}
 use Rattle.domain_rule.specs.Views.{object_in, own_of}
 use Rattle.acquire_retire.specs.Domains.{DomainState}
 use Rattle.acquire_retire.specs.Seats.{SeatState}
 use Rattle.control_word.specs.Moves.{KnowsStill}
-use Rattle.control_word.specs.Resting.{IsAtRest, IsSpent}
-use Rattle.protected_loads.specs.Loads.{FindsNull, Misses}
-use Rattle.protected_loads.specs.References.{IsReadyToLoad, Loads, Refers}
+use Rattle.control_word.specs.Resting.{IsAtRest}
+use Rattle.protected_loads.specs.Loads.{FindsNull}
+use Rattle.protected_loads.specs.References.{IsReadyToLoad, Refers}
 use Rattle.protected_loads.proofs.Learning.{checked, client_found, client_null, has_found, known_found, slot_there}
 use Rattle.protected_loads.proofs.Noting.{snapshot_gains, some_more}
 use Rattle.protected_loads.proofs.Telling.{four_notes}
@@ -37,40 +31,11 @@ use Rattle.queue_law.specs.Lessons.{ItemReady, ItemTells, NextTells, item_next, 
 use Rattle.queue_law.specs.Words.{held_times, life_in}
 use Rattle.queue_protocol.specs.declared.law.QueueLaw.{QueueLaw}
 use Rattle.queue_protocol.specs.Nodes.{IsNodePayload}
-use Rattle.linked_queue.specs.Cells.{NodeTells}
-use Rattle.linked_queue.specs.Queues.{IsAttached, beside_eyes, ends_of}
-use Rattle.linked_queue.specs.Leaving.{found_by}
-use Rattle.linked_queue.specs.Seeing.{FindsLast, IsWhyUnread, Missed, SeesHead, SeesItem, SeesNext}
-use Rattle.linked_queue.specs.Pushes.{SeesBehind, SeesTail}
+use Rattle.linked_queue.specs.Queues.{IsAttached, ends_of}
+use Rattle.linked_queue.specs.Seeing.{FindsLast, SeesHead, SeesItem, SeesNext}
+use Rattle.linked_queue.specs.Pushes.{SeesTail}
 use Rattle.linked_queue.proofs.Owning.{has_owned, own_life, owns_pushed, still_owned}
-use Rattle.linked_queue.proofs.Sights.{Sights, core_found, sights}
-
--- THE DEEDS note what was found, and nothing else
-learn_notes_cond : (head b : Bool) (after : OwnPart) (v : View) (w : ℕ)
-    → beside_eyes (cond b (record v { eyes = learnt head after w }) v) ≡ beside_eyes v
-learn_notes_cond head true after v w = refl
-learn_notes_cond head false after v w = refl
-
-pub learn_notes : (head : Bool) (own after : OwnPart) (v : View) (a : PlainAct) (w : ℕ)
-    → beside_eyes (learn_next head own after v a w) ≡ beside_eyes v
-learn_notes head own after v a zero = refl
-learn_notes head own after v a (suc s) =
-    learn_notes_cond head (nat_lt 0 (held_times s after.seat)) after v (suc s)
-
--- what follows for each slot that a load found follows for its answer
-pub found_sees : {E : Type 0} (loads : Option SlotId → Type 0) (sees : SlotId → Type 0)
-    (r : Result (Option Handle) E) → ((s : SlotId) → loads (Some s) → sees s)
-    → IfOk r (λ found. loads (named found)) → IfOk r (λ found. IfSome found (λ h. sees h.slot))
-found_sees loads sees (Ok None) follows l = tt
-found_sees loads sees (Ok (Some h)) follows l = follows h.slot l
-found_sees loads sees (Err e) follows l = tt
-
-pub found_none : {E : Type 0} (loads : Option SlotId → Type 0) (T : Type 0)
-    (r : Result (Option Handle) E) → (loads None → T) → IfOk r (λ found. loads (named found))
-    → IfOk r (λ found. named found ≡ None → T)
-found_none loads T (Ok None) follows l = λ is. follows l
-found_none loads T (Ok (Some h)) follows l = λ is. absurd (cc (is))
-found_none loads T (Err e) follows l = tt
+use Rattle.linked_queue.proofs.Sights.{core_found}
 
 -- WHAT IS SEEN STAYS SEEN, as long as the seat owns it and its eyes are on it
 pub head_still : (front : SlotId) (old new : SeatState View) → SeesHead front old
@@ -185,61 +150,6 @@ module _ (d : DomainState QueueLaw) (old new : SeatState View) (rest : IsAtRest 
           following = ap (λ (v : View). v.eyes.following) next_seen ∙ omega arith;
         }
 
-  -- one that it saw in the tail cell it sees still, and the node that it found behind it
-  tail_on : (last : SlotId) → SeesTail last old → KnowsStill old.view.core old new
-      → 0 < times last new.view.core.owned
-      → new.view.core.shape ≡ old.view.core.shape
-      → new.view.client.eyes.node ≡ old.view.client.eyes.node
-      → new.view.client.eyes.life ≡ old.view.client.eyes.life
-      → new.view.client.eyes.was_tail ≡ old.view.client.eyes.was_tail → SeesTail last new
-  tail_on last sees knows owns shape node life tail = record {
-    owns = owns;
-    node = node ∙ sees.node;
-    life = ap (λ (o : Object). o.life) (knows last (has_owned last old sees.owns)) ∙ sees.life
-        ∙ sym life;
-    was_tail = tail ∙ sees.was_tail;
-    inside = subst (λ (z : Shape). last.0 < z.slots) (sym shape) sees.inside;
-  }
-
-  module _ (last s : SlotId) (sees : SeesTail last old) (knows : KnowsStill old.view.core old new)
-      (r : Refers IsNodePayload d (Field last 0) next_next (NextTells (ends_of d)) s old new) where
-    behind_view : new.view.client
-        ≡ record r.protects.mid.view.client {
-          eyes = record r.protects.mid.view.client.eyes { following = suc s.0; found = 0 };
-        }
-    behind_view = client_found d (Field last 0) old new s rest r
-
-    behind_owned : new.view.core.owned ≡ old.view.core.owned ++ s ∷ []
-    behind_owned = ap (λ (v : CoreView). v.owned) (core_found d (place.Field last 0) old new s r)
-
-    pub sees_behind : SeesBehind last s new
-    sees_behind =
-        let client = r.protects.announces.client in
-        record {
-          tail = tail_on last sees knows
-              (still_owned last s old.view.core.owned new.view.core.owned behind_owned sees.owns)
-              (ap (λ (v : CoreView). v.shape) (core_found d (place.Field last 0) old new s r))
-              (ap (λ (v : View). v.eyes.node) behind_view ∙ ap (λ (v : View). v.eyes.node) client)
-              (ap (λ (v : View). v.eyes.life) behind_view ∙ ap (λ (v : View). v.eyes.life) client)
-              (ap (λ (v : View). v.eyes.was_tail) behind_view
-              ∙ ap (λ (v : View). v.eyes.was_tail) client);
-          owns = owns_pushed s old.view.core.owned new.view.core.owned behind_owned;
-          following = ap (λ (v : View). v.eyes.following) behind_view ∙ omega arith;
-        }
-
-  pub still_tail : (last : SlotId) (found : Option SlotId) → SeesTail last old
-      → KnowsStill old.view.core old new
-      → Loads IsNodePayload d (Field last 0) next_next (NextTells (ends_of d)) found old new
-      → SeesTail last new
-  still_tail last None sees knows null =
-      let client = client_null d (Field last 0) old new null in
-      tail_on last sees knows
-      (subst (λ l. 0 < times last l) (sym (ap (λ (v : CoreView). v.owned) null.becomes.core))
-      sees.owns)
-      (ap (λ (v : CoreView). v.shape) null.becomes.core) (ap (λ (v : View). v.eyes.node) client)
-      (ap (λ (v : View). v.eyes.life) client) (ap (λ (v : View). v.eyes.was_tail) client)
-  still_tail last (Some s) sees knows r = (sees_behind last s sees knows r).tail
-
   -- one that found none saw the last node, if that is the head's
   pub finds_last : (front : SlotId) → SeesHead front old → IsAttached old.view.client
       → FindsNull IsNodePayload d (Field front 0) next_next (NextTells (ends_of d)) old new
@@ -324,63 +234,3 @@ module _ (d : DomainState QueueLaw) (old new : SeatState View) (rest : IsAtRest 
         })
         (inr (0, refl));
   }
-
--- whatever a load of a cell answers, whose number the call knows by another name
-module _ (d : DomainState QueueLaw) (head : Bool)
-    (allows : Plain → Plain → ℕ → View → View → Type 0) (c i : ℕ) (is : i ≡ c)
-    (old new : SeatState View) (rest : IsAtRest d old) (knows : KnowsStill old.view.core old new)
-    (r : Result (Option Handle) LoadError) (same : r ≡ Err unloaded.Spent → new ≡ old)
-    (spent : r ≡ Err unloaded.Spent → IsSpent old.view.core)
-    (loads : IfOk r (λ found.
-    Loads IsNodePayload d (Cell i) (learn_next head) allows (named found) old new))
-    (moved : (seen now : ℕ) → r ≡ Err (unloaded.Moved seen now)
-    → Misses IsNodePayload d 0 (Cell i) (learn_next head) allows (slot_in seen) (slot_in now) old new)
-  where
-    at_cell : IfOk r (λ found.
-        Loads IsNodePayload d (Cell c) (learn_next head) allows (named found) old new)
-        × ((seen now : ℕ) → r ≡ Err (unloaded.Moved seen now)
-        → Misses IsNodePayload d 0 (Cell c) (learn_next head) allows (slot_in seen) (slot_in now)
-        old new)
-    at_cell = subst (λ n. IfOk r (λ found.
-        Loads IsNodePayload d (Cell n) (learn_next head) allows (named found) old new)
-        × ((seen now : ℕ) → r ≡ Err (unloaded.Moved seen now)
-        → Misses IsNodePayload d 0 (Cell n) (learn_next head) allows (slot_in seen) (slot_in now)
-        old new))
-        is (loads, moved)
-
-    pub cell_seen : (sees : SlotId → Type 0)
-        → ((s : SlotId) → Refers IsNodePayload d (Cell c) (learn_next head) allows s old new
-        → sees s)
-        → IfOk r (λ found. IfSome found (λ h. sees h.slot))
-    cell_seen sees follows = found_sees (λ found.
-        Loads IsNodePayload d (Cell c) (learn_next head) allows found old new)
-        sees r follows at_cell.0
-
-    pub cell_sights : (differs : ℕ → ℕ → Type 0)
-        → ((seen now : ℕ) → Missed d (Cell c) (learn_next head) allows seen now → differs seen now)
-        → Sights d (place.Cell c) (learn_next head) allows (learn_notes head) old new rest knows
-        (found_by r)
-        × IfErr r (λ error. IsWhyUnread differs error old)
-    cell_sights differs told = sights d (place.Cell c) (learn_next head) allows (learn_notes head)
-        old new rest knows r same spent at_cell.0 at_cell.1 differs
-        (λ seen now m. told seen now (old, new, m))
-
-    -- where null tells a contradiction, a node was found
-    pub cell_there : (FindsNull IsNodePayload d (Cell c) (learn_next head) allows old new → ⊥)
-        → IfOk r (λ found. named found ≢ None)
-    cell_there none = go r at_cell.0
-      where
-        go : (o : Result (Option Handle) LoadError)
-            → IfOk o (λ found.
-            Loads IsNodePayload d (Cell c) (learn_next head) allows (named found) old new)
-            → IfOk o (λ found. named found ≢ None)
-        go (Ok None) null = λ is. none null
-        go (Ok (Some h)) l = λ is. absurd (cc (is))
-        go (Err e) l = tt
-
--- what the cell of an attached seat tells
-pub not_null : (d : DomainState QueueLaw) (c : ℕ) (head : Bool) (old new : SeatState View)
-    → IsAttached old.view.client
-    → FindsNull IsNodePayload d (Cell c) (learn_next head) (NodeTells c) old new → ⊥
-not_null d c head old new attached null =
-    null.becomes.walks.1.told.happened.fact.2.1 attached.attached (ap word_of null.null)

@@ -34,6 +34,7 @@ pub record IsAttached (v : View) : Type 0 where
 abbrev pub beside_eyes : View → View
 beside_eyes v = record v { eyes = no_eyes }
 
--- all of a view but its notes on single nodes: what the seat pushed and popped, who it is, and how far the queue is laid
+-- all of a view but its notes on single nodes: what the seat pushed and popped, who it is, and how far it has laid the
+-- queue
 abbrev pub deeds_in : View → View
 deeds_in v = record v { eyes = no_eyes; load = no_load; dummy = 0; dummy_life = 0 }

@@ -14,7 +14,7 @@ ghost use Rattle.queue_law.specs.Opening.{lay_head_next, lay_tail_next};
 ghost use Rattle.queue_protocol.specs.Nodes.{IsNodePayload};
 ghost use Rattle.linked_queue.specs.Leaving.{Leaves};
 ghost use Rattle.linked_queue.specs.Nodes.{HasNode, IsHalfLaid, IsWhyUnlaid, IsWhyUnmade, Lays, half_laid_in, laid_in};
-ghost use Rattle.linked_queue.specs.Queues.{CanLay, IsQueueOf, deeds_in};
+ghost use Rattle.linked_queue.specs.Queues.{CanLay, IsAttached, IsQueueOf, deeds_in};
 
 use crate::queue::LinkedQueue;
 use acquire_retire::{Domain, Seat};
@@ -43,6 +43,7 @@ impl LinkedQueue {
         ensures lays { IfOk result (λ queue. Lays domain.now seat.old seat.new) }
         ensures laid { IfOk result (λ queue. deeds_in seat.new.view.client
             ≡ laid_in (deeds_in seat.old.view.client)) }
+        ensures attached { IfOk result (λ queue. IsAttached seat.new.view.client) }
         ensures refused { OnErr result (deeds_in seat.new.view.client
             ≡ deeds_in seat.old.view.client) }
         ensures why { IfErr result (λ error. IsWhyUnlaid domain.now error seat.old seat.new) }

@@ -2,7 +2,8 @@
 //!
 //! The seat holds what it walks over: a reference to the node in the head cell, then one to the next node, then one to
 //! that one's item. It gives them up in the opposite order, but for the item.
-ghost use Rattle.std.specs.Prelude.{◌≡◌, ◌<◌, IfErr, IfOk, OnErr};
+ghost use Rattle.std.specs.Prelude.{◌≡◌, ◌<◌, IfErr, IfOk, IfSome};
+ghost use Rattle.plain_state.specs.Lists.{times};
 ghost use Rattle.core_events.specs.Steps.{HasRoom};
 ghost use Rattle.atomic_shared.specs.Places.{named};
 ghost use Rattle.control_word.specs.Resting.{IsAtRest};
@@ -38,18 +39,42 @@ impl LinkedQueue {
         ensures events { IfOk result (λ found. PopsAtHead domain.now (named found)
             seat.old seat.new) }
         ensures popped { Pops (found_by result) seat.old seat.new }
+        ensures owned { IfOk result (λ found. IfSome found (λ item.
+            0 < times item.slot seat.new.view.core.owned)) }
         ensures why { IfErr result (λ error. IsWhyUnpopped domain.now 3 error seat.old) }
+        ensures attached { IsAttached seat.new.view.client }
         ensures room { HasRoom seat.new.view.core }
         ensures rest { IsAtRest domain.now seat.new }
     {
-        let front = match see_head(domain, seat, self.head) {
-            Ok(front) => front,
-            Err(error) => return Err(refusal_of(error)),
-        };
-        let popped = pop_behind(domain, seat, self.head, front.slot());
-        drop_strong(domain, seat, front);
-        popped
+        pop_first(domain, seat, self.head)
     }
+}
+
+/// The same, of the queue whose head cell this is.
+fn pop_first(
+    domain: &Domain<QueueLaw>,
+    seat: &mut Seat<QueueLaw>,
+    head: u32,
+) -> Result<Option<Strong>, PopError>
+    requires rest { IsAtRest domain.now seat.old }
+    requires room { HasRoom seat.old.view.core }
+    requires head { head ≡ domain.now.protocol.head }
+    requires there { head < domain.now.shape.cells }
+    requires attached { IsAttached seat.old.view.client }
+    ensures events { IfOk result (λ found. PopsAtHead domain.now (named found)
+        seat.old seat.new) }
+    ensures popped { Pops (found_by result) seat.old seat.new }
+    ensures why { IfErr result (λ error. IsWhyUnpopped domain.now 3 error seat.old) }
+    ensures room { HasRoom seat.new.view.core }
+    ensures rest { IsAtRest domain.now seat.new }
+{
+    let front = match see_head(domain, seat, head) {
+        Ok(front) => front,
+        Err(error) => return Err(refusal_of(error)),
+    };
+    let popped = pop_behind(domain, seat, head, front.slot());
+    drop_strong(domain, seat, front);
+    popped
 }
 
 /// The refusal of a pop whose load was refused.

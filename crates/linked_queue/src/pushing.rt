@@ -30,8 +30,8 @@ use slot_store::MakeError;
 
 impl LinkedQueue {
     /// Appends an item to the queue, in one try, and gives the seat's reference to it. `Again` where another seat was
-    /// quicker, and `Refused` with the causes of `make`, where `AddsSpent` is told too by a later increment of the call:
-    /// at most five adds were left. Then nothing is pushed, and the item is handed back; a node that was made is given
+    /// quicker, and `Refused` with the causes of `make`; `AddsSpent` may come of a later increment of the call, and at
+    /// most five adds were left. Then nothing is pushed, and the item is handed back; a node that was made is given
     /// up. At most 50 steps more than there are slots, and four collects.
     pub fn try_push(
         &self,
@@ -49,24 +49,47 @@ impl LinkedQueue {
         ensures refused { OnErr result (PushesNothing seat.old seat.new) }
         ensures back { IfErr result (λ error. back_of error ≡ item) }
         ensures why { IfErr result (λ error. IsWhyUnpushed domain.now error seat.old) }
+        ensures attached { IsAttached seat.new.view.client }
         ensures room { HasRoom seat.new.view.core }
         ensures rest { IsAtRest domain.now seat.new }
     {
-        match push_copy(domain, seat, self.tail, &item) {
-            Ok(()) => {
-                drop_strong(domain, seat, item);
-                Ok(())
-            }
-            Err(NotPushed::Again { seen, now }) => Err(PushError::Again {
-                seen,
-                now,
-                back: item,
-            }),
-            Err(NotPushed::Refused(why)) => Err(PushError::Refused(PushRefused {
-                why,
-                back: item,
-            })),
+        push_item(domain, seat, self.tail, item)
+    }
+}
+
+/// Appends an item to the queue whose tail cell this is.
+fn push_item(
+    domain: &Domain<QueueLaw>,
+    seat: &mut Seat<QueueLaw>,
+    tail: u32,
+    item: Strong,
+) -> Result<(), PushError>
+    requires rest { IsAtRest domain.now seat.old }
+    requires room { HasRoom seat.old.view.core }
+    requires queue { domain.now.protocol.form ≡ Linked }
+    requires tail { tail ≡ domain.now.protocol.tail }
+    requires there { tail < domain.now.shape.cells }
+    requires attached { IsAttached seat.old.view.client }
+    requires item { 0 < times item.slot seat.old.view.core.owned }
+    ensures events { IfOk result (λ done. PushesBy domain.now item.slot seat.old seat.new) }
+    ensures pushed { IfOk result (λ done. Pushes item.slot seat.old seat.new) }
+    ensures refused { OnErr result (PushesNothing seat.old seat.new) }
+    ensures back { IfErr result (λ error. back_of error ≡ item) }
+    ensures why { IfErr result (λ error. IsWhyUnpushed domain.now error seat.old) }
+    ensures room { HasRoom seat.new.view.core }
+    ensures rest { IsAtRest domain.now seat.new }
+{
+    match push_copy(domain, seat, tail, &item) {
+        Ok(()) => {
+            drop_strong(domain, seat, item);
+            Ok(())
         }
+        Err(NotPushed::Again { seen, now }) => Err(PushError::Again {
+            seen,
+            now,
+            back: item,
+        }),
+        Err(NotPushed::Refused(why)) => Err(PushError::Refused(PushRefused { why, back: item })),
     }
 }
 

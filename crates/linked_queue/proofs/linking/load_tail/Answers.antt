@@ -2,7 +2,8 @@ use Rattle.std.proofs.Common.{inl, false}
 use Rattle.linked_queue.specs.Cells.{TailTells}
 use Rattle.linked_queue.specs.Queues.{ends_of}
 use Rattle.linked_queue.specs.Pushes.{PushDiffers, SeesTail}
-use Rattle.linked_queue.proofs.Nodes.{cell_seen, cell_sights, cell_there, not_null, sees_tail}
+use Rattle.linked_queue.proofs.CellLoads.{cell_seen, cell_sights, cell_there, not_null}
+use Rattle.linked_queue.proofs.Nodes.{sees_tail}
 use Rattle.linked_queue.proofs.linking.load_tail.Goals as goal
 
 pub returns-clause-sees : goal.returns-clause-sees

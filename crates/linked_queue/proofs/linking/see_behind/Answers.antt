@@ -8,7 +8,8 @@ use Rattle.queue_law.specs.Lessons.{NextTells, next_next}
 use Rattle.queue_protocol.specs.Nodes.{IsNodePayload}
 use Rattle.linked_queue.specs.Queues.{ends_of}
 use Rattle.linked_queue.specs.Pushes.{PushDiffers, SeesBehind, SeesTail}
-use Rattle.linked_queue.proofs.Nodes.{found_sees, sees_behind, still_tail}
+use Rattle.linked_queue.proofs.CellLoads.{found_sees}
+use Rattle.linked_queue.proofs.EndNodes.{sees_behind, still_tail}
 use Rattle.linked_queue.proofs.Sights.{sights}
 use Rattle.linked_queue.proofs.linking.see_behind.Goals as goal
 

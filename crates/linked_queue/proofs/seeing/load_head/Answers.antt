@@ -2,7 +2,8 @@ use Rattle.std.proofs.Common.{inl, true}
 use Rattle.linked_queue.specs.Cells.{HeadTells}
 use Rattle.linked_queue.specs.Queues.{ends_of}
 use Rattle.linked_queue.specs.Seeing.{Differs, SeesHead}
-use Rattle.linked_queue.proofs.Nodes.{cell_seen, cell_sights, cell_there, not_null, sees_head}
+use Rattle.linked_queue.proofs.CellLoads.{cell_seen, cell_sights, cell_there, not_null}
+use Rattle.linked_queue.proofs.Nodes.{sees_head}
 use Rattle.linked_queue.proofs.seeing.load_head.Goals as goal
 
 pub returns-clause-sees : goal.returns-clause-sees

@@ -6,7 +6,8 @@ use Rattle.queue_law.specs.Lessons.{ItemTells, item_next}
 use Rattle.queue_protocol.specs.Nodes.{IsNodePayload}
 use Rattle.linked_queue.specs.Queues.{ends_of}
 use Rattle.linked_queue.specs.Seeing.{Differs, SeesItem}
-use Rattle.linked_queue.proofs.Nodes.{found_sees, item_ready, sees_item}
+use Rattle.linked_queue.proofs.CellLoads.{found_sees}
+use Rattle.linked_queue.proofs.Nodes.{item_ready, sees_item}
 use Rattle.linked_queue.proofs.Sights.{sights}
 use Rattle.linked_queue.proofs.seeing.see_item.Goals as goal
 

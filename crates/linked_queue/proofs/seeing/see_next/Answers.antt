@@ -6,7 +6,8 @@ use Rattle.queue_law.specs.Lessons.{NextTells, next_next}
 use Rattle.queue_protocol.specs.Nodes.{IsNodePayload}
 use Rattle.linked_queue.specs.Queues.{ends_of}
 use Rattle.linked_queue.specs.Seeing.{Differs, FindsLast, SeesNext}
-use Rattle.linked_queue.proofs.Nodes.{finds_last, found_none, found_sees, sees_next}
+use Rattle.linked_queue.proofs.CellLoads.{found_none, found_sees}
+use Rattle.linked_queue.proofs.Nodes.{finds_last, sees_next}
 use Rattle.linked_queue.proofs.Sights.{sights}
 use Rattle.linked_queue.proofs.seeing.see_next.Goals as goal
 
