@@ -8,3 +8,4 @@ pub mod Seeing
 pub mod Pops
 pub mod Pushes
 pub mod NotPushed
+pub mod Shuts

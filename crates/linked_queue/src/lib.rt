@@ -7,13 +7,14 @@
 //!
 //! A push and a pop are one try each: where another seat has been quicker they are refused, and tell by which place
 //! that shows. They count references to the nodes that they walk over, so no slot is given again under them. No step is
-//! promised to come, and none tries again by itself. Nothing here shuts a queue.
+//! promised to come, and none tries again by itself.
 //!
 //! ```text
 //! let queue = LinkedQueue::lay(&domain, &mut root, 0, 1)?;     // over strong cells 0 and 1, by seat 0
 //! queue.try_attach(&domain, &mut seat);                        // true: this seat may push and pop
 //! queue.try_push(&domain, &mut seat, item)?;                   // or Again, Refused, with the item back
 //! let Some(item) = queue.try_pop(&domain, &mut seat)? else { .. };     // nothing was linked; or Again, Spent
+//! queue.shut(&domain, &mut root);                              // once every other seat has left
 //! ```
 #![tactic(auto)]
 
@@ -26,6 +27,7 @@ mod popping;
 mod pushing;
 mod queue;
 mod seeing;
+mod shutting;
 mod taking;
 #[cfg(test)]
 mod tests;

@@ -3,6 +3,7 @@ ghost use Rattle.std.specs.Prelude.{◌^◌, ◌<◌, ◌≤◌, ◌≡◌, true
 ghost use Rattle.plain_state.specs.Lists.{times};
 ghost use Rattle.core_events.specs.Steps.{HasRoom};
 ghost use Rattle.control_word.specs.Resting.{IsAtRest};
+ghost use Rattle.domain_rule.specs.Views.{IsAlone};
 ghost use Rattle.linked_queue.specs.Queues.{CanLay, IsAttached, IsQueueOf};
 
 use crate::laying::make_node;
@@ -25,6 +26,7 @@ fn open_alone(rt: &HostRuntime, adds: u64) -> Result<(Domain<QueueLaw>, Seat<Que
     ensures rest { IfOk result (λ r. IsAtRest r.0 r.1 × HasRoom r.1.view.core) }
     ensures queue { IfOk result (λ r. IsQueueOf 0 1 r.0) }
     ensures unlaid { IfOk result (λ r. CanLay r.1.view.client) }
+    ensures alone { IfOk result (λ r. IsAlone r.1.view) }
 {
     let quota = Quota { makes: 8, adds };
     let (domain, mut seats) = open_domain(rt.alloc(), SHAPE, &[quota], QueueLaw::linked(0, 1))?;
@@ -147,5 +149,17 @@ fn a_second_seat_pops_what_the_first_pushed(rt: HostRuntime) -> Result<(), Fail>
     let Ok(None) = queue.try_pop(&domain, &mut seat) else {
         panic!(rt; "an empty queue")
     };
+    Ok(())
+}
+
+#[test]
+fn nobody_attaches_to_a_queue_that_was_shut(rt: HostRuntime) -> Result<(), Fail> {
+    let (domain, mut seat) = open_alone(&rt, 40)?;
+    let Ok(queue) = LinkedQueue::lay(&domain, &mut seat, 0, 1) else {
+        panic!(rt; "a queue")
+    };
+    assert!(rt; queue.try_attach(&domain, &mut seat));
+    queue.shut(&domain, &mut seat);
+    assert!(rt; !queue.try_attach(&domain, &mut seat));
     Ok(())
 }
