@@ -1,0 +1,45 @@
+-- A seat that pushes or pops stays attached, and owns what it popped.
+use Rattle.std.proofs.Common.{◌<◌, ap, ◌∙◌, arith}
+use Rattle.std.specs.Prelude.{Err, IfOk, IfSome, Ok, OnErr, Option, Result, Some, None}
+use Rattle.plain_state.specs.declared.slot.SlotId.{SlotId}
+use Rattle.plain_state.specs.Lists.{times}
+use Rattle.counted_handles.specs.Handles.{Handle}
+use Rattle.acquire_retire.specs.Seats.{SeatState}
+use Rattle.queue_law.specs.declared.view.View.{View}
+use Rattle.linked_queue.specs.Leaving.{found_by}
+use Rattle.linked_queue.specs.Pops.{Pops}
+use Rattle.linked_queue.specs.Pushes.{Pushes, PushesNothing}
+use Rattle.linked_queue.specs.Queues.{IsAttached}
+use Rattle.linked_queue.proofs.Poppings.{some_found}
+
+pub pops_attached : (found : Option SlotId) (old new : SeatState View) → Pops found old new
+    → IsAttached old.view.client → IsAttached new.view.client
+pops_attached None old new pops attached = record {
+  here = ap (λ (v : View). v.here) pops.deeds ∙ attached.here;
+  attached = ap (λ (v : View). v.attached) pops.deeds ∙ attached.attached;
+}
+pops_attached (Some s) old new pops attached = record {
+  here = ap (λ (v : View). v.here) pops.deeds ∙ attached.here;
+  attached = ap (λ (v : View). v.attached) pops.deeds ∙ attached.attached;
+}
+
+pub pops_owned : {E : Type 0} (r : Result (Option Handle) E) (old new : SeatState View)
+    → Pops (found_by r) old new
+    → IfOk r (λ found. IfSome found (λ item. 0 < times item.slot new.view.core.owned))
+pops_owned (Ok None) old new pops = tt
+pops_owned (Ok (Some item)) old new pops =
+    let is = pops.leaves.owns item.slot in
+    let some' = some_found item.slot old.view.core.owned in omega arith
+pops_owned (Err e) old new pops = tt
+
+pub push_attached : {T E : Type 0} (item : SlotId) (r : Result T E) (old new : SeatState View)
+    → IfOk r (λ done. Pushes item old new) → OnErr r (PushesNothing old new)
+    → IsAttached old.view.client → IsAttached new.view.client
+push_attached item (Ok x) old new pushed nothing attached = record {
+  here = ap (λ (v : View). v.here) pushed.deeds ∙ attached.here;
+  attached = ap (λ (v : View). v.attached) pushed.deeds ∙ attached.attached;
+}
+push_attached item (Err e) old new pushed nothing attached = record {
+  here = ap (λ (v : View). v.here) nothing.deeds ∙ attached.here;
+  attached = ap (λ (v : View). v.attached) nothing.deeds ∙ attached.attached;
+}

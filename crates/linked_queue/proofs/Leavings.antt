@@ -1,0 +1,117 @@
+-- What single calls leave of a seat: those that gain, give up or keep a strong reference.
+use Rattle.std.proofs.Common.{◌≡◌, ℕ, Bool, true, false, List, [], ◌∷◌, ◌++◌, refl, ap, sym, ◌∙◌, subst, arith}
+use Rattle.std.specs.Prelude.{Err, IfErr, IfOk, Ok, Option, Result, Some, None}
+use Rattle.plain_state.specs.declared.act.EventPlace.{EventPlace}
+use Rattle.plain_state.specs.declared.act.PlainAct.{PlainAct}
+use Rattle.plain_state.specs.declared.slot.Kind.TheVariants.{Strong}
+use Rattle.plain_state.specs.declared.slot.SlotId.{SlotId}
+use Rattle.plain_state.specs.Lists.{times}
+use Rattle.plain_state.specs.Places.{place_kind}
+use Rattle.plain_state.specs.State.{Plain}
+use Rattle.plain_protocol.specs.Owns.{OwnPart}
+use Rattle.core_events.specs.declared.view.CoreView.{CoreView}
+use Rattle.core_events.specs.declared.view.Move.{Move}
+use Rattle.core_events.specs.Steps.{without_given}
+use Rattle.core_events.specs.Views.{Holds, without}
+use Rattle.acquire_retire.specs.Collecting.{ends, rest_of}
+use Rattle.acquire_retire.specs.Domains.{DomainState}
+use Rattle.acquire_retire.specs.Seats.{SeatState}
+use Rattle.control_word.specs.Calls.{DropsStrong, GainsStrong, with_ended, with_strong, without_strong}
+use Rattle.control_word.specs.Moves.{KnowsStill}
+use Rattle.protected_loads.proofs.Telling.{holds_has}
+use Rattle.retiring_stores.specs.Exchanging.{Exchanges}
+use Rattle.linked_queue.specs.Leaving.{Leaves, aside}
+use Rattle.linked_queue.proofs.Owning.{holds_more}
+
+-- what follows for what two clauses say of each value follows for that of a result
+pub then_ok_both : {T E : Type 0} (P Q R : T → Type 0) (r : Result T E)
+    → ((x : T) → P x → Q x → R x) → IfOk r P → IfOk r Q → IfOk r R
+then_ok_both P Q R (Ok x) follows p q = follows x p q
+then_ok_both P Q R (Err e) follows p q = tt
+
+-- what follows for each error follows for that of a result
+pub then_err : {T E : Type 0} (P Q : E → Type 0) (r : Result T E) → ((e : E) → P e → Q e)
+    → IfErr r P → IfErr r Q
+then_err P Q (Ok x) follows p = tt
+then_err P Q (Err e) follows p = follows e p
+
+module _ {V : Type 0} (old new : SeatState V) where
+  -- the seat has come to have v, but for its trail, and knows what it knew by `kept`
+  pub leaves_as : (v kept : CoreView) (ms : List Move) → new.view.core ≡ record v { trail = ms }
+      → aside v ≡ aside old.view.core → KnowsStill kept old new
+      → ((x : SlotId) → Holds old.view.core x → Holds v x → Holds kept x) → Leaves v.owned old new
+  leaves_as v kept ms core same knows holds = record {
+    owns = λ x. ap (λ (u : CoreView). times x u.owned) core;
+    same = ap aside core ∙ same;
+    knows = λ x was is.
+        knows x (holds_has kept x (holds x was (subst (λ (u : CoreView). Holds u x) core is)));
+  }
+
+  -- only its trail has grown
+  pub leaves_all : (ms : List Move) → new.view.core ≡ record old.view.core { trail = ms }
+      → KnowsStill old.view.core old new → Leaves old.view.core.owned old new
+  leaves_all ms core knows =
+      leaves_as old.view.core old.view.core ms core refl knows (λ x was is. was)
+
+  pub leaves_same : new ≡ old → Leaves old.view.core.owned old new
+  leaves_same is = subst (λ (z : SeatState V). Leaves old.view.core.owned old z) (sym is)
+      (record { owns = λ x. refl; same = refl; knows = λ x was is. refl })
+
+ended_same : (b : Bool) (s : SlotId) (v : CoreView)
+    → ((with_ended b s v).owned ≡ v.owned) × (aside (with_ended b s v) ≡ aside v)
+ended_same true s v = (refl, refl)
+ended_same false s v = (refl, refl)
+
+module _ {P V : Type 0} {fits : List ℕ → Type 0} {d : DomainState P}
+    {next : OwnPart → OwnPart → V → PlainAct → ℕ → V}
+    {allows : Plain → Plain → ℕ → V → V → Type 0} (s : SlotId) (old new : SeatState V) where
+  pub copy_leaves : GainsStrong fits d next allows s old new → KnowsStill old.view.core old new
+      → Leaves (old.view.core.owned ++ s ∷ []) old new
+  copy_leaves gains knows =
+      leaves_as old new (with_strong s old.view.core) old.view.core _ gains.core refl knows
+      (λ x was is. was)
+
+module _ {P V : Type 0} {fits : List ℕ → Type 0} {d : DomainState P} (s : SlotId)
+    (old new : SeatState V) where
+  pub drop_leaves : DropsStrong fits d s old new
+      → KnowsStill (without_strong s old.view.core) old new
+      → Leaves (without s old.view.core.owned) old new
+  drop_leaves drops knows =
+      let v = without_strong s old.view.core in
+      let ended = ended_same (ends drops.0) s v in
+      record {
+        owns = λ x. ap (λ (u : CoreView). times x u.owned) drops.1.core ∙ ap (times x) ended.0;
+        same = ap aside drops.1.core ∙ ended.1;
+        knows = λ x was is.
+            let owned = ap (λ (u : CoreView). times x u.owned) drops.1.core ∙ ap (times x) ended.0 in
+            knows x (holds_has v x (holds_more x new.view.core v
+            (ap aside drops.1.core ∙ ended.1) (omega arith) is));
+      }
+
+module _ {P V : Type 0} {fits : List ℕ → Type 0} {d : DomainState P}
+    {next : OwnPart → OwnPart → V → PlainAct → ℕ → V}
+    {allows : Plain → Plain → ℕ → V → V → Type 0} (place : EventPlace) (m : Move)
+    (given held : Option SlotId) (old new : SeatState V) where
+  -- what an exchange leaves that was lost or won: the seat has given what it gave
+  pub exchange_leaves : place_kind place ≡ Strong
+      → Exchanges fits d next allows place m given held old new
+      → KnowsStill (without_given Strong given old.view.core) old new
+      → Leaves (without_given Strong given old.view.core).owned old new
+  exchange_leaves kind puts knows =
+      let v = without_given Strong given old.view.core in
+      let rest : rest_of new.view.core ≡ rest_of v =
+      puts.same ∙ ap (λ k. rest_of (without_given k given old.view.core)) kind in
+      let same : aside new.view.core ≡ aside v =
+      ap (λ (u : CoreView). record u { owned = []; made = []; adds = 0; makes = 0 }) rest in
+      record {
+        owns = λ x. ap (λ (u : CoreView). times x u.owned) rest;
+        same = same ∙ given_aside given old.view.core;
+        knows = λ x was is.
+            let owned = ap (λ (u : CoreView). times x u.owned) rest in
+            knows x (holds_has v x (holds_more x new.view.core v same (omega arith) is));
+      }
+    where
+      given_aside : (o : Option SlotId) (v : CoreView)
+          → aside (without_given Strong o v) ≡ aside v
+      given_aside None v = refl
+      given_aside (Some x) v = refl

@@ -1,0 +1,15 @@
+pub mod Owning
+pub mod Leavings
+pub mod Looks
+pub mod NewNodes
+pub mod LaidQueues
+pub mod Sights
+pub mod CellLoads
+pub mod Nodes
+pub mod EndNodes
+pub mod Takings
+pub mod Poppings
+pub mod Carryings
+pub mod Linkings
+pub mod Pushings
+pub mod Attached

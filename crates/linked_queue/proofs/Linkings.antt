@@ -1,0 +1,266 @@
+-- The exchanges at the end of a queue: what their deeds ask, and what they leave.
+use Rattle.std.proofs.Common.{◌≡◌, ℕ, ◌-◌, ◌<◌, Bool, true, false, [], ◌∷◌, ◌++◌, refl, ap, sym, ◌∙◌, subst, arith, ◌+◌, ◌≤◌}
+use Rattle.std.specs.Prelude.{◌==◌, Option, Some, None, cond}
+use Rattle.plain_state.specs.declared.act.EventPlace.{EventPlace}
+use Rattle.plain_state.specs.declared.act.EventPlace.TheVariants.{Field}
+use Rattle.plain_state.specs.declared.act.PlainAct.TheVariants as plain
+use Rattle.plain_state.specs.declared.slot.SlotId.{SlotId}
+use Rattle.plain_state.specs.Lists.{times}
+use Rattle.plain_protocol.specs.Owns.{Object, OwnPart}
+use Rattle.plain_state.specs.declared.act.PlainAct.{PlainAct}
+use Rattle.core_events.specs.declared.act.Act.TheVariants as act
+use Rattle.core_events.specs.declared.outcome.Outcome.TheVariants as outcome
+use Rattle.core_events.specs.declared.shape.Shape.{Shape}
+use Rattle.core_events.specs.declared.view.CoreView.{CoreView}
+use Rattle.core_events.specs.Views.{without}
+use Rattle.core_events.specs.Words.{slot_in}
+use Rattle.core_invariant.proofs.Kit.{times_without}
+use Rattle.core_shows.proofs.ShownPlaces.{slot_word}
+use Rattle.counted_handles.specs.declared.refusal.LoadError.{LoadError}
+use Rattle.counted_handles.specs.declared.refusal.LoadError.TheVariants as unloaded
+use Rattle.domain_rule.specs.Views.{object_in, own_of}
+use Rattle.acquire_retire.specs.Calls.{IsReady, IsSameView, same_view}
+use Rattle.acquire_retire.specs.Domains.{DomainState}
+use Rattle.acquire_retire.specs.Seats.{SeatState}
+use Rattle.acquire_retire.specs.Collecting.{ends}
+use Rattle.control_word.specs.Calls.{DropsStrong, GainsStrong, with_ended, without_strong}
+use Rattle.control_word.specs.Moves.{KnowsStill}
+use Rattle.retiring_stores.specs.Exchanging.{Loses, LosesTo, Replaces}
+use Rattle.queue_law.specs.declared.view.Form.TheVariants.{Linked}
+use Rattle.queue_law.specs.declared.view.View.{View}
+use Rattle.queue_law.specs.Lessons.{TellsNothing}
+use Rattle.queue_law.specs.Pushes.{LinkReady, link_next, linked_view}
+use Rattle.queue_law.specs.Views.{sees_node}
+use Rattle.queue_law.specs.Words.{life_in}
+use Rattle.queue_protocol.specs.declared.law.QueueLaw.{QueueLaw}
+use Rattle.queue_protocol.specs.Nodes.{IsNodePayload}
+use Rattle.linked_queue.specs.Leaving.{Leaves}
+use Rattle.linked_queue.specs.Pushes.{HasLoad, IsWhyUnlinked, LostLink, SeesBehind, SeesTail, advanced_in}
+use Rattle.linked_queue.specs.Queues.{IsAttached, ends_of}
+use Rattle.linked_queue.proofs.Leavings.{copy_leaves, drop_leaves, leaves_all, leaves_same}
+use Rattle.linked_queue.proofs.Owning.{has_owned, holds_more, own_life, own_payload, still_owned, through}
+use Rattle.linked_queue.proofs.Takings.{is_done}
+
+-- an exchange that was lost leaves what the seat has
+pub lost_keeps : (d : DomainState QueueLaw) {next : OwnPart → OwnPart → View → PlainAct → ℕ → View}
+    (place : EventPlace) (given expected : Option SlotId) (now : ℕ) (old new : SeatState View)
+    → LosesTo IsNodePayload d next TellsNothing place given expected now old new
+    → Leaves old.view.core.owned old new
+lost_keeps d place given expected now old new loses =
+    let by = loses.loses.becomes in
+    leaves_all old new _ by.core
+    (λ s has. ap (λ (z : SeatState View). object_in z.view s) by.walks.2
+    ∙ by.walks.1.told.objects s has)
+
+-- nothing, and then one reference fewer
+pub then_gives : (n : SlotId) (a b c : SeatState View) → 0 < times n a.view.core.owned
+    → Leaves a.view.core.owned a b → Leaves (without n b.view.core.owned) b c
+    → Leaves (without n a.view.core.owned) a c
+then_gives n a b c some' first more = record {
+  owns = λ x.
+      let e = more.owns x in
+      let f = first.owns x in
+      let g = first.owns n in
+      let left = times_without x n a.view.core.owned some' in
+      let still = times_without x n b.view.core.owned (omega arith) in omega arith;
+  same = more.same ∙ first.same;
+  knows = λ x was is.
+      let f = first.owns x in
+      let mid = holds_more x a.view.core b.view.core (sym first.same) (omega arith) was in
+      more.knows x mid is ∙ first.knows x was mid;
+}
+
+-- ADVANCE
+module _ (d : DomainState QueueLaw) (last next : SlotId) (old : SeatState View)
+    (sees : SeesBehind last next old) where
+  -- the view is told that the tail cell has held the next node
+  pub advanced : (new : SeatState View)
+      → new.view.client
+      ≡ record old.view.client {
+        eyes = record (sees_node old.view.client.eyes.following
+            (life_in (own_of old.view) (old.view.client.eyes.following - 1))) {
+              was_tail = true;
+            };
+      }
+      → new.view.client ≡ advanced_in next old old.view.client
+  advanced new is =
+      let follows = sees.following in
+      let at : old.view.client.eyes.following - 1 ≡ next.0 = omega arith in
+      let life = ap (life_in (own_of old.view)) at
+      ∙ own_life next old (has_owned next old sees.owns) in
+      is ∙ λ i. record old.view.client {
+        eyes = record (sees_node (follows i) (life i)) { was_tail = true };
+      }
+
+  pub advanced_tail : (new : SeatState View) → new.view.client ≡ advanced_in next old old.view.client
+      → 0 < times next new.view.core.owned → object_in new.view next ≡ object_in old.view next
+      → next.0 < new.view.core.shape.slots → SeesTail next new
+  advanced_tail new is owns object inside = record {
+    owns = owns;
+    node = ap (λ (v : View). v.eyes.node) is;
+    life = ap (λ (o : Object). o.life) object ∙ sym (ap (λ (v : View). v.eyes.life) is);
+    was_tail = ap (λ (v : View). v.eyes.was_tail) is;
+    inside = inside;
+  }
+
+-- what is seen behind a node of the tail cell is seen still
+pub behind_still : (last next : SlotId) (old new : SeatState View) → SeesBehind last next old
+    → ((x : SlotId) → 0 < times x old.view.core.owned → 0 < times x new.view.core.owned)
+    → ((x : SlotId) → 0 < times x old.view.core.owned → object_in new.view x ≡ object_in old.view x)
+    → new.view.core.shape ≡ old.view.core.shape → new.view.client ≡ old.view.client
+    → SeesBehind last next new
+behind_still last next old new sees owns knows shape client = record {
+  tail = record {
+    owns = owns last sees.tail.owns;
+    node = ap (λ (v : View). v.eyes.node) client ∙ sees.tail.node;
+    life = ap (λ (o : Object). o.life) (knows last sees.tail.owns) ∙ sees.tail.life
+        ∙ sym (ap (λ (v : View). v.eyes.life) client);
+    was_tail = ap (λ (v : View). v.eyes.was_tail) client ∙ sees.tail.was_tail;
+    inside = subst (λ (z : Shape). last.0 < z.slots) (sym shape) sees.tail.inside;
+  };
+  owns = owns next sees.owns;
+  following = ap (λ (v : View). v.eyes.following) client ∙ sees.following;
+}
+
+-- LINK
+module _ (d : DomainState QueueLaw) (last node : SlotId) (old copied : SeatState View)
+    (tail : SeesTail last old) (load : HasLoad node old)
+    (copies : GainsStrong IsNodePayload d same_view IsSameView node old copied)
+    (client : copied.view.client ≡ old.view.client)
+    (knows : KnowsStill old.view.core old copied) where
+  owned : copied.view.core.owned ≡ old.view.core.owned ++ node ∷ []
+  owned = ap (λ (v : CoreView). v.owned) copies.core
+
+  pub more : (x : SlotId) → 0 < times x old.view.core.owned → 0 < times x copied.view.core.owned
+  more x = still_owned x node old.view.core.owned copied.view.core.owned owned
+
+  life_of : (x : SlotId) → 0 < times x old.view.core.owned
+      → life_in (own_of copied.view) x.0 ≡ (object_in old.view x).life
+  life_of x owns = own_life x copied (has_owned x copied (more x owns))
+      ∙ ap (λ (o : Object). o.life) (knows x (has_owned x old owns))
+
+  pub link_ready : (given : SlotId) → given ≡ node → d.protocol.form ≡ Linked
+      → IsAttached old.view.client
+      → IsReady (LinkReady (ends_of d)) d.shape (act.Cas (Field last 0) None (Some given)) copied.view
+  link_ready given same form attached w =
+      let carried = load.carried in
+      record {
+        last = last.0;
+        node = node.0;
+        act_is = ap (λ s. plain.TryReplace (Field last 0) None (Some s)) same;
+        form = form;
+        push = record {
+          item = old.view.client.load.item - 1;
+          fresh = ap (λ (v : View). v.load.node) client ∙ load.node;
+          fresh_life = life_of node load.owns ∙ load.life
+              ∙ sym (ap (λ (v : View). v.load.life) client);
+          is_node = own_payload node copied (has_owned node copied (more node load.owns))
+              ∙ ap (λ (o : Object). o.payload) (knows node (has_owned node old load.owns))
+              ∙ load.is_node;
+          carried = ap (λ (v : View). v.load.item) client ∙ omega arith;
+          here = ap (λ (v : View). v.here) client ∙ attached.here;
+          attached = ap (λ (v : View). v.attached) client ∙ attached.attached;
+        };
+        seen = ap (λ (v : View). v.eyes.node) client ∙ tail.node;
+        seen_life = life_of last tail.owns ∙ tail.life
+            ∙ sym (ap (λ (v : View). v.eyes.life) client);
+        was_tail = ap (λ (v : View). v.eyes.was_tail) client ∙ tail.was_tail;
+      }
+
+  -- where it was won
+  module _ (new : SeatState View) (still : Leaves (without node copied.view.core.owned) copied new)
+    where
+      pub link_leaves : Leaves old.view.core.owned old new
+      link_leaves = through node None old copied copied new
+          (copy_leaves node old copied copies knows) (leaves_same copied copied refl) still
+
+      pub linked_client :
+          Replaces IsNodePayload d link_next TellsNothing (Field last 0) (Some node) None copied new
+          → new.view.client ≡ linked_view old.view.client
+      linked_client replaces =
+          let step = replaces.puts.step in
+          let v = copied.view.client in
+          let done = is_done step.word 0 outcome.Done (step.word == 0) refl step.answers in
+          replaces.client ∙ step.told.client ∙ ap (λ b. cond b (linked_view v) v) done
+          ∙ ap linked_view client
+
+      pub linked_behind : new.view.client ≡ linked_view old.view.client → SeesBehind last node new
+      linked_behind is =
+          let at_last = link_leaves.owns last in
+          let at_node = link_leaves.owns node in
+          let some_last = tail.owns in
+          let some_node = load.owns in
+          let shape = ap (λ (v : CoreView). v.shape) link_leaves.same in
+          record {
+            tail = record {
+              owns = omega arith;
+              node = ap (λ (v : View). v.eyes.node) is ∙ tail.node;
+              life =
+                  ap (λ (o : Object). o.life) (link_leaves.knows last (omega arith) (omega arith))
+                  ∙ tail.life ∙ sym (ap (λ (v : View). v.eyes.life) is);
+              was_tail = ap (λ (v : View). v.eyes.was_tail) is;
+              inside = subst (λ (z : Shape). last.0 < z.slots) (sym shape) tail.inside;
+            };
+            owns = omega arith;
+            following = ap (λ (v : View). v.eyes.following) is ∙ load.node;
+          }
+
+  -- and where it was lost
+  module _ (lost' new : SeatState View) (now : ℕ)
+      (loses : LosesTo IsNodePayload d link_next TellsNothing (Field last 0) (Some node) None now
+      copied lost') where
+    pub unlinked : DropsStrong IsNodePayload d node lost' new
+        → KnowsStill (without_strong node lost'.view.core) lost' new
+        → Leaves old.view.core.owned old new
+    unlinked drops still = through node None old copied lost' new
+        (copy_leaves node old copied copies knows)
+        (lost_keeps d (Field last 0) (Some node) None now copied lost' loses)
+        (drop_leaves node lost' new drops still)
+
+    pub lost_link : (seen : ℕ) → seen ≡ 0 → LostLink d seen now
+    lost_link seen is = (
+      last,
+      Some node,
+      copied,
+      lost',
+      subst (λ (e : Option SlotId × Option SlotId).
+          Loses IsNodePayload d link_next TellsNothing (Field last 0) (Some node) e.0 e.1 copied
+          lost')
+          (λ i. (
+            sym (ap slot_in is ∙ slot_word None) i,
+            sym (ap slot_in loses.word ∙ slot_word loses.found) i,
+          ))
+          loses.loses,
+    )
+
+-- a reference that is given up costs no add
+with_ended_adds : (b : Bool) (s : SlotId) (v : CoreView) → (with_ended b s v).adds ≡ v.adds
+with_ended_adds true s v = refl
+with_ended_adds false s v = refl
+
+pub drop_adds : (d : DomainState QueueLaw) (s : SlotId) (old new : SeatState View)
+    → DropsStrong IsNodePayload d s old new → new.view.core.adds ≡ old.view.core.adds
+drop_adds d s old new drops = ap (λ (v : CoreView). v.adds) drops.1.core
+    ∙ with_ended_adds (ends drops.0) s (without_strong s old.view.core)
+
+-- what is seen in the tail cell is seen still once another reference was given up
+pub tail_still : (last : SlotId) (old new : SeatState View) → SeesTail last old
+    → 0 < times last new.view.core.owned → object_in new.view last ≡ object_in old.view last
+    → new.view.core.shape ≡ old.view.core.shape → new.view.client ≡ old.view.client
+    → SeesTail last new
+tail_still last old new sees owns object shape client = record {
+  owns = owns;
+  node = ap (λ (v : View). v.eyes.node) client ∙ sees.node;
+  life = ap (λ (o : Object). o.life) object ∙ sees.life
+      ∙ sym (ap (λ (v : View). v.eyes.life) client);
+  was_tail = ap (λ (v : View). v.eyes.was_tail) client ∙ sees.was_tail;
+  inside = subst (λ (z : Shape). last.0 < z.slots) (sym shape) sees.inside;
+}
+
+-- why a later step was refused tells why all of it was, by the adds that were used before
+pub why_later : (d : DomainState QueueLaw) (k n j : ℕ) → n ≡ k + j → (error : LoadError)
+    (old mid : SeatState View) → mid.view.core.adds ≤ old.view.core.adds + j
+    → mid.view.core.quota.adds ≡ old.view.core.quota.adds → IsWhyUnlinked d k error mid
+    → IsWhyUnlinked d n error old
+why_later d k n j is unloaded.Spent old mid adds quota why = omega arith
+why_later d k n j is (unloaded.Moved seen now) old mid adds quota why = why

@@ -1,0 +1,133 @@
+-- What a pop leaves of a seat, level by level, and why it answers nothing.
+use Rattle.std.proofs.Common.{◌≡◌, inl, ℕ, ◌+◌, ◌<◌, List, [], ◌∷◌, ◌++◌, refl, ap, sym, ◌∙◌, arith}
+use Rattle.std.specs.Prelude.{Option, Some, None}
+use Rattle.plain_state.specs.declared.act.EventPlace.TheVariants.{Field}
+use Rattle.plain_state.specs.declared.slot.SlotId.{SlotId}
+use Rattle.plain_state.specs.Lists.{times}
+use Rattle.plain_protocol.specs.Owns.{Object}
+use Rattle.core_events.specs.Views.{without}
+use Rattle.core_invariant.proofs.Kit.{one_same, times_push}
+use Rattle.counted_handles.specs.declared.refusal.LoadError.{LoadError}
+use Rattle.counted_handles.specs.declared.refusal.LoadError.TheVariants as unloaded
+use Rattle.domain_rule.specs.Views.{object_in}
+use Rattle.acquire_retire.specs.Domains.{DomainState}
+use Rattle.acquire_retire.specs.Seats.{SeatState}
+use Rattle.protected_loads.specs.Loads.{FindsNull}
+use Rattle.protected_loads.proofs.Learning.{client_null}
+use Rattle.queue_law.specs.declared.view.View.{View}
+use Rattle.queue_law.specs.declared.view.Item.{Item}
+use Rattle.queue_law.specs.Lessons.{ItemTells, item_next}
+use Rattle.queue_protocol.specs.declared.law.QueueLaw.{QueueLaw}
+use Rattle.queue_protocol.specs.Nodes.{IsNodePayload}
+use Rattle.linked_queue.specs.Leaving.{Leaves, with_found}
+use Rattle.linked_queue.specs.Pops.{IsWhyUnpopped, Pops, item_in, popped_too, unpopped_by}
+use Rattle.linked_queue.specs.Queues.{deeds_in, ends_of}
+use Rattle.linked_queue.specs.Seeing.{IsWhyUnloaded, LooksAgain, Passed, SeesNext}
+use Rattle.linked_queue.proofs.Owning.{found_more, holds_more, through}
+
+-- WHY
+module _ (d : DomainState QueueLaw) where
+  -- a load that was refused refuses the pop
+  pub why_of : (n : ℕ) (error : LoadError) (old : SeatState View) → IsWhyUnloaded d error old
+      → IsWhyUnpopped d n (unpopped_by error) old
+  why_of n unloaded.Spent old why = omega (arith, why)
+  why_of n (unloaded.Moved seen now) old why = inl why
+
+  -- a null item tells that the head has gone on
+  pub passed : (front next : SlotId) (old mid new : SeatState View) (seen now : ℕ)
+      → SeesNext front next old → seen ≡ front.0 + 1
+      → FindsNull IsNodePayload d (Field next 1) item_next (ItemTells (ends_of d)) old mid
+      → LooksAgain d now mid new → Passed d seen now
+  passed front next old mid new seen now sees is null looks =
+      let after = null.becomes.walks.0 in
+      let found : after.view.client.eyes.found ≡ 0 =
+      ap (λ (z : SeatState View). z.view.client.eyes.found) (sym null.becomes.walks.2)
+      ∙ ap (λ (v : View). v.eyes.found) (client_null d (Field next 1) old mid null) in
+      record {
+        next = next;
+        old = old;
+        mid = mid;
+        new = new;
+        was_head = sees.head.was_head;
+        node = sees.head.node ∙ sym is;
+        null = null;
+        gone = λ still.
+            null.becomes.walks.1.told.happened.fact.2 found (still ∙ is ∙ sym sees.head.node);
+        looks = looks;
+      }
+
+-- LEVELS
+-- a slot that was found is owned
+pub owns_found : (n : SlotId) (found : Option SlotId) (xs ys zs : List SlotId)
+    → ((x : SlotId) → times x ys ≡ times x (xs ++ n ∷ []))
+    → ((x : SlotId) → times x zs ≡ times x (with_found found ys)) → 0 < times n zs
+owns_found n found xs ys zs gained kept =
+    let a = gained n in
+    let b = kept n in
+    let push = times_push n n xs in
+    let one = one_same n n refl in
+    let more = found_more found n ys (omega arith) in omega arith
+
+pub some_found : (s : SlotId) (xs : List SlotId) → 0 < times s (xs ++ s ∷ [])
+some_found s xs =
+    let push = times_push s s xs in let one = one_same s s refl in omega arith
+
+-- what the seat knows of the item that it gained is known on
+pub item_still : (s : SlotId) (b c : SeatState View) → object_in c.view s ≡ object_in b.view s
+    → item_in c s ≡ item_in b s
+item_still s b c same = ap (λ (o : Object). record { slot = s.0; life = o.life; payload = o.payload }) same
+
+module _ (n : SlotId) (a b c e : SeatState View) where
+  -- with a reference to n, which is given up at the end
+  pub pops_through : (found : Option SlotId) → Leaves (a.view.core.owned ++ n ∷ []) a b
+      → deeds_in b.view.client ≡ deeds_in a.view.client → Pops found b c
+      → Leaves (without n c.view.core.owned) c e → e.view.client ≡ c.view.client → Pops found a e
+  pops_through None gains same pops gives client = record {
+    leaves = through n None a b c e gains pops.leaves gives;
+    deeds = ap deeds_in client ∙ pops.deeds ∙ same;
+  }
+  pops_through (Some s) gains same pops gives client =
+      let all = through n (Some s) a b c e gains pops.leaves gives in
+      let at_c = pops.leaves.owns s in
+      let at_e = all.owns s in
+      let some_c = some_found s b.view.core.owned in
+      let some_e = some_found s a.view.core.owned in
+      let item = item_still s c e (gives.knows s (omega arith) (omega arith)) in
+      record {
+        leaves = all;
+        deeds = ap deeds_in client ∙ pops.deeds
+            ∙ ap (λ (v : View). popped_too (item_in c s) v) same
+            ∙ ap (λ (x : Item). popped_too x (deeds_in a.view.client)) (sym item);
+      }
+
+-- what was left by one call, and then nothing more
+pub leaves_on : (xs : List SlotId) (x y z : SeatState View) → Leaves xs x y
+    → Leaves y.view.core.owned y z → Leaves xs x z
+leaves_on xs x y z first more = record {
+  owns = λ w. more.owns w ∙ first.owns w;
+  same = more.same ∙ first.same;
+  knows = λ w was is.
+      let at = more.owns w in
+      let mid = holds_more w z.view.core y.view.core more.same (omega arith) is in
+      more.knows w mid is ∙ first.knows w was mid;
+}
+
+-- THE ITEM: it was loaded, the head's node exchanged, and the new dummy emptied
+module _ (s : SlotId) (a b c e : SeatState View)
+    (loads : Leaves (a.view.core.owned ++ s ∷ []) a b)
+    (takes : Leaves b.view.core.owned b c) where
+  pub pops_item : deeds_in b.view.client ≡ deeds_in a.view.client
+      → deeds_in c.view.client ≡ popped_too (item_in b s) (deeds_in b.view.client)
+      → Leaves c.view.core.owned c e → e.view.client ≡ c.view.client → Pops (Some s) a e
+  pops_item same popped empties client =
+      let late = leaves_on b.view.core.owned b c e takes empties in
+      let at_b = loads.owns s in
+      let some_b = some_found s a.view.core.owned in
+      let at_e = late.owns s in
+      let item = item_still s b e (late.knows s (omega arith) (omega arith)) in
+      record {
+        leaves = leaves_on (a.view.core.owned ++ s ∷ []) a b e loads late;
+        deeds = ap deeds_in client ∙ popped
+            ∙ ap (λ (v : View). popped_too (item_in b s) v) same
+            ∙ ap (λ (x : Item). popped_too x (deeds_in a.view.client)) (sym item);
+      }

@@ -1,0 +1,109 @@
+-- What a push leaves of a seat, level by level.
+use Rattle.std.proofs.Common.{◌≡◌, ◌≢◌, ⊎_elim, ◌<◌, List, [], ◌∷◌, ◌++◌, refl, ap, sym, ◌∙◌, subst, arith}
+use Rattle.plain_state.specs.declared.slot.SlotId.{SlotId}
+use Rattle.plain_state.specs.Lists.{times}
+use Rattle.plain_protocol.specs.Owns.{Object}
+use Rattle.core_events.specs.Views.{without}
+use Rattle.core_invariant.proofs.Kit.{one_other, one_same, slot_cases, times_push, times_without}
+use Rattle.domain_rule.specs.Views.{object_in}
+use Rattle.acquire_retire.specs.Seats.{SeatState}
+use Rattle.queue_law.specs.declared.view.Load.{Load}
+use Rattle.queue_law.specs.declared.view.View.{View}
+use Rattle.linked_queue.specs.Leaving.{Leaves}
+use Rattle.linked_queue.specs.Nodes.{HasNode}
+use Rattle.linked_queue.specs.Pushes.{HasLoad}
+use Rattle.linked_queue.specs.Queues.{beside_eyes}
+use Rattle.linked_queue.proofs.Owning.{holds_more}
+
+-- A NODE OF THE SEAT'S OWN stays so, while the seat owns it and its view tells it
+pub node_still : (s : SlotId) (old new : SeatState View) → HasNode s old
+    → 0 < times s new.view.core.owned → object_in new.view s ≡ object_in old.view s
+    → new.view.client ≡ old.view.client → HasNode s new
+node_still s old new has owns object client = record {
+  owns = owns;
+  node = ap (λ (v : View). v.load.node) client ∙ has.node;
+  life = ap (λ (o : Object). o.life) object ∙ has.life
+      ∙ sym (ap (λ (v : View). v.load.life) client);
+  is_node = ap (λ (o : Object). o.payload) object ∙ has.is_node;
+  no_back = ap (λ (v : View). v.load.back) client ∙ has.no_back;
+}
+
+pub load_still : (s : SlotId) (old new : SeatState View) → HasLoad s old
+    → 0 < times s new.view.core.owned → object_in new.view s ≡ object_in old.view s
+    → beside_eyes new.view.client ≡ beside_eyes old.view.client → HasLoad s new
+load_still s old new has owns object same =
+    let load : new.view.client.load ≡ old.view.client.load = ap (λ (v : View). v.load) same in
+    let some' = has.carried in
+    let item = ap (λ (l : Load). l.item) load in
+    record {
+      owns = owns;
+      node = ap (λ (l : Load). l.node) load ∙ has.node;
+      life = ap (λ (o : Object). o.life) object ∙ has.life ∙ sym (ap (λ (l : Load). l.life) load);
+      is_node = ap (λ (o : Object). o.payload) object ∙ has.is_node;
+      carried = omega arith;
+    }
+
+-- a reference that was copied and is to be given leaves what was owned before
+pub left_of : (n item : SlotId) (xs ys : List SlotId) → ys ≡ xs ++ item ∷ [] → 0 < times n xs
+    → 0 < times n (without item ys)
+left_of n item xs ys is some' =
+    let at = ap (times n) is in
+    let here = ap (times item) is in
+    let push = times_push n item xs in
+    let more = times_push item item xs in
+    let one = one_same item item refl in
+    let fewer = times_without n item ys (omega arith) in omega arith
+
+-- A reference to l is gained, one to n given up, and then the one to l.
+module _ (n l : SlotId) (a b c e f : SeatState View) (some_n : 0 < times n a.view.core.owned)
+    (gains : Leaves (a.view.core.owned ++ l ∷ []) a b) (goes : Leaves b.view.core.owned b c)
+    (gives : Leaves (without n c.view.core.owned) c e) where
+  pub n_there : 0 < times n c.view.core.owned
+  n_there =
+      let x = gains.owns n in
+      let y = goes.owns n in
+      let push = times_push n l a.view.core.owned in omega arith
+
+  pub l_there : 0 < times l e.view.core.owned
+  l_there =
+      let x = gains.owns l in
+      let y = goes.owns l in
+      let z = gives.owns l in
+      let push = times_push l l a.view.core.owned in
+      let one = one_same l l refl in
+      let fewer = times_without l n c.view.core.owned n_there in
+      ⊎_elim
+      (λ (same : n ≡ l).
+      let some_l : 0 < times l a.view.core.owned =
+      subst (λ (s : SlotId). 0 < times s a.view.core.owned) same some_n in
+      let hit = one_same l n (ap (λ (s : SlotId). s.0) same) in omega arith)
+      (λ (ne : n.0 ≢ l.0). let none = one_other l n ne in omega arith)
+      (slot_cases n l)
+
+  pub gives_both : Leaves (without l e.view.core.owned) e f
+      → Leaves (without n a.view.core.owned) a f
+  gives_both last = record {
+    owns = λ x.
+        let p = gains.owns x in
+        let q = goes.owns x in
+        let r = gives.owns x in
+        let t = last.owns x in
+        let push = times_push x l a.view.core.owned in
+        let first = times_without x n a.view.core.owned some_n in
+        let second = times_without x n c.view.core.owned n_there in
+        let third = times_without x l e.view.core.owned l_there in omega arith;
+    same = last.same ∙ gives.same ∙ goes.same ∙ gains.same;
+    knows = λ x was is.
+        let p = gains.owns x in
+        let q = goes.owns x in
+        let r = gives.owns x in
+        let t = last.owns x in
+        let push = times_push x l a.view.core.owned in
+        let second = times_without x n c.view.core.owned n_there in
+        let third = times_without x l e.view.core.owned l_there in
+        let in_e = holds_more x f.view.core e.view.core last.same (omega arith) is in
+        let in_c = holds_more x e.view.core c.view.core gives.same (omega arith) in_e in
+        let in_b = holds_more x a.view.core b.view.core (sym gains.same) (omega arith) was in
+        last.knows x in_e is ∙ gives.knows x in_c in_e ∙ goes.knows x in_b in_c
+        ∙ gains.knows x was in_b;
+  }

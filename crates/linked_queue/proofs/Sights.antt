@@ -1,0 +1,129 @@
+-- What a load with a deed that only notes what was found leaves of a seat, whatever it answers.
+use Rattle.std.proofs.Common.{◌≡◌, ℕ, suc, ◌+◌, ◌≤◌, ◌++◌, refl, ap, ◌∙◌, arith}
+use Rattle.std.specs.Prelude.{Err, IfErr, IfOk, Ok, Option, Result, Some, None}
+use Rattle.plain_state.specs.declared.act.PlainAct.{PlainAct}
+use Rattle.plain_state.specs.declared.act.PlainAct.TheVariants as plain
+use Rattle.plain_state.specs.declared.slot.Kind.TheVariants.{Strong}
+use Rattle.plain_state.specs.declared.slot.SlotId.{SlotId}
+use Rattle.plain_state.specs.Places.{place_kind}
+use Rattle.plain_state.specs.State.{Plain}
+use Rattle.plain_protocol.specs.Owns.{OwnPart}
+use Rattle.core_events.specs.declared.view.CoreView.{CoreView}
+use Rattle.core_events.specs.Words.{slot_in}
+use Rattle.counted_handles.specs.Handles.{Handle}
+use Rattle.counted_handles.specs.declared.place.Place.{Place}
+use Rattle.counted_handles.specs.declared.place.Place.TheVariants as place
+use Rattle.counted_handles.specs.declared.refusal.LoadError.{LoadError}
+use Rattle.counted_handles.specs.declared.refusal.LoadError.TheVariants as unloaded
+use Rattle.domain_rule.specs.Views.{own_of}
+use Rattle.acquire_retire.specs.Domains.{DomainState}
+use Rattle.acquire_retire.specs.Seats.{SeatState}
+use Rattle.atomic_shared.specs.Places.{named, strong_place}
+use Rattle.control_word.specs.Calls.{with_strong}
+use Rattle.control_word.specs.Moves.{KnowsStill}
+use Rattle.control_word.specs.Resting.{IsAtRest, IsSpent}
+use Rattle.protected_loads.specs.Loads.{Misses}
+use Rattle.protected_loads.specs.References.{Loads, loaded_by, with_reference}
+use Rattle.protected_loads.proofs.Learning.{client_found, client_moved, client_null}
+use Rattle.queue_law.specs.declared.view.View.{View}
+use Rattle.queue_protocol.specs.declared.law.QueueLaw.{QueueLaw}
+use Rattle.queue_protocol.specs.Nodes.{IsNodePayload}
+use Rattle.linked_queue.specs.Leaving.{Leaves, found_by, with_found}
+use Rattle.linked_queue.specs.Queues.{beside_eyes}
+use Rattle.linked_queue.specs.Seeing.{IsWhyUnread}
+use Rattle.linked_queue.proofs.Leavings.{leaves_all, leaves_as, leaves_same}
+
+kind_of : (q : Place) → place_kind (strong_place q) ≡ Strong
+kind_of (place.Cell i) = refl
+kind_of (place.Field s i) = refl
+
+-- what the seat has that gained a reference to s
+pub core_found : (d : DomainState QueueLaw) (q : Place)
+    {next : OwnPart → OwnPart → View → PlainAct → ℕ → View}
+    {allows : Plain → Plain → ℕ → View → View → Type 0} (old new : SeatState View) (s : SlotId)
+    → Loads IsNodePayload d (strong_place q) next allows (Some s) old new
+    → new.view.core
+    ≡ record (with_strong s old.view.core) {
+      trail = old.view.core.trail ++ loaded_by (strong_place q) s;
+    }
+core_found d q old new s r = r.core
+    ∙ ap (λ k. record (with_reference k s old.view.core) {
+      trail = old.view.core.trail ++ loaded_by (strong_place q) s;
+    })
+    (kind_of q)
+
+module _ (d : DomainState QueueLaw) (q : Place)
+    (next : OwnPart → OwnPart → View → PlainAct → ℕ → View)
+    (allows : Plain → Plain → ℕ → View → View → Type 0)
+    (notes : (own after : OwnPart) (v : View) (a : PlainAct) (w : ℕ)
+    → beside_eyes (next own after v a w) ≡ beside_eyes v)
+    (old new : SeatState View) (rest : IsAtRest d old) (knows : KnowsStill old.view.core old new)
+  where
+    -- one add more at most, no more deeds, and the reference found
+    abbrev pub Sights : Option SlotId → Type 0
+    Sights found =
+        (new.view.core.adds ≤ old.view.core.adds + 1)
+        × (beside_eyes new.view.client ≡ beside_eyes old.view.client)
+        × Leaves (with_found found old.view.core.owned) old new
+
+    loaded : (found : Option SlotId)
+        → Loads IsNodePayload d (strong_place q) next allows found old new → Sights found
+    loaded None null = (
+      (let adds = ap (λ (v : CoreView). v.adds) null.becomes.core in omega arith),
+      ap beside_eyes (client_null d (strong_place q) old new null)
+          ∙ notes (own_of old.view) (own_of null.becomes.walks.0.view) old.view.client
+          (plain.Look (strong_place q)) 0,
+      leaves_all old new _ null.becomes.core knows,
+    )
+    loaded (Some s) r = (
+      (let adds = ap (λ (v : CoreView). v.adds) (core_found d q old new s r) in omega arith),
+      ap beside_eyes (client_found d (strong_place q) old new s rest r)
+          ∙ notes (own_of r.protects.mid.view) (own_of r.protects.checks.walks.0.view)
+          r.protects.mid.view.client (plain.Check 0 (strong_place q)) (suc s.0)
+          ∙ ap beside_eyes r.protects.announces.client,
+      leaves_as old new (with_strong s old.view.core) old.view.core _ (core_found d q old new s r) refl knows
+          (λ x was is. was),
+    )
+
+    missed : (seen now : Option SlotId)
+        → Misses IsNodePayload d 0 (strong_place q) next allows seen now old new → Sights None
+    missed seen now m = (
+      (let adds = ap (λ (v : CoreView). v.adds) m.core in omega arith),
+      ap beside_eyes (client_moved d (strong_place q) old new seen now m)
+          ∙ notes (own_of m.mid.view) (own_of m.checks.walks.0.view) m.mid.view.client
+          (plain.Check 0 (strong_place q)) m.checks.walks.1.word
+          ∙ ap beside_eyes m.announces.client,
+      leaves_all old new _ m.core knows,
+    )
+
+    unspent : new ≡ old → Sights None
+    unspent is = (
+      (let adds = ap (λ (z : SeatState View). z.view.core.adds) is in omega arith),
+      ap (λ (z : SeatState View). beside_eyes z.view.client) is,
+      leaves_same old new is,
+    )
+
+    -- whatever the load answers
+    module _ (r : Result (Option Handle) LoadError) (same : r ≡ Err unloaded.Spent → new ≡ old)
+        (spent : r ≡ Err unloaded.Spent → IsSpent old.view.core)
+        (loads : IfOk r (λ found.
+        Loads IsNodePayload d (strong_place q) next allows (named found) old new))
+        (moved : (seen now : ℕ) → r ≡ Err (unloaded.Moved seen now)
+        → Misses IsNodePayload d 0 (strong_place q) next allows (slot_in seen) (slot_in now) old new)
+        (differs : ℕ → ℕ → Type 0)
+        (told : (seen now : ℕ)
+        → Misses IsNodePayload d 0 (strong_place q) next allows (slot_in seen) (slot_in now) old new
+        → differs seen now) where
+      pub sights : Sights (found_by r) × IfErr r (λ error. IsWhyUnread differs error old)
+      sights = go r refl loads
+        where
+          go : (o : Result (Option Handle) LoadError) → r ≡ o
+              → IfOk o (λ found.
+              Loads IsNodePayload d (strong_place q) next allows (named found) old new)
+              → Sights (found_by o) × IfErr o (λ error. IsWhyUnread differs error old)
+          go (Ok found) is l = (loaded (named found) l, tt)
+          go (Err unloaded.Spent) is l = (unspent (same is), spent is)
+          go (Err (unloaded.Moved seen now)) is l = (
+            missed (slot_in seen) (slot_in now) (moved seen now is),
+            told seen now (moved seen now is),
+          )

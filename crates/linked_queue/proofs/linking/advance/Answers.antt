@@ -1,0 +1,71 @@
+use Rattle.std.proofs.Common.{◌≡◌, ℕ, ◌<◌, inr, refl, ap, sym, ◌∙◌, subst}
+use Rattle.std.specs.Prelude.{Some}
+use Rattle.plain_state.specs.declared.act.EventPlace.TheVariants.{Cell}
+use Rattle.core_events.specs.declared.shape.Shape.{Shape}
+use Rattle.counted_handles.specs.Handles.{Handle}
+use Rattle.acquire_retire.specs.Seats.{SeatState}
+use Rattle.control_word.specs.Calls.{DropsStrong, without_strong}
+use Rattle.control_word.specs.Moves.{KnowsStill}
+use Rattle.retiring_stores.specs.Exchanging.{LosesTo}
+use Rattle.queue_law.specs.Lessons.{TellsNothing}
+use Rattle.queue_law.specs.Pushes.{advance_next}
+use Rattle.queue_law.specs.declared.view.View.{View}
+use Rattle.queue_protocol.specs.Nodes.{IsNodePayload}
+use Rattle.linked_queue.proofs.Leavings.{drop_leaves, exchange_leaves}
+use Rattle.linked_queue.proofs.Linkings.{advanced, lost_keeps, then_gives}
+use Rattle.linked_queue.proofs.linking.advance.Goals as goal
+
+pub try_replace-requires-clause-expected : goal.try_replace-requires-clause-expected
+try_replace-requires-clause-expected c =
+    subst (λ (z : Shape). c.args.old.0 < z.slots) c.requires.rest.of_domain.1
+    c.requires.behind.tail.inside
+
+pub returns-in-Some-clause-advances : goal.returns-in-Some-clause-advances
+returns-in-Some-clause-advances c =
+    let loses = subst (λ (x : ℕ). LosesTo IsNodePayload c.args.domain.now advance_next TellsNothing
+    (Cell x) (Some c.args.next.slot) (Some c.args.old) c.in-Err.lost.now c.args.seat.now
+    c.try_replace.new.seat) c.requires.tail c.in-Err.ensures.lost in
+    let both : Some c.in-Some.next ≡ Some c.args.next =
+    sym c.in-Some.is ∙ c.in-Err.ensures.back in
+    let handles : c.in-Some.next ≡ c.args.next = cc (both) in
+    let drops = subst (λ (h : Handle). DropsStrong IsNodePayload c.args.domain.now h.slot
+    c.try_replace.new.seat c.drop_strong.new.seat) handles c.drop_strong.ensures.dropped in
+    inr (c.in-Err.lost.now, c.try_replace.new.seat, loses, drops)
+
+pub returns-in-Some-clause-client : goal.returns-in-Some-clause-client
+returns-in-Some-clause-client c =
+    let by = c.in-Err.ensures.lost.loses.becomes in
+    advanced c.args.domain.now c.args.old c.args.next.slot c.args.seat.now c.requires.behind
+    c.drop_strong.new.seat
+    (c.drop_strong.ensures.client
+    ∙ ap (λ (z : SeatState View). z.view.client) by.walks.2 ∙ by.walks.1.told.client)
+
+pub returns-in-Some-clause-leaves : goal.returns-in-Some-clause-leaves
+returns-in-Some-clause-leaves c =
+    let loses = subst (λ (x : ℕ). LosesTo IsNodePayload c.args.domain.now advance_next TellsNothing
+    (Cell x) (Some c.args.next.slot) (Some c.args.old) c.in-Err.lost.now c.args.seat.now
+    c.try_replace.new.seat) c.requires.tail c.in-Err.ensures.lost in
+    let both : Some c.in-Some.next ≡ Some c.args.next =
+    sym c.in-Some.is ∙ c.in-Err.ensures.back in
+    let handles : c.in-Some.next ≡ c.args.next = cc (both) in
+    let drops = subst (λ (h : Handle). DropsStrong IsNodePayload c.args.domain.now h.slot
+    c.try_replace.new.seat c.drop_strong.new.seat) handles c.drop_strong.ensures.dropped in
+    let still = subst (λ (h : Handle). KnowsStill
+    (without_strong h.slot c.try_replace.new.seat.view.core) c.try_replace.new.seat
+    c.drop_strong.new.seat) handles c.drop_strong.ensures.objects in
+    then_gives c.args.next.slot c.args.seat.now c.try_replace.new.seat c.drop_strong.new.seat
+    c.requires.behind.owns
+    (lost_keeps c.args.domain.now (Cell c.args.domain.now.protocol.tail) (Some c.args.next.slot)
+    (Some c.args.old) c.in-Err.lost.now c.args.seat.now c.try_replace.new.seat loses)
+    (drop_leaves c.args.next.slot c.try_replace.new.seat c.drop_strong.new.seat drops still)
+
+pub returns-in_default-clause-client : goal.returns-in_default-clause-client
+returns-in_default-clause-client c =
+    let replaces = c.in_default.ensures.replaced.0 in
+    advanced c.args.domain.now c.args.old c.args.next.slot c.args.seat.now c.requires.behind
+    c.try_replace.new.seat (replaces.client ∙ replaces.puts.step.told.client)
+
+pub returns-in_default-clause-leaves : goal.returns-in_default-clause-leaves
+returns-in_default-clause-leaves c =
+    exchange_leaves (Cell c.args.tail) _ (Some c.args.next.slot) _ c.args.seat.now
+    c.try_replace.new.seat refl c.in_default.ensures.replaced.0 c.try_replace.ensures.objects

@@ -1,0 +1,80 @@
+use Rattle.std.proofs.Common.{◌≡◌, ◌<◌, refl, ap, sym, ◌∙◌, subst, arith}
+use Rattle.std.specs.Prelude.{None}
+use Rattle.plain_state.specs.declared.slot.SlotId.{SlotId}
+use Rattle.core_events.specs.declared.shape.Shape.{Shape}
+use Rattle.core_events.specs.declared.view.CoreView.{CoreView}
+use Rattle.core_events.specs.Views.{without}
+use Rattle.control_word.proofs.Finding.{slot_there}
+use Rattle.linked_queue.specs.Leaving.{Leaves}
+use Rattle.linked_queue.specs.Pushes.{Advances, SeesBehind, advanced_in}
+use Rattle.linked_queue.proofs.Leavings.{copy_leaves, leaves_same}
+use Rattle.linked_queue.proofs.Owning.{has_owned, still_owned, through}
+use Rattle.linked_queue.proofs.Linkings.{advanced_tail, behind_still}
+use Rattle.linked_queue.proofs.linking.help.Goals as goal
+
+pub advance-requires-clause-behind : goal.advance-requires-clause-behind
+advance-requires-clause-behind c =
+    let behind = behind_still c.args.old c.args.next.now.slot c.args.seat.now
+    c.copy_strong.new.seat c.requires.behind
+    (λ x. still_owned x c.args.next.now.slot c.args.seat.now.view.core.owned
+    c.copy_strong.new.seat.view.core.owned (ap (λ (v : CoreView). v.owned)
+    c.in-Ok.ensures.copied.1.core))
+    (λ x owns. c.copy_strong.ensures.objects x (has_owned x c.args.seat.now owns))
+    (ap (λ (v : CoreView). v.shape) c.in-Ok.ensures.copied.1.core)
+    c.copy_strong.ensures.client in
+    subst (λ (s : SlotId). SeesBehind c.args.old s c.copy_strong.new.seat)
+    (sym c.in-Ok.ensures.copied.0) behind
+
+pub returns-clause-leaves : goal.returns-clause-leaves
+returns-clause-leaves c =
+    let copies = c.in-Ok.ensures.copied.1 in
+    let same = c.in-Ok.ensures.copied.0 in
+    let gives = subst (λ (s : SlotId). Leaves (without s c.copy_strong.new.seat.view.core.owned)
+    c.copy_strong.new.seat c.advance.new.seat) same c.advance.ensures.leaves in
+    let leaves = through c.args.next.now.slot None c.args.seat.now c.copy_strong.new.seat
+    c.copy_strong.new.seat c.advance.new.seat
+    (copy_leaves c.args.next.now.slot c.args.seat.now c.copy_strong.new.seat copies
+    c.copy_strong.ensures.objects)
+    (leaves_same c.copy_strong.new.seat c.copy_strong.new.seat refl) gives in
+    leaves
+
+pub returns-clause-sees : goal.returns-clause-sees
+returns-clause-sees c =
+    let copies = c.in-Ok.ensures.copied.1 in
+    let same = c.in-Ok.ensures.copied.0 in
+    let gives = subst (λ (s : SlotId). Leaves (without s c.copy_strong.new.seat.view.core.owned)
+    c.copy_strong.new.seat c.advance.new.seat) same c.advance.ensures.leaves in
+    let leaves = through c.args.next.now.slot None c.args.seat.now c.copy_strong.new.seat
+    c.copy_strong.new.seat c.advance.new.seat
+    (copy_leaves c.args.next.now.slot c.args.seat.now c.copy_strong.new.seat copies
+    c.copy_strong.ensures.objects)
+    (leaves_same c.copy_strong.new.seat c.copy_strong.new.seat refl) gives in
+    let behind = behind_still c.args.old c.args.next.now.slot c.args.seat.now
+    c.copy_strong.new.seat c.requires.behind
+    (λ x. still_owned x c.args.next.now.slot c.args.seat.now.view.core.owned
+    c.copy_strong.new.seat.view.core.owned (ap (λ (v : CoreView). v.owned)
+    c.in-Ok.ensures.copied.1.core))
+    (λ x owns. c.copy_strong.ensures.objects x (has_owned x c.args.seat.now owns))
+    (ap (λ (v : CoreView). v.shape) c.in-Ok.ensures.copied.1.core)
+    c.copy_strong.ensures.client in
+    let next = c.args.next.now.slot in
+    let some' = c.requires.behind.owns in
+    let at = leaves.owns next in
+    let object = leaves.knows next (omega arith) (omega arith)
+    ∙ sym (c.copy_strong.ensures.objects next (has_owned next c.args.seat.now some')) in
+    advanced_tail c.args.domain.now c.args.old next c.copy_strong.new.seat behind
+    c.advance.new.seat
+    (subst (λ (s : SlotId). c.advance.new.seat.view.client
+    ≡ advanced_in s c.copy_strong.new.seat c.copy_strong.new.seat.view.client)
+    same c.advance.ensures.client)
+    (omega arith) object
+    (subst (λ (z : Shape). next.0 < z.slots) (sym c.advance.ensures.rest.of_domain.1)
+    (slot_there copies.walks.1.told next (omega arith)))
+
+pub returns-clause-helps : goal.returns-clause-helps
+returns-clause-helps c = record {
+  copied = c.copy_strong.new.seat;
+  copies = c.in-Ok.ensures.copied.1;
+  advances = subst (λ (s : SlotId). Advances c.args.domain.now c.args.old s c.copy_strong.new.seat
+      c.advance.new.seat) c.in-Ok.ensures.copied.0 c.advance.ensures.advances;
+}

@@ -1,0 +1,39 @@
+-- What a call leaves of a seat.
+use Rattle.std.specs.Prelude.{◌≡◌, List, [], ◌∷◌, ◌++◌, Option, Some, None, Result, Ok, Err}
+use Rattle.plain_state.specs.declared.slot.SlotId.{SlotId}
+use Rattle.plain_state.specs.Lists.{times}
+use Rattle.core_events.specs.declared.view.CoreView.{CoreView}
+use Rattle.core_events.specs.Views.{Holds}
+use Rattle.counted_handles.specs.Handles.{Handle}
+use Rattle.atomic_shared.specs.Places.{named}
+use Rattle.domain_rule.specs.Views.{object_in}
+use Rattle.acquire_retire.specs.Collecting.{rest_of}
+use Rattle.acquire_retire.specs.Seats.{SeatState}
+
+-- what a seat has beside the references that it owns strongly, its batch, its dying and ripe slots, and its trail; and
+-- beside how many objects it made and how many adds it used
+abbrev pub aside : CoreView → CoreView
+aside v = record (rest_of v) { owned = []; made = []; adds = 0; makes = 0 }
+
+abbrev pub with_found : Option SlotId → List SlotId → List SlotId
+with_found None xs = xs
+with_found (Some s) xs = xs ++ s ∷ []
+
+-- The seat owns these references, in some order. What it has beside is as it was, and so is what it knows of the
+-- objects that it held and still holds.
+pub record Leaves {V : Type 0} (owned : List SlotId) (old new : SeatState V) : Type 0 where
+  pub owns : (x : SlotId) → times x new.view.core.owned ≡ times x owned
+  pub same : aside new.view.core ≡ aside old.view.core
+  pub knows :
+      (x : SlotId) → Holds old.view.core x → Holds new.view.core x
+      → object_in new.view x ≡ object_in old.view x
+
+-- what a call that answers a reference found; nothing where it was refused
+abbrev pub found_by : {E : Type 0} → Result (Option Handle) E → Option SlotId
+found_by (Ok found) = named found
+found_by (Err error) = None
+
+-- the same of a call that answers a reference where it isn't refused
+abbrev pub handle_by : {E : Type 0} → Result Handle E → Option SlotId
+handle_by (Ok handle) = Some handle.slot
+handle_by (Err error) = None

@@ -1,0 +1,93 @@
+-- A node of the seat's own, and how a queue is laid with one.
+use Rattle.std.specs.Prelude.{ℕ, ◌≡◌, ◌⊎◌, ◌+◌, ◌<◌, ◌≤◌, true, [], Some}
+use Rattle.plain_state.specs.declared.act.EventPlace.TheVariants.{Cell}
+use Rattle.plain_state.specs.declared.slot.SlotId.{SlotId}
+use Rattle.plain_state.specs.Lists.{times}
+use Rattle.plain_state.specs.State.{no_payload}
+use Rattle.core_events.specs.declared.view.CoreView.{CoreView}
+use Rattle.domain_rule.specs.Views.{object_in}
+use Rattle.acquire_retire.specs.Calls.{IsSameView, same_view}
+use Rattle.acquire_retire.specs.Domains.{DomainState}
+use Rattle.acquire_retire.specs.Seats.{SeatState}
+use Rattle.control_word.specs.Calls.{DropsStrong, GainsStrong}
+use Rattle.control_word.specs.Resting.{IsSpent}
+use Rattle.retiring_stores.specs.Exchanging.{Stores}
+use Rattle.slot_store.specs.declared.making.MakeError.{MakeError}
+use Rattle.slot_store.specs.declared.making.MakeError.TheVariants as refused
+use Rattle.slot_store.specs.Calls.{HasNoMake, Makes}
+use Rattle.slot_store.specs.Searching.{Misses}
+use Rattle.queue_law.specs.Lessons.{TellsNothing}
+use Rattle.queue_law.specs.Nodes.{make_next}
+use Rattle.queue_law.specs.Opening.{lay_head_next, lay_tail_next}
+use Rattle.queue_law.specs.declared.view.View.{View}
+use Rattle.queue_law.specs.Views.{no_load, sees_node}
+use Rattle.queue_protocol.specs.declared.law.QueueLaw.{QueueLaw}
+use Rattle.queue_protocol.specs.Nodes.{IsNodePayload}
+
+-- at most so many adds are left
+abbrev pub HasFewAdds : ℕ → CoreView → Type 0
+HasFewAdds n v = v.quota.adds ≤ v.adds + n
+
+-- the seat owns the node that its view says is its own, and has put nothing into it yet
+pub record HasNode (s : SlotId) (seat : SeatState View) : Type 0 where
+  pub owns : 0 < times s seat.view.core.owned
+  pub node : seat.view.client.load.node ≡ s.0 + 1
+  pub life : (object_in seat.view s).life ≡ seat.view.client.load.life
+  pub is_node : (object_in seat.view s).payload ≡ no_payload
+  pub no_back : seat.view.client.load.back ≡ 0
+
+-- the view once the seat's own node stands in the tail cell
+abbrev pub half_laid_in : View → View
+half_laid_in v = record v {
+  load = no_load;
+  eyes = sees_node v.load.node v.load.life;
+  stand = record { laid = 1; left = [] };
+}
+
+-- the seat is seat 0, and the node that stands in the tail cell is s
+pub record IsHalfLaid (s : SlotId) (seat : SeatState View) : Type 0 where
+  pub root : seat.view.client.number ≡ 0
+  pub here : seat.view.client.here ≡ true
+  pub laying : seat.view.client.stand.laid ≡ 1
+  pub node : seat.view.client.eyes.node ≡ s.0 + 1
+  pub life : (object_in seat.view s).life ≡ seat.view.client.eyes.life
+
+-- the view once the queue is laid: its seat is attached
+abbrev pub laid_in : View → View
+laid_in v = record v { stand = record { laid = 2; left = [] }; attached = true }
+
+module _ (d : DomainState QueueLaw) where
+  -- The seat made the dummy, counted a second reference to it, and put one into the tail cell and the other into the
+  -- head cell.
+  pub record Lays (old new : SeatState View) : Type 0 where
+    pub dummy : SlotId
+    pub made : SeatState View
+    pub copied : SeatState View
+    pub half : SeatState View
+    pub makes : Makes IsNodePayload d make_next TellsNothing no_payload dummy old made
+    pub copies : GainsStrong IsNodePayload d same_view IsSameView dummy made copied
+    pub tail :
+        Stores IsNodePayload d lay_tail_next TellsNothing (Cell d.protocol.tail) (Some dummy)
+        copied half
+    pub head :
+        Stores IsNodePayload d lay_head_next TellsNothing (Cell d.protocol.head) (Some dummy) half
+        new
+
+  -- It made a node, found no add left for a second reference, and gave the node up.
+  pub record GivesUp (old new : SeatState View) : Type 0 where
+    pub dummy : SlotId
+    pub made : SeatState View
+    pub makes : Makes IsNodePayload d make_next TellsNothing no_payload dummy old made
+    pub drops : DropsStrong IsNodePayload d dummy made new
+
+  -- why no node was made
+  abbrev pub IsWhyUnmade : MakeError → SeatState View → SeatState View → Type 0
+  IsWhyUnmade refused.MakesSpent old new = HasNoMake old.view.core × (new ≡ old)
+  IsWhyUnmade refused.AddsSpent old new = IsSpent old.view.core × (new ≡ old)
+  IsWhyUnmade refused.Full old new = Misses IsNodePayload d old new
+
+  -- why nothing was laid: no node was made, or at most one add was left, which made the node
+  abbrev pub IsWhyUnlaid : MakeError → SeatState View → SeatState View → Type 0
+  IsWhyUnlaid error old new =
+      IsWhyUnmade error old new
+      ⊎ ((error ≡ refused.AddsSpent) × HasFewAdds 1 old.view.core × GivesUp old new)

@@ -1,0 +1,200 @@
+-- What a seat has on its way through a push, what a push does, and what it leaves.
+use Rattle.std.specs.Prelude.{ℕ, ◌≡◌, ◌⊎◌, ◌+◌, ◌<◌, true, false, [], ◌∷◌, ◌++◌, Option, Some, None}
+use Rattle.plain_state.specs.declared.act.EventPlace.TheVariants.{Cell, Field}
+use Rattle.plain_state.specs.declared.slot.SlotId.{SlotId}
+use Rattle.plain_state.specs.Lists.{times}
+use Rattle.plain_state.specs.State.{no_payload}
+use Rattle.core_events.specs.Views.{without}
+use Rattle.core_events.specs.Words.{slot_in}
+use Rattle.counted_handles.specs.Handles.{Handle}
+use Rattle.counted_handles.specs.declared.refusal.LoadError.{LoadError}
+use Rattle.counted_handles.specs.declared.refusal.LoadError.TheVariants as unloaded
+use Rattle.domain_rule.specs.Views.{object_in}
+use Rattle.acquire_retire.specs.Calls.{IsSameView, same_view}
+use Rattle.acquire_retire.specs.Domains.{DomainState}
+use Rattle.acquire_retire.specs.Seats.{SeatState}
+use Rattle.control_word.specs.Calls.{DropsStrong, GainsStrong}
+use Rattle.retiring_stores.specs.Exchanging.{Loses, LosesTo, Replaces, Stores}
+use Rattle.slot_store.specs.declared.making.MakeError.{MakeError}
+use Rattle.slot_store.specs.declared.making.MakeError.TheVariants as refused
+use Rattle.slot_store.specs.Calls.{HasNoMake, Makes}
+use Rattle.slot_store.specs.Searching.{Misses as MissesSlots}
+use Rattle.protected_loads.specs.References.{Refers}
+use Rattle.protected_loads.specs.Loads.{FindsNull}
+use Rattle.linked_queue.specs.UnlessRipe.{next_unless}
+use Rattle.queue_law.specs.Nodes.{carry_next, make_next}
+use Rattle.queue_law.specs.declared.view.Item.{Item}
+use Rattle.queue_law.specs.declared.view.View.{View}
+use Rattle.queue_law.specs.Lessons.{NextTells, TellsNothing, learn_next, next_next}
+use Rattle.queue_law.specs.Pushes.{advance_next, link_next}
+use Rattle.queue_law.specs.Views.{sees_node}
+use Rattle.queue_protocol.specs.declared.law.QueueLaw.{QueueLaw}
+use Rattle.queue_protocol.specs.Nodes.{IsNodePayload}
+use Rattle.linked_queue.specs.declared.queue.PushError.{PushError}
+use Rattle.linked_queue.specs.declared.queue.PushError.TheVariants as unpushed
+use Rattle.linked_queue.specs.Leaving.{Leaves}
+use Rattle.linked_queue.specs.Cells.{TailTells}
+use Rattle.linked_queue.specs.Nodes.{HasFewAdds}
+use Rattle.linked_queue.specs.Queues.{deeds_in, ends_of}
+use Rattle.linked_queue.specs.Pops.{item_in}
+use Rattle.linked_queue.specs.Seeing.{Missed}
+
+-- the seat owns a node of its own, which carries an item
+pub record HasLoad (s : SlotId) (seat : SeatState View) : Type 0 where
+  pub owns : 0 < times s seat.view.core.owned
+  pub node : seat.view.client.load.node ≡ s.0 + 1
+  pub life : (object_in seat.view s).life ≡ seat.view.client.load.life
+  pub is_node : (object_in seat.view s).payload ≡ no_payload
+  pub carried : 0 < seat.view.client.load.item
+
+-- the seat owns a node that it saw in the tail cell
+pub record SeesTail (last : SlotId) (seat : SeatState View) : Type 0 where
+  pub owns : 0 < times last seat.view.core.owned
+  pub node : seat.view.client.eyes.node ≡ last.0 + 1
+  pub life : (object_in seat.view last).life ≡ seat.view.client.eyes.life
+  pub was_tail : seat.view.client.eyes.was_tail ≡ true
+  pub inside : last.0 < seat.view.core.shape.slots
+
+-- and the node that follows it
+pub record SeesBehind (last next : SlotId) (seat : SeatState View) : Type 0 where
+  pub tail : SeesTail last seat
+  pub owns : 0 < times next seat.view.core.owned
+  pub following : seat.view.client.eyes.following ≡ next.0 + 1
+
+-- a view once the tail cell has held this node, as the seat knows it
+abbrev pub advanced_in : SlotId → SeatState View → View → View
+advanced_in s seat v = record v {
+  eyes = record (sees_node (s.0 + 1) (object_in seat.view s).life) { was_tail = true };
+}
+
+-- why no node could be made that carries the item: at most n adds were left, or `make` has refused
+abbrev pub IsWhyRefused : DomainState QueueLaw → ℕ → MakeError → SeatState View → Type 0
+IsWhyRefused d n refused.MakesSpent old = HasNoMake old.view.core
+IsWhyRefused d n refused.AddsSpent old = HasFewAdds n old.view.core
+IsWhyRefused d n refused.Full old = (mid : SeatState View) × MissesSlots IsNodePayload d old mid
+
+-- a view that has pushed one item more
+abbrev pub pushed_too : Item → View → View
+pushed_too item v =
+    record v { pushed = v.pushed ++ record { item = item; taker = v.number } ∷ [] }
+
+module _ (d : DomainState QueueLaw) where
+  -- an exchange of field 0 of a node that expected `seen` found `now`, which is another content
+  abbrev pub LostLink : ℕ → ℕ → Type 0
+  LostLink seen now =
+      (x : SlotId) × (given : Option SlotId) × (old : SeatState View) × (new : SeatState View)
+      × Loses IsNodePayload d link_next TellsNothing (Field x 0) given (slot_in seen) (slot_in now)
+      old new
+
+  -- a place of the queue held `seen`, and then `now`, which is another content: the tail cell, or field 0 of a node
+  abbrev pub PushDiffers : ℕ → ℕ → Type 0
+  PushDiffers seen now =
+      Missed d (Cell d.protocol.tail) (learn_next false) (TailTells (ends_of d)) seen now
+      ⊎ ((x : SlotId) × Missed d (Field x 0) next_next (NextTells (ends_of d)) seen now)
+      ⊎ LostLink seen now
+
+  -- why a node wasn't linked: at most n adds were left, or another seat was quicker
+  abbrev pub IsWhyUnlinked : ℕ → LoadError → SeatState View → Type 0
+  IsWhyUnlinked n unloaded.Spent old = HasFewAdds n old.view.core
+  IsWhyUnlinked n (unloaded.Moved seen now) old = PushDiffers seen now
+
+  -- The seat exchanged the tail cell for the next node, or found it advanced already, and gave the reference up.
+  abbrev pub Advances : SlotId → SlotId → SeatState View → SeatState View → Type 0
+  Advances last next old new =
+      Replaces IsNodePayload d advance_next TellsNothing (Cell d.protocol.tail) (Some next)
+      (Some last) old new
+      ⊎ ((now : ℕ) × (mid : SeatState View)
+      × LosesTo IsNodePayload d advance_next TellsNothing (Cell d.protocol.tail) (Some next)
+      (Some last) now old mid
+      × DropsStrong IsNodePayload d next mid new)
+
+  -- It counted a reference to its node, and exchanged the last node's field 0, which was null, for it.
+  pub record Links (last node : SlotId) (old new : SeatState View) : Type 0 where
+    pub copied : SeatState View
+    pub copies : GainsStrong IsNodePayload d same_view IsSameView node old copied
+    pub replaces :
+        Replaces IsNodePayload d link_next TellsNothing (Field last 0) (Some node) None copied new
+
+  -- It made a node, counted a reference to the item, and put that into field 1 of the node.
+  pub record LoadsNode (item node : SlotId) (old new : SeatState View) : Type 0 where
+    pub made : SeatState View
+    pub copied : SeatState View
+    pub makes : Makes IsNodePayload d make_next TellsNothing no_payload node old made
+    pub copies : GainsStrong IsNodePayload d same_view IsSameView item made copied
+    pub stores :
+        Stores IsNodePayload d (next_unless carry_next) TellsNothing (Field node 1) (Some item)
+        copied new
+
+  -- It counted a reference to the next node, with which it advanced the tail cell, or found it advanced already.
+  pub record Helps (last next : SlotId) (old new : SeatState View) : Type 0 where
+    pub copied : SeatState View
+    pub copies : GainsStrong IsNodePayload d same_view IsSameView next old copied
+    pub advances : Advances last next copied new
+
+  -- Behind a node of the tail cell it found another, to which it helped the tail cell on.
+  pub record GoesOn (first last : SlotId) (old new : SeatState View) : Type 0 where
+    pub seen : SeatState View
+    pub helped : SeatState View
+    pub loads :
+        Refers IsNodePayload d (Field first 0) next_next (NextTells (ends_of d)) last old seen
+    pub helps : Helps first last seen helped
+    pub drops : DropsStrong IsNodePayload d first helped new
+
+  -- behind it there was none
+  abbrev pub Stays : SlotId → SlotId → SeatState View → SeatState View → Type 0
+  Stays first last old new =
+      (last ≡ first)
+      × FindsNull IsNodePayload d (Field first 0) next_next (NextTells (ends_of d)) old new
+
+  -- It found the last node by the tail cell.
+  pub record FindsEnd (last : SlotId) (old new : SeatState View) : Type 0 where
+    pub first : SlotId
+    pub seen : SeatState View
+    pub loads :
+        Refers IsNodePayload d (Cell d.protocol.tail) (learn_next false) (TailTells (ends_of d))
+        first old seen
+    pub which : Stays first last seen new ⊎ GoesOn first last seen new
+
+  -- It found the last node, linked its own behind it, advanced the tail cell, and gave the last node up.
+  pub record PushesNode (node : SlotId) (old new : SeatState View) : Type 0 where
+    pub last : SlotId
+    pub found : SeatState View
+    pub linked : SeatState View
+    pub late : SeatState View
+    pub finds : FindsEnd last old found
+    pub links : Links last node found linked
+    pub advances : Advances last node linked late
+    pub drops : DropsStrong IsNodePayload d last late new
+
+  -- It did so with a node that carries a reference of its own to the item.
+  pub record PushesCopy (item : SlotId) (old new : SeatState View) : Type 0 where
+    pub node : SlotId
+    pub loaded : SeatState View
+    pub loads : LoadsNode item node old loaded
+    pub pushes : PushesNode node loaded new
+
+  -- all events of a push: in the end it gave up the reference that it was called with
+  pub record PushesBy (item : SlotId) (old new : SeatState View) : Type 0 where
+    pub pushed : SeatState View
+    pub copy : PushesCopy item old pushed
+    pub drops : DropsStrong IsNodePayload d item pushed new
+
+-- The seat has given its reference to the item, and has pushed it, as it knows it.
+pub record Pushes (item : SlotId) (old new : SeatState View) : Type 0 where
+  pub leaves : Leaves (without item old.view.core.owned) old new
+  pub deeds :
+      deeds_in new.view.client ≡ pushed_too (item_in old item) (deeds_in old.view.client)
+
+-- The seat has what it had, and has pushed nothing.
+pub record PushesNothing (old new : SeatState View) : Type 0 where
+  pub leaves : Leaves old.view.core.owned old new
+  pub deeds : deeds_in new.view.client ≡ deeds_in old.view.client
+
+-- why nothing was pushed, and the item that is handed back
+abbrev pub IsWhyUnpushed : DomainState QueueLaw → PushError → SeatState View → Type 0
+IsWhyUnpushed d (unpushed.Again seen now back) old = PushDiffers d seen now
+IsWhyUnpushed d (unpushed.Refused r) old = IsWhyRefused d 5 r.why old
+
+abbrev pub back_of : PushError → Handle
+back_of (unpushed.Again seen now back) = back
+back_of (unpushed.Refused r) = r.back

@@ -1,0 +1,113 @@
+-- What a seat sees of a queue, and how it finds that another seat was quicker.
+use Rattle.std.specs.Prelude.{ℕ, ◌≡◌, ◌≢◌, ◌⊎◌, ◌+◌, ◌<◌, true, Option, None}
+use Rattle.plain_state.specs.declared.act.EventPlace.{EventPlace}
+use Rattle.plain_state.specs.declared.act.EventPlace.TheVariants.{Cell, Field}
+use Rattle.plain_state.specs.declared.act.PlainAct.{PlainAct}
+use Rattle.plain_state.specs.declared.slot.SlotId.{SlotId}
+use Rattle.plain_state.specs.Lists.{times}
+use Rattle.plain_state.specs.State.{Plain}
+use Rattle.plain_protocol.specs.Owns.{OwnPart}
+use Rattle.core_events.specs.declared.act.Act.TheVariants as act
+use Rattle.core_events.specs.declared.outcome.Outcome.TheVariants as outcome
+use Rattle.core_events.specs.Words.{slot_in}
+use Rattle.domain_rule.specs.Views.{object_in}
+use Rattle.acquire_retire.specs.Calls.{IsSameView, Steps, same_view}
+use Rattle.acquire_retire.specs.Collecting.{move}
+use Rattle.acquire_retire.specs.Domains.{DomainState}
+use Rattle.acquire_retire.specs.Seats.{SeatState}
+use Rattle.control_word.specs.Resting.{IsSpent}
+use Rattle.counted_handles.specs.declared.refusal.LoadError.{LoadError}
+use Rattle.counted_handles.specs.declared.refusal.LoadError.TheVariants as unloaded
+use Rattle.protected_loads.specs.Loads.{FindsNull, Misses}
+use Rattle.retiring_stores.specs.Exchanging.{Loses, shown_after}
+use Rattle.queue_law.specs.Lessons.{ItemTells, NextTells, NothingLinked, TellsNothing, item_next, learn_next, next_next}
+use Rattle.queue_law.specs.Pops.{take_next}
+use Rattle.queue_law.specs.declared.view.View.{View}
+use Rattle.queue_law.specs.Words.{cell_at}
+use Rattle.queue_protocol.specs.declared.law.QueueLaw.{QueueLaw}
+use Rattle.queue_protocol.specs.Nodes.{IsNodePayload}
+use Rattle.linked_queue.specs.Cells.{HeadTells}
+use Rattle.linked_queue.specs.Queues.{ends_of}
+
+-- the seat owns the node that it saw in the head cell
+pub record SeesHead (front : SlotId) (seat : SeatState View) : Type 0 where
+  pub owns : 0 < times front seat.view.core.owned
+  pub node : seat.view.client.eyes.node ≡ front.0 + 1
+  pub life : (object_in seat.view front).life ≡ seat.view.client.eyes.life
+  pub was_head : seat.view.client.eyes.was_head ≡ true
+
+-- and the node that follows it
+pub record SeesNext (front next : SlotId) (seat : SeatState View) : Type 0 where
+  pub head : SeesHead front seat
+  pub owns : 0 < times next seat.view.core.owned
+  pub following : seat.view.client.eyes.following ≡ next.0 + 1
+
+-- and that one's item
+pub record SeesItem (front next item : SlotId) (seat : SeatState View) : Type 0 where
+  pub nodes : SeesNext front next seat
+  pub owns : 0 < times item seat.view.core.owned
+  pub found : seat.view.client.eyes.found ≡ item.0 + 1
+
+-- why a load gave nothing: no add was left, or a place has changed
+abbrev pub IsWhyUnread : (ℕ → ℕ → Type 0) → LoadError → SeatState View → Type 0
+IsWhyUnread differs unloaded.Spent old = IsSpent old.view.core
+IsWhyUnread differs (unloaded.Moved seen now) old = differs seen now
+
+module _ (d : DomainState QueueLaw) where
+  -- a check of a place, with this deed, found `now` where a look had found `seen`, which is another content
+  abbrev pub Missed : EventPlace → (OwnPart → OwnPart → View → PlainAct → ℕ → View)
+      → (Plain → Plain → ℕ → View → View → Type 0) → ℕ → ℕ → Type 0
+  Missed place next allows seen now =
+      (old : SeatState View) × (new : SeatState View)
+      × Misses IsNodePayload d 0 place next allows (slot_in seen) (slot_in now) old new
+
+  -- an exchange of the head cell that expected `seen` found `now`, which is another content
+  abbrev pub Lost : ℕ → ℕ → Type 0
+  Lost seen now =
+      (given : Option SlotId) × (old : SeatState View) × (new : SeatState View)
+      × Loses IsNodePayload d take_next TellsNothing (Cell d.protocol.head) given (slot_in seen)
+      (slot_in now) old new
+
+  -- A place of the queue held `seen`, and then `now`, which is another content: the head cell, field 0 or field 1 of a
+  -- node, or the head cell at the exchange.
+  abbrev pub Differs : ℕ → ℕ → Type 0
+  Differs seen now =
+      Missed (Cell d.protocol.head) (learn_next true) (HeadTells (ends_of d)) seen now
+      ⊎ ((x : SlotId) × Missed (Field x 0) next_next (NextTells (ends_of d)) seen now)
+      ⊎ ((x : SlotId) × Missed (Field x 1) item_next (ItemTells (ends_of d)) seen now)
+      ⊎ Lost seen now
+
+  -- a look at the head cell found this word
+  abbrev pub LooksAgain : ℕ → SeatState View → SeatState View → Type 0
+  LooksAgain now old new =
+      Steps IsNodePayload d same_view IsSameView (act.Look (Cell d.protocol.head)) old new
+      (outcome.Found (slot_in now))
+
+  -- A node that the head cell held is `seen`. The seat's look at the item of the next node found null, and the head
+  -- cell held another node then; a later look at the head cell found `now`.
+  pub record Passed (seen now : ℕ) : Type 0 where
+    pub next : SlotId
+    pub old : SeatState View
+    pub mid : SeatState View
+    pub new : SeatState View
+    pub was_head : old.view.client.eyes.was_head ≡ true
+    pub node : old.view.client.eyes.node ≡ seen
+    pub null :
+        FindsNull IsNodePayload d (Field next 1) item_next (ItemTells (ends_of d)) old mid
+    pub gone :
+        cell_at (shown_after {m = move (act.Look (Field next 1)) (outcome.Found None)} null.becomes.walks.1)
+        d.protocol.head ≢ seen
+    pub looks : LooksAgain now mid new
+
+  -- why a load of a pop gave nothing
+  abbrev pub IsWhyUnloaded : LoadError → SeatState View → Type 0
+  IsWhyUnloaded error old = IsWhyUnread Differs error old
+
+  -- The seat's look at field 0 of a node that it saw in the head cell found null, and nothing was linked behind the
+  -- head's node then.
+  pub record FindsLast (front : SlotId) (old new : SeatState View) : Type 0 where
+    pub null :
+        FindsNull IsNodePayload d (Field front 0) next_next (NextTells (ends_of d)) old new
+    pub nothing :
+        NothingLinked (ends_of d)
+        (shown_after {m = move (act.Look (Field front 0)) (outcome.Found None)} null.becomes.walks.1)

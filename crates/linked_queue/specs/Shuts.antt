@@ -1,0 +1,49 @@
+-- How a queue is shut.
+use Rattle.std.specs.Prelude.{◌≡◌, true, false, length, None}
+use Rattle.plain_state.specs.declared.act.EventPlace.TheVariants.{Cell}
+use Rattle.domain_rule.specs.Views.{own_of}
+use Rattle.acquire_retire.specs.Domains.{DomainState}
+use Rattle.acquire_retire.specs.Seats.{SeatState}
+use Rattle.retiring_stores.specs.Exchanging.{Stores}
+use Rattle.queue_law.specs.declared.view.View.{View}
+use Rattle.queue_law.specs.Chain.{Ends}
+use Rattle.queue_law.specs.Lessons.{TellsNothing}
+use Rattle.queue_law.specs.Opening.{shut_head_next, shut_tail_next, waiting_in}
+use Rattle.queue_law.specs.Words.{whole_of}
+use Rattle.queue_protocol.specs.declared.law.QueueLaw.{QueueLaw}
+use Rattle.queue_protocol.specs.Nodes.{IsNodePayload}
+use Rattle.linked_queue.specs.Queues.{ends_of}
+
+-- the queue is laid, and the seat attached
+pub record CanShut (v : View) : Type 0 where
+  pub laid : v.stand.laid ≡ 2
+  pub attached : v.attached ≡ true
+
+-- the view once the head cell was cleared: what waits in the state that the seat knows is noted as left
+abbrev pub half_shut_in : Ends → SeatState View → View → View
+half_shut_in u seat v = record v {
+  attached = false;
+  stand = record {
+    laid = 3;
+    left = waiting_in u (length v.pushed) (whole_of (own_of seat.view).whole);
+  };
+}
+
+-- and once the tail cell was
+abbrev pub shut_in : Ends → SeatState View → View → View
+shut_in u seat v = record v {
+  attached = false;
+  stand = record {
+    laid = 4;
+    left = waiting_in u (length v.pushed) (whole_of (own_of seat.view).whole);
+  };
+}
+
+-- The seat put null into the head cell, and then into the tail cell.
+pub record Shuts (d : DomainState QueueLaw) (old new : SeatState View) : Type 0 where
+  pub half : SeatState View
+  pub head :
+      Stores IsNodePayload d (shut_head_next (ends_of d)) TellsNothing (Cell d.protocol.head) None
+      old half
+  pub tail :
+      Stores IsNodePayload d shut_tail_next TellsNothing (Cell d.protocol.tail) None half new

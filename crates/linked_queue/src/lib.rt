@@ -1,0 +1,40 @@
+//! The linked queue of Michael and Scott over a domain: seats push references to objects at one end, and pop them at
+//! the other.
+//!
+//! A head cell holds the dummy, the node before the first item, and a tail cell holds the last node, or the one before
+//! it. Field 0 of a node is the next node, and field 1 its item. The rule that is kept is the law of `queue_law`: each
+//! item that was pushed was popped or waits, once, and pops come in the order of pushes.
+//!
+//! A push and a pop are one try each: where another seat has been quicker they are refused, and tell by which place
+//! that shows. They count references to the nodes that they walk over, so no slot is given again under them. No step is
+//! promised to come, and none tries again by itself.
+//!
+//! ```text
+//! let queue = LinkedQueue::lay(&domain, &mut root, 0, 1)?;     // over strong cells 0 and 1, by seat 0
+//! queue.try_attach(&domain, &mut seat);                        // true: this seat may push and pop
+//! queue.try_push(&domain, &mut seat, item)?;                   // or Again, Refused, with the item back
+//! let Some(item) = queue.try_pop(&domain, &mut seat)? else { .. };     // nothing was linked; or Again, Spent
+//! queue.shut(&domain, &mut root);                              // once every other seat has left
+//! ```
+#![tactic(auto)]
+
+mod attaching;
+mod carrying;
+mod deeds;
+mod laying;
+mod linking;
+mod popping;
+mod pushing;
+mod queue;
+mod seeing;
+mod shutting;
+mod taking;
+#[cfg(test)]
+mod tests;
+mod unless_ripe;
+
+pub use counted_handles::Strong;
+pub use deeds::{SeeHead, SeeTail};
+pub use queue::{LinkedQueue, PopError, PushError, PushRefused};
+pub use slot_store::MakeError;
+pub use unless_ripe::UnlessRipe;

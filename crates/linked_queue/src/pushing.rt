@@ -1,0 +1,208 @@
+//! A push, in one try.
+//!
+//! The seat makes a node and leaves a counted reference to the item in it. It finds the last node by the tail cell,
+//! which it helps on where that is one behind, and exchanges that node's field 0. Then it advances the tail cell. It
+//! holds the last node and its own by references that it gives up in the end.
+
+ghost use Rattle.std.specs.Prelude.{◌≡◌, ◌<◌, ◌≤◌, ◌+◌, IfErr, IfOk, OnErr};
+ghost use Rattle.plain_state.specs.Lists.{times};
+ghost use Rattle.core_events.specs.Steps.{HasRoom};
+ghost use Rattle.core_events.specs.Views.{without};
+ghost use Rattle.control_word.specs.Resting.{IsAtRest};
+ghost use Rattle.queue_law.specs.declared.view.Form.TheVariants.{Linked};
+ghost use Rattle.queue_law.specs.Pushes.{carried_item};
+ghost use Rattle.linked_queue.specs.Leaving.{Leaves, handle_by, with_found};
+ghost use Rattle.linked_queue.specs.Pops.{item_in};
+ghost use Rattle.linked_queue.specs.Pushes.{HasLoad, LoadsNode, PushesBy, PushesCopy, PushesNode, IsWhyRefused, IsWhyUnlinked, IsWhyUnpushed, Pushes, PushesNothing, back_of, pushed_too};
+ghost use Rattle.linked_queue.specs.NotPushed.{IsWhyNotPushed};
+ghost use Rattle.linked_queue.specs.Queues.{IsAttached, IsQueueOf, deeds_in};
+
+use crate::carrying::carry;
+use crate::laying::make_node;
+use crate::linking::{advance, find_last, link};
+use crate::queue::{LinkedQueue, PushError, PushRefused};
+use acquire_retire::{Domain, Seat};
+use atomic_shared::LoadError;
+use control_word::{copy_strong, drop_strong};
+use counted_handles::Strong;
+use queue_protocol::QueueLaw;
+use slot_store::MakeError;
+
+impl LinkedQueue {
+    /// Appends an item to the queue, in one try, and gives the seat's reference to it. `Again` where another seat was
+    /// quicker, and `Refused` with the causes of `make`; `AddsSpent` may come of a later increment of the call, and at
+    /// most five adds were left. Then nothing is pushed, and the item is handed back; a node that was made is given
+    /// up. At most 50 steps more than there are slots, and four collects.
+    pub fn try_push(
+        &self,
+        domain: &Domain<QueueLaw>,
+        seat: &mut Seat<QueueLaw>,
+        item: Strong,
+    ) -> Result<(), PushError>
+        requires rest { IsAtRest domain.now seat.old }
+        requires room { HasRoom seat.old.view.core }
+        requires queue { IsQueueOf self.now.head self.now.tail domain.now }
+        requires attached { IsAttached seat.old.view.client }
+        requires item { 0 < times item.slot seat.old.view.core.owned }
+        ensures events { IfOk result (λ done. PushesBy domain.now item.slot seat.old seat.new) }
+        ensures pushed { IfOk result (λ done. Pushes item.slot seat.old seat.new) }
+        ensures refused { OnErr result (PushesNothing seat.old seat.new) }
+        ensures back { IfErr result (λ error. back_of error ≡ item) }
+        ensures why { IfErr result (λ error. IsWhyUnpushed domain.now error seat.old) }
+        ensures attached { IsAttached seat.new.view.client }
+        ensures room { HasRoom seat.new.view.core }
+        ensures rest { IsAtRest domain.now seat.new }
+    {
+        push_item(domain, seat, self.tail, item)
+    }
+}
+
+/// Appends an item to the queue whose tail cell this is.
+fn push_item(
+    domain: &Domain<QueueLaw>,
+    seat: &mut Seat<QueueLaw>,
+    tail: u32,
+    item: Strong,
+) -> Result<(), PushError>
+    requires rest { IsAtRest domain.now seat.old }
+    requires room { HasRoom seat.old.view.core }
+    requires queue { domain.now.protocol.form ≡ Linked }
+    requires tail { tail ≡ domain.now.protocol.tail }
+    requires there { tail < domain.now.shape.cells }
+    requires attached { IsAttached seat.old.view.client }
+    requires item { 0 < times item.slot seat.old.view.core.owned }
+    ensures events { IfOk result (λ done. PushesBy domain.now item.slot seat.old seat.new) }
+    ensures pushed { IfOk result (λ done. Pushes item.slot seat.old seat.new) }
+    ensures refused { OnErr result (PushesNothing seat.old seat.new) }
+    ensures back { IfErr result (λ error. back_of error ≡ item) }
+    ensures why { IfErr result (λ error. IsWhyUnpushed domain.now error seat.old) }
+    ensures room { HasRoom seat.new.view.core }
+    ensures rest { IsAtRest domain.now seat.new }
+{
+    match push_copy(domain, seat, tail, &item) {
+        Ok(()) => {
+            drop_strong(domain, seat, item);
+            Ok(())
+        }
+        Err(NotPushed::Again { seen, now }) => Err(PushError::Again {
+            seen,
+            now,
+            back: item,
+        }),
+        Err(NotPushed::Refused(why)) => Err(PushError::Refused(PushRefused { why, back: item })),
+    }
+}
+
+/// Why a node wasn't pushed.
+enum NotPushed {
+    Again { seen: u64, now: u64 },
+    Refused(MakeError),
+}
+
+/// Pushes a reference of its own to the item.
+fn push_copy(
+    domain: &Domain<QueueLaw>,
+    seat: &mut Seat<QueueLaw>,
+    tail: u32,
+    item: &Strong,
+) -> Result<(), NotPushed>
+    requires rest { IsAtRest domain.now seat.old }
+    requires room { HasRoom seat.old.view.core }
+    requires queue { domain.now.protocol.form ≡ Linked }
+    requires tail { tail ≡ domain.now.protocol.tail }
+    requires there { tail < domain.now.shape.cells }
+    requires attached { IsAttached seat.old.view.client }
+    requires item { 0 < times item.now.slot seat.old.view.core.owned }
+    ensures events { IfOk result (λ done. PushesCopy domain.now item.now.slot
+        seat.old seat.new) }
+    ensures pushed { IfOk result (λ done. deeds_in seat.new.view.client
+        ≡ pushed_too (item_in seat.old item.now.slot) (deeds_in seat.old.view.client)) }
+    ensures refused { OnErr result (deeds_in seat.new.view.client
+        ≡ deeds_in seat.old.view.client) }
+    ensures leaves { Leaves seat.old.view.core.owned seat.old seat.new }
+    ensures why { IfErr result (λ not. IsWhyNotPushed domain.now not seat.old) }
+    ensures room { HasRoom seat.new.view.core }
+    ensures rest { IsAtRest domain.now seat.new }
+{
+    let node = match load_node(domain, seat, item) {
+        Ok(node) => node,
+        Err(error) => return Err(NotPushed::Refused(error)),
+    };
+    match push_node(domain, seat, tail, node) {
+        Ok(()) => Ok(()),
+        Err(LoadError::Moved { seen, now }) => Err(NotPushed::Again { seen, now }),
+        Err(LoadError::Spent) => Err(NotPushed::Refused(MakeError::AddsSpent)),
+    }
+}
+
+/// Makes a node with a reference of its own to the item.
+fn load_node(
+    domain: &Domain<QueueLaw>,
+    seat: &mut Seat<QueueLaw>,
+    item: &Strong,
+) -> Result<Strong, MakeError>
+    requires rest { IsAtRest domain.now seat.old }
+    requires room { HasRoom seat.old.view.core }
+    requires item { 0 < times item.now.slot seat.old.view.core.owned }
+    ensures events { IfOk result (λ node. LoadsNode domain.now item.now.slot node.slot
+        seat.old seat.new) }
+    ensures load { IfOk result (λ node. HasLoad node.slot seat.new) }
+    ensures carried { IfOk result (λ node. carried_item seat.new.view.client
+        ≡ item_in seat.old item.now.slot) }
+    ensures adds { seat.new.view.core.adds ≤ seat.old.view.core.adds + 2 }
+    ensures deeds { deeds_in seat.new.view.client ≡ deeds_in seat.old.view.client }
+    ensures leaves { Leaves (with_found (handle_by result) seat.old.view.core.owned)
+        seat.old seat.new }
+    ensures why { IfErr result (λ error. IsWhyRefused domain.now 1 error seat.old) }
+    ensures room { HasRoom seat.new.view.core }
+    ensures rest { IsAtRest domain.now seat.new }
+{
+    let node = make_node(domain, seat)?;
+    let Ok(copy) = copy_strong(domain, seat, item) else {
+        drop_strong(domain, seat, node);
+        return Err(MakeError::AddsSpent);
+    };
+    carry(domain, seat, node.slot(), copy);
+    Ok(node)
+}
+
+/// Links a node that carries its item behind the last one, or gives it up.
+fn push_node(
+    domain: &Domain<QueueLaw>,
+    seat: &mut Seat<QueueLaw>,
+    tail: u32,
+    node: Strong,
+) -> Result<(), LoadError>
+    requires rest { IsAtRest domain.now seat.old }
+    requires room { HasRoom seat.old.view.core }
+    requires queue { domain.now.protocol.form ≡ Linked }
+    requires tail { tail ≡ domain.now.protocol.tail }
+    requires there { tail < domain.now.shape.cells }
+    requires attached { IsAttached seat.old.view.client }
+    requires load { HasLoad node.slot seat.old }
+    ensures events { IfOk result (λ done. PushesNode domain.now node.slot seat.old seat.new) }
+    ensures pushed { IfOk result (λ done. deeds_in seat.new.view.client
+        ≡ pushed_too (carried_item seat.old.view.client) (deeds_in seat.old.view.client)) }
+    ensures refused { OnErr result (deeds_in seat.new.view.client
+        ≡ deeds_in seat.old.view.client) }
+    ensures leaves { Leaves (without node.slot seat.old.view.core.owned) seat.old seat.new }
+    ensures why { IfErr result (λ error. IsWhyUnlinked domain.now 3 error seat.old) }
+    ensures room { HasRoom seat.new.view.core }
+    ensures rest { IsAtRest domain.now seat.new }
+{
+    let last = match find_last(domain, seat, tail) {
+        Ok(last) => last,
+        Err(error) => {
+            drop_strong(domain, seat, node);
+            return Err(error);
+        }
+    };
+    if let Err(error) = link(domain, seat, last.slot(), node.slot()) {
+        drop_strong(domain, seat, node);
+        drop_strong(domain, seat, last);
+        return Err(error);
+    }
+    advance(domain, seat, tail, last.slot(), node);
+    drop_strong(domain, seat, last);
+    Ok(())
+}
