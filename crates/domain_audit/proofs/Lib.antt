@@ -1,0 +1,4 @@
+pub mod OneSeat
+pub mod Showing
+pub mod Learning
+pub mod Wholes
