@@ -2,3 +2,4 @@ pub mod OneSeat
 pub mod Showing
 pub mod Learning
 pub mod Wholes
+pub mod Trials
