@@ -1,0 +1,5 @@
+pub mod OneSeat
+pub mod Showing
+pub mod Learning
+pub mod Wholes
+pub mod Trials

@@ -1,0 +1,68 @@
+//! The audit of a domain, by its image.
+ghost use Rattle.std.specs.Prelude.{◌≡◌, [], IfOk, length};
+ghost use Rattle.deleter.specs.Weighing.{Weighs};
+ghost use Rattle.core_events.specs.Steps.{HasRoom};
+ghost use Rattle.domain_rule.specs.Views.{IsAlone};
+ghost use Rattle.control_word.specs.Resting.{IsAtRest};
+ghost use Rattle.domain_audit.specs.Audits.{IsWholeAudit, KnowsLone, StaysBut};
+
+use acquire_retire::{Domain, Kind, Seat};
+use deleter::Deleter;
+use heap_audit::{Audit, audit};
+use out_of_memory::OutOfMemory;
+use plain_protocol::Protocol;
+use std::alloc::Global;
+
+/// A seat that is alone learns that the core which it knows is one that events reach. A step tells that, and an image
+/// doesn't; and this is a step that every seat at rest may make, whatever the domain has: it announces a slot, and takes
+/// that back.
+fn learn<P: Protocol>(domain: &Domain<P>, seat: &mut Seat<P>)
+    requires rest { IsAtRest domain.now seat.old }
+    requires alone { IsAlone seat.old.view }
+    ensures stays { StaysBut P.Kind.fits domain.now seat.old seat.new }
+    ensures knows { KnowsLone P.Kind.fits domain.now seat.new }
+    ensures alone { IsAlone seat.new.view }
+    ensures rest { IsAtRest domain.now seat.new }
+{
+    // The question tells that a seat which is alone knows the whole core.
+    let _alone = domain.alone(seat);
+    let slot = domain.search_start(seat);
+    domain.announce(seat, 0, Kind::Strong, slot);
+    domain.release(seat, 0);
+}
+
+/// The audit of a domain, by a seat that is alone and has nothing dying: how many objects live, how many entries are
+/// deferred, how many objects are unreached, what all that live weigh, and a walk round a cycle of unreached ones, if
+/// there are any. `rank` has one number for each slot, and says only which cycle is found and where its walk begins.
+/// Where all ranks are different, one walk alone is the one that is found; of two slots of equal rank either may count
+/// as the least.
+///
+/// What it finds is so of the state that the domain shows before the call, and after it, since nothing changes but the
+/// seat's trail: two events, by which the seat announces a slot in its first word and takes that back.
+///
+/// It takes memory for the image and for a few numbers a slot. It makes one load for each word of the cells and slots,
+/// and goes over the slots six times at most, with one call of `weigh` for each object. `OutOfMemory` comes only of an
+/// allocation failure.
+pub fn audit_domain<P: Protocol, F: Fn(&[u64; 16]) -> u64>(
+    alloc: Global,
+    domain: &Domain<P>,
+    seat: &mut Seat<P>,
+    weigh: &Deleter<P::Kind, F>,
+    rank: &[u64],
+) -> Result<Audit, OutOfMemory>
+    requires rest { IsAtRest domain.now seat.old }
+    requires alone { IsAlone seat.old.view }
+    requires none_dying { seat.old.view.core.dying ≡ [] }
+    requires weighs { Weighs P.Kind.fits P.Kind.weight F.Fn weigh.now }
+    requires ranked { length rank.now ≡ domain.now.shape.slots }
+    ensures found { IfOk result
+        (IsWholeAudit P.Kind.fits P.Kind.weight rank.now seat.new.view) }
+    ensures stays { StaysBut P.Kind.fits domain.now seat.old seat.new }
+    ensures room { HasRoom seat.old.view.core → HasRoom seat.new.view.core }
+    ensures alone { IsAlone seat.new.view }
+    ensures rest { IsAtRest domain.now seat.new }
+{
+    learn(domain, seat);
+    let image = domain.image(alloc, seat)?;
+    audit(alloc, &image, weigh, rank)
+}
