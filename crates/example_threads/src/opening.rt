@@ -23,7 +23,10 @@ const WIDE: Quota = Quota {
 };
 
 /// A domain under this protocol, with two seats.
-pub fn open<P: Protocol + Drop>(alloc: Global, protocol: P) -> Result<(Domain<P>, Vec<Seat<P>>), Fault>
+pub fn open<P: Protocol + Drop>(
+    alloc: Global,
+    protocol: P,
+) -> Result<(Domain<P>, Vec<Seat<P>>), Fault>
     ensures protocol { IfOk result (λ opened. opened.0.protocol ≡ protocol) }
     ensures cells { IfOk result (λ opened. opened.0.shape.cells ≡ 1) }
     ensures weak_cells { IfOk result (λ opened. opened.0.shape.weak_cells ≡ 1) }
