@@ -35,13 +35,14 @@ use Rattle.acquire_retire.specs.Collecting.{move}
 use Rattle.acquire_retire.specs.Domains.{DomainState}
 use Rattle.acquire_retire.specs.Seats.{SeatState}
 use Rattle.acquire_retire.specs.Wholes.{core_known, known_core}
+use Rattle.control_word.specs.Moves.{KnowsStill}
 use Rattle.control_word.specs.Resting.{IsAtRest}
 use Rattle.control_word.proofs.Becoming.{Comes, bare, comes_more, comes_one, rest_after}
 use Rattle.control_word.proofs.Finding.{sound_before}
 use Rattle.protected_loads.proofs.Noting.{announced_not_valid, announced_same, release_keeps, second_stays, written, written_back}
 use Rattle.protected_loads.proofs.Telling.{four_notes}
 use Rattle.slot_store.proofs.Objects.{known_after, known_before, known_still, some_value, sound_later}
-use Rattle.domain_audit.specs.Audits.{KnowsLone, StaysBut, there_and_back}
+use Rattle.domain_audit.specs.Audits.{KnowsLone, Stays, there_and_back}
 
 -- what a seat knows of the whole state is what the core shows that it knows
 pub knows_shown : {V : Type 0} (z : Shape) (v : SeatView V) → v.core.shape ≡ z → IsSome v.whole
@@ -121,6 +122,12 @@ module _ {P V : Type 0} {fits : List ℕ → Type 0} (d : DomainState P) (s : Sl
           (move (act.Release 0) outcome.Plain ∷ []) announced old.view.core old.view.core old mid new
           goes comes
 
+      pub stays : Stays fits d old new
+      stays = (s, there_and_back_again.by)
+
+      pub knows_on : (new.view.client ≡ old.view.client) × KnowsStill old.view.core old new
+      knows_on = (there_and_back_again.client, there_and_back_again.knows)
+
       pub rests : IsAtRest d new
       rests =
           rest_after d (there_and_back s) old.view.core old new there_and_back_again.by refl rest
@@ -192,14 +199,8 @@ module _ {P V : Type 0} {fits : List ℕ → Type 0} (d : DomainState P) (s : Sl
               release.told.happened.fact.1;
         }
 
-        pub stays : StaysBut fits d old new
-        stays = record {
-          slot = s;
-          becomes = there_and_back_again.by;
-          client = there_and_back_again.client;
-          knows = there_and_back_again.knows;
-          whole =
-              knows_shown d.shape new.view rests.of_domain.1 knows_new
-              ∙ ap Some state_stays
-              ∙ sym (knows_shown d.shape old.view rest.of_domain.1 known);
-        }
+        pub whole_stays : (own_of new.view).whole ≡ (own_of old.view).whole
+        whole_stays =
+            knows_shown d.shape new.view rests.of_domain.1 knows_new
+            ∙ ap Some state_stays
+            ∙ sym (knows_shown d.shape old.view rest.of_domain.1 known)

@@ -18,7 +18,7 @@ use Rattle.heap_audit.specs.Reached.{HowMany, IsUnreached}
 use Rattle.heap_audit.specs.Walks.{IsFound, IsWalk}
 use Rattle.plain_audit.specs.Audits.{IsAudit}
 use Rattle.plain_audit.proofs.Auditing.{audit_made}
-use Rattle.domain_audit.specs.Audits.{IsWholeAudit, KnowsLone, StaysBut}
+use Rattle.domain_audit.specs.Audits.{IsWholeAudit, KnowsLone, Stays}
 use Rattle.domain_audit.specs.Lone.{CanBeAudited, IsLone}
 use Rattle.domain_audit.proofs.Learning.{knows_shown}
 use Rattle.domain_audit.proofs.OneSeat.{IsLoneState, audit_same, can_be_audited, is_heap, is_image, is_settled, with_one_seat}
@@ -29,13 +29,13 @@ some_same x y e = cc (e)
 
 module _ {P V : Type 0} {fits : List ℕ → Type 0} (d : DomainState P) (old seat : SeatState V) where
   -- what was so of the seat but for its trail is so
-  pub room_stays : StaysBut fits d old seat → HasRoom old.view.core → HasRoom seat.view.core
-  room_stays stays = subst HasRoom (sym stays.becomes.core)
+  pub room_stays : Stays fits d old seat → HasRoom old.view.core → HasRoom seat.view.core
+  room_stays stays = subst HasRoom (sym stays.1.core)
 
-  dying_stays : StaysBut fits d old seat → old.view.core.dying ≡ [] → seat.view.core.dying ≡ []
-  dying_stays stays none = ap (λ (v : CoreView). v.dying) stays.becomes.core ∙ none
+  dying_stays : Stays fits d old seat → old.view.core.dying ≡ [] → seat.view.core.dying ≡ []
+  dying_stays stays none = ap (λ (v : CoreView). v.dying) stays.1.core ∙ none
 
-  module _ (stays : StaysBut fits d old seat) (none_dying : old.view.core.dying ≡ [])
+  module _ (stays : Stays fits d old seat) (none_dying : old.view.core.dying ≡ [])
       (knows : KnowsLone fits d seat) (rest : IsAtRest d seat) (image : Heap)
       (whole : IsWholeImage fits seat.view image) where
     abbrev core : Core

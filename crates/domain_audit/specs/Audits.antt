@@ -12,13 +12,12 @@ use Rattle.core_events.specs.Shows.{shows}
 use Rattle.core_invariant.specs.Sound.{Sound}
 use Rattle.domain_rule.specs.declared.view.SeatView.{SeatView}
 use Rattle.domain_rule.specs.Rule.{OthersLeft}
-use Rattle.domain_rule.specs.Views.{own_of}
 use Rattle.acquire_retire.specs.Calls.{IsSameView, same_view}
 use Rattle.acquire_retire.specs.Collecting.{move}
 use Rattle.acquire_retire.specs.Domains.{DomainState}
 use Rattle.acquire_retire.specs.Seats.{SeatState}
 use Rattle.acquire_retire.specs.Wholes.{KnowsState, known_core}
-use Rattle.control_word.specs.Moves.{Becomes, KnowsStill}
+use Rattle.control_word.specs.Moves.{Becomes}
 use Rattle.heap_audit.specs.declared.finding.Audit.{Audit}
 use Rattle.plain_audit.specs.Audits.{IsAudit}
 
@@ -28,15 +27,10 @@ there_and_back s =
     move (act.Announce 0 Strong s) outcome.Plain ∷ move (act.Release 0) outcome.Plain ∷ []
 
 module _ {P V : Type 0} (fits : List ℕ → Type 0) (d : DomainState P) where
-  -- By these moves alone its trail has grown. It has what it had, and knows what it knew, of the
-  -- objects of its slots and of the whole state.
-  pub record StaysBut (old new : SeatState V) : Type 0 where
-    pub slot : SlotId
-    pub becomes :
-        Becomes fits d same_view IsSameView (there_and_back slot) old.view.core old new
-    pub client : new.view.client ≡ old.view.client
-    pub knows : KnowsStill old.view.core old new
-    pub whole : (own_of new.view).whole ≡ (own_of old.view).whole
+  -- by these moves the seat's trail has grown, and it has what it had
+  abbrev pub Stays : SeatState V → SeatState V → Type 0
+  Stays old new =
+      (s : SlotId) × Becomes fits d same_view IsSameView (there_and_back s) old.view.core old new
 
   -- What the view of the seat says is so of the core that it knows: seat 0 has this half of it, and
   -- every other seat has left. Events reach that core, and the payloads of its objects fit.

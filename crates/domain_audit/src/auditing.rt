@@ -2,9 +2,10 @@
 ghost use Rattle.std.specs.Prelude.{◌≡◌, [], IfOk, length};
 ghost use Rattle.deleter.specs.Weighing.{Weighs};
 ghost use Rattle.core_events.specs.Steps.{HasRoom};
-ghost use Rattle.domain_rule.specs.Views.{IsAlone};
+ghost use Rattle.domain_rule.specs.Views.{IsAlone, own_of};
+ghost use Rattle.control_word.specs.Moves.{KnowsStill};
 ghost use Rattle.control_word.specs.Resting.{IsAtRest};
-ghost use Rattle.domain_audit.specs.Audits.{IsWholeAudit, KnowsLone, StaysBut};
+ghost use Rattle.domain_audit.specs.Audits.{IsWholeAudit, KnowsLone, Stays};
 
 use acquire_retire::{Domain, Kind, Seat};
 use deleter::Deleter;
@@ -14,12 +15,15 @@ use plain_protocol::Protocol;
 use std::alloc::Global;
 
 /// A seat that is alone learns that the core which it knows is one that events reach. A step tells that, and an image
-/// doesn't; and this is a step that every seat at rest may make, whatever the domain has: it announces a slot, and takes
-/// that back.
+/// doesn't; and this is a step that every seat at rest may make, whatever the domain has: it announces a slot, and
+/// takes that back.
 fn learn<P: Protocol>(domain: &Domain<P>, seat: &mut Seat<P>)
     requires rest { IsAtRest domain.now seat.old }
     requires alone { IsAlone seat.old.view }
-    ensures stays { StaysBut P.Kind.fits domain.now seat.old seat.new }
+    ensures stays { Stays P.Kind.fits domain.now seat.old seat.new }
+    ensures client { seat.new.view.client ≡ seat.old.view.client }
+    ensures objects { KnowsStill seat.old.view.core seat.old seat.new }
+    ensures whole { (own_of seat.new.view).whole ≡ (own_of seat.old.view).whole }
     ensures knows { KnowsLone P.Kind.fits domain.now seat.new }
     ensures alone { IsAlone seat.new.view }
     ensures rest { IsAtRest domain.now seat.new }
@@ -57,7 +61,10 @@ pub fn audit_domain<P: Protocol, F: Fn(&[u64; 16]) -> u64>(
     requires ranked { length rank.now ≡ domain.now.shape.slots }
     ensures found { IfOk result
         (IsWholeAudit P.Kind.fits P.Kind.weight rank.now seat.new.view) }
-    ensures stays { StaysBut P.Kind.fits domain.now seat.old seat.new }
+    ensures stays { Stays P.Kind.fits domain.now seat.old seat.new }
+    ensures client { seat.new.view.client ≡ seat.old.view.client }
+    ensures objects { KnowsStill seat.old.view.core seat.old seat.new }
+    ensures whole { (own_of seat.new.view).whole ≡ (own_of seat.old.view).whole }
     ensures room { HasRoom seat.old.view.core → HasRoom seat.new.view.core }
     ensures alone { IsAlone seat.new.view }
     ensures rest { IsAtRest domain.now seat.new }

@@ -1,4 +1,4 @@
-use Rattle.domain_audit.proofs.Learning.{learns, may_announce, rests, stays, stays_alone}
+use Rattle.domain_audit.proofs.Learning.{knows_on, learns, may_announce, rests, stays, stays_alone, whole_stays}
 use Rattle.domain_audit.proofs.auditing.learn.Goals as goal
 
 pub announce-requires-clause-may : goal.announce-requires-clause-may
@@ -9,6 +9,24 @@ announce-requires-clause-may g c =
 pub returns-clause-stays : goal.returns-clause-stays
 returns-clause-stays g c =
     stays c.args.domain.now c.search_start-slot.result c.args.seat.now c.announce.new.seat
+    c.release.new.seat c.requires.rest c.announce.result c.announce.ensures c.release.result
+    c.release.ensures
+
+pub returns-clause-client : goal.returns-clause-client
+returns-clause-client g c =
+    (knows_on c.args.domain.now c.search_start-slot.result c.args.seat.now c.announce.new.seat
+    c.release.new.seat c.requires.rest c.announce.result c.announce.ensures c.release.result
+    c.release.ensures).0
+
+pub returns-clause-objects : goal.returns-clause-objects
+returns-clause-objects g c =
+    (knows_on c.args.domain.now c.search_start-slot.result c.args.seat.now c.announce.new.seat
+    c.release.new.seat c.requires.rest c.announce.result c.announce.ensures c.release.result
+    c.release.ensures).1
+
+pub returns-clause-whole : goal.returns-clause-whole
+returns-clause-whole g c =
+    whole_stays c.args.domain.now c.search_start-slot.result c.args.seat.now c.announce.new.seat
     c.release.new.seat c.requires.rest c.announce.result c.announce.ensures c.release.result
     c.release.ensures c.requires.alone (c.alone-alone.ensures.knows c.requires.alone)
 
