@@ -4,9 +4,9 @@ use Rattle.acquire_retire.specs.Seats.{SeatState}
 use Rattle.queue_law.specs.declared.view.View.{View}
 use Rattle.queue_protocol.specs.declared.law.QueueLaw.{QueueLaw}
 use Rattle.linked_queue.specs.declared.pushing.NotPushed.{NotPushed}
-use Rattle.linked_queue.specs.declared.pushing.NotPushed.TheVariants as not
+use Rattle.linked_queue.specs.declared.pushing.NotPushed.TheVariants as failed
 use Rattle.linked_queue.specs.Pushes.{IsWhyRefused, PushDiffers}
 
 abbrev pub IsWhyNotPushed : DomainState QueueLaw → NotPushed → SeatState View → Type 0
-IsWhyNotPushed d (not.Again seen now) old = PushDiffers d seen now
-IsWhyNotPushed d (not.Refused error) old = IsWhyRefused d 5 error old
+IsWhyNotPushed d (failed.Again seen now) old = PushDiffers d seen now
+IsWhyNotPushed d (failed.Refused error) old = IsWhyRefused d 5 error old
