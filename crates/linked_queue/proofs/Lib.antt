@@ -13,3 +13,4 @@ pub mod Carryings
 pub mod Linkings
 pub mod Pushings
 pub mod Attached
+pub mod HandedBack

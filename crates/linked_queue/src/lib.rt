@@ -31,6 +31,8 @@ mod shutting;
 mod taking;
 #[cfg(test)]
 mod tests;
+#[cfg(test)]
+mod tests_threads;
 mod unless_ripe;
 
 pub use counted_handles::Strong;

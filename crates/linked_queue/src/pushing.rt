@@ -48,6 +48,8 @@ impl LinkedQueue {
         ensures pushed { IfOk result (λ done. Pushes item.slot seat.old seat.new) }
         ensures refused { OnErr result (PushesNothing seat.old seat.new) }
         ensures back { IfErr result (λ error. back_of error ≡ item) }
+        ensures owned { IfErr result (λ error.
+            0 < times (back_of error).slot seat.new.view.core.owned) }
         ensures why { IfErr result (λ error. IsWhyUnpushed domain.now error seat.old) }
         ensures attached { IsAttached seat.new.view.client }
         ensures room { HasRoom seat.new.view.core }

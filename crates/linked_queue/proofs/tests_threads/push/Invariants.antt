@@ -1,0 +1,11 @@
+use Rattle.std.specs.Prelude.{◌<◌}
+use Rattle.plain_state.specs.Lists.{times}
+use Rattle.core_events.specs.Steps.{HasRoom}
+use Rattle.control_word.specs.Resting.{IsAtRest}
+use Rattle.linked_queue.specs.Queues.{IsAttached}
+use Rattle.linked_queue.proofs.tests_threads.push.Given as goal
+
+abbrev pub invariant-loop-try : goal.invariant-loop-try
+invariant-loop-try g l =
+    IsAtRest l.domain l.seat × HasRoom l.seat.view.core × IsAttached l.seat.view.client
+    × (0 < times l.item.slot l.seat.view.core.owned)
