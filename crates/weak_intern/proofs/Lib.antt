@@ -1,0 +1,6 @@
+pub mod Going
+pub mod Learnt
+pub mod Seen
+pub mod Raised
+pub mod Compared
+pub mod Heads

@@ -1,0 +1,4 @@
+pub mod Steps
+pub mod Learning
+pub mod Directories
+pub mod Seeing
