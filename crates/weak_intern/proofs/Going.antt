@@ -1,5 +1,5 @@
 -- Trails that go on, steps of a call, and what several calls leave.
-use Rattle.std.proofs.Common.{◌≡◌, ℕ, ◌+◌, ◌<◌, List, [], ◌∷◌, ◌++◌, refl, ap, sym, ◌∙◌, subst, arith, append_assoc}
+use Rattle.std.proofs.Common.{◌≡◌, ℕ, List, [], ◌++◌, refl, ap, sym, ◌∙◌, subst, append_assoc}
 use Rattle.std.proofs.lemmas.List.{append-nil}
 use Rattle.plain_state.specs.declared.act.PlainAct.{PlainAct}
 use Rattle.plain_state.specs.declared.slot.SlotId.{SlotId}
@@ -16,7 +16,6 @@ use Rattle.core_events.specs.Views.{Holds}
 use Rattle.control_word.specs.Moves.{KnowsStill}
 use Rattle.protected_loads.proofs.Telling.{holds_has}
 use Rattle.domain_rule.specs.Told.{Happened}
-use Rattle.domain_rule.specs.Views.{object_in}
 use Rattle.acquire_retire.specs.Calls.{Steps}
 use Rattle.acquire_retire.specs.Domains.{DomainState}
 use Rattle.acquire_retire.specs.Seats.{SeatState}

@@ -1,5 +1,5 @@
 -- The payload of a short text is its text.
-use Rattle.std.proofs.Common.{◌≡◌, ℕ, ◌<◌, ◌≤◌, ◌-◌, List, [], ◌∷◌, length, take, drop, refl, sym, ap, ◌∙◌, arith}
+use Rattle.std.proofs.Common.{ℕ, ◌≤◌, List, [], ◌∷◌, length, sym, ap, ◌∙◌, arith}
 use Rattle.std.proofs.lemmas.List.{length-drop, take_all}
 use Rattle.plain_state.specs.Records.{IsRecordOf, eight_bytes, word_of_bytes}
 use Rattle.directory_law.specs.Bytes.{IsTextOf}

@@ -1,18 +1,16 @@
 -- What a seat has learnt it knows later too.
-use Rattle.std.proofs.Common.{◌≡◌, inl, inr, ⊎_elim, ℕ, zero, suc, List, ◌∷◌, refl, ◌∙◌, subst, sym}
+use Rattle.std.proofs.Common.{inl, inr, ⊎_elim, ℕ, zero, suc, refl, ◌∙◌}
 use Rattle.std.specs.Prelude.{Option, Some, None}
 use Rattle.plain_state.specs.declared.act.PlainAct.{PlainAct}
 use Rattle.plain_state.specs.declared.slot.SlotId.{SlotId}
 use Rattle.plain_protocol.specs.Owns.{Object, OwnPart}
-use Rattle.directory_law.specs.declared.view.Note.{Note}
-use Rattle.directory_law.specs.declared.view.Ran.{Ran}
 use Rattle.directory_law.specs.declared.view.Seen.{Seen}
 use Rattle.directory_law.specs.declared.view.View.{View}
 use Rattle.directory_law.specs.Payloads.{Text}
-use Rattle.directory_law.specs.Views.{In, note}
+use Rattle.directory_law.specs.Views.{note}
 use Rattle.directory_law.specs.Cells.{Area}
 use Rattle.directory_law.specs.Lessons.{see_next, sees}
-use Rattle.directory_law.specs.Steps.{id, place_of, weak_index}
+use Rattle.directory_law.specs.Steps.{id}
 use Rattle.directory_law.specs.Walks.{IsOther, Passes, Walked}
 use Rattle.weak_intern.specs.Learning.{Learns}
 

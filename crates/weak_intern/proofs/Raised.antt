@@ -1,23 +1,17 @@
 -- What an upgrade with the deed UpgradeHead asks, and what it leaves of a seat.
-use Rattle.std.proofs.Common.{◌≡◌, inl, inr, ℕ, suc, zero, ◌+◌, ◌<◌, ◌≤◌, Bool, true, false, List, [], ◌∷◌, ◌++◌, refl, sym, ap, subst, ◌∙◌, arith, Option, Some, None}
+use Rattle.std.proofs.Common.{◌≡◌, inl, inr, ℕ, ◌+◌, ◌<◌, Bool, true, false, ◌∷◌, refl, sym, ap, subst, ◌∙◌, arith, Some, None}
 use Rattle.std.specs.Prelude.{Err, IfOk, Ok, Result, ◌==◌, if◌then◌else◌, nat_lt}
-use Rattle.std.proofs.lemmas.Bool.Decides.{nat_tests}
-use Rattle.plain_state.specs.declared.act.PlainAct.TheVariants as plain
 use Rattle.plain_state.specs.declared.slot.SlotId.{SlotId}
 use Rattle.plain_state.specs.Lists.{times}
-use Rattle.plain_state.specs.State.{Plain}
-use Rattle.plain_protocol.specs.Owns.{HasSlot, Object, OwnPart}
+use Rattle.plain_protocol.specs.Owns.{HasSlot, Object}
 use Rattle.core_events.specs.declared.act.Act.TheVariants as act
-use Rattle.core_events.specs.declared.outcome.Outcome.{Outcome}
 use Rattle.core_events.specs.declared.outcome.Outcome.TheVariants as outcome
 use Rattle.core_events.specs.declared.view.CoreView.{CoreView}
-use Rattle.core_events.specs.declared.view.Move.{Move}
 use Rattle.core_events.specs.Runs.{after}
 use Rattle.core_events.specs.Shows.{show_seat, shows}
-use Rattle.core_events.specs.Views.{Holds}
 use Rattle.counter_word.specs.Words.{ZERO}
 use Rattle.domain_rule.specs.Views.{object_in, own_of}
-use Rattle.acquire_retire.specs.Calls.{IsReady, Steps}
+use Rattle.acquire_retire.specs.Calls.{IsReady}
 use Rattle.acquire_retire.specs.Domains.{DomainState}
 use Rattle.acquire_retire.specs.Seats.{SeatState}
 use Rattle.control_word.specs.declared.upgrading.UpgradeError.{UpgradeError}
@@ -31,12 +25,12 @@ use Rattle.directory_law.specs.Bytes.{IsPiece}
 use Rattle.directory_law.specs.Views.{In, note}
 use Rattle.directory_law.specs.Payloads.{IsText, Text}
 use Rattle.directory_law.specs.Law.{IsBound}
-use Rattle.directory_law.specs.Lessons.{HasSeen, UpgradeReady, UpgradeTells, starts_at, upgrade_next}
+use Rattle.directory_law.specs.Lessons.{UpgradeReady, UpgradeTells, starts_at, upgrade_next}
 use Rattle.directory_law.specs.Steps.{life_in, life_of, payload_in, payload_of}
 use Rattle.directory_protocol.specs.declared.law.DirectoryLaw.{DirectoryLaw}
 use Rattle.weak_intern.specs.Directories.{HasQuota, area_of}
 use Rattle.weak_intern.specs.Learning.{Learns}
-use Rattle.weak_intern.specs.Seeing.{BeginsText, HasSeenIn, seen_in}
+use Rattle.weak_intern.specs.Seeing.{BeginsText, HasSeenIn}
 use Rattle.weak_intern.specs.Steps.{AtStep, GoesOn}
 use Rattle.weak_intern.proofs.Going.{also, at_step, to_later}
 use Rattle.weak_intern.proofs.Learnt.{learns_none}

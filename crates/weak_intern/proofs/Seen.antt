@@ -1,20 +1,16 @@
 -- What a load of a cell with the deed SeeHead asks, and what it leaves of a seat.
-use Rattle.std.proofs.Common.{◌≡◌, inl, inr, ℕ, suc, zero, ◌+◌, ◌-◌, ◌<◌, List, [], ◌∷◌, ◌++◌, refl, sym, ap, subst, ◌∙◌, arith, append_assoc, Option, Some, None}
+use Rattle.std.proofs.Common.{◌≡◌, inl, inr, ℕ, ◌+◌, ◌-◌, ◌<◌, List, [], ◌∷◌, ◌++◌, refl, sym, ap, subst, ◌∙◌, arith, append_assoc, Option, Some, None}
 use Rattle.std.specs.Prelude.{if◌then◌else◌}
 use Rattle.plain_state.specs.declared.act.EventPlace.TheVariants.{WeakCell}
 use Rattle.plain_state.specs.declared.act.PlainAct.TheVariants as plain
 use Rattle.plain_state.specs.declared.slot.SlotId.{SlotId}
-use Rattle.plain_state.specs.Lists.{times}
 use Rattle.plain_state.specs.Places.{content}
-use Rattle.plain_state.specs.State.{Plain}
-use Rattle.plain_protocol.specs.Owns.{HasSlot, Object, OwnPart}
 use Rattle.core_events.specs.declared.act.Act.TheVariants as act
 use Rattle.core_events.specs.declared.outcome.Outcome.TheVariants as outcome
 use Rattle.core_events.specs.declared.view.CoreView.{CoreView}
 use Rattle.core_events.specs.declared.view.Move.{Move}
 use Rattle.core_events.specs.Runs.{after}
-use Rattle.core_events.specs.Shows.{show_seat, shows}
-use Rattle.core_events.specs.Views.{Holds}
+use Rattle.core_events.specs.Shows.{shows}
 use Rattle.domain_rule.specs.Views.{object_in, own_of}
 use Rattle.acquire_retire.specs.Calls.{IsSameView, same_view}
 use Rattle.acquire_retire.specs.Domains.{DomainState}
@@ -27,17 +23,14 @@ use Rattle.protected_loads.specs.Retries.{IsReadyToRetry, Loses, Lost, LoadsAtLa
 use Rattle.acquire_retire.specs.Collecting.{move}
 use Rattle.control_word.specs.Calls.{with_weak}
 use Rattle.protected_loads.specs.Loads.{FindsNull, announced_by}
-use Rattle.protected_loads.specs.References.{Loads, Refers, loaded_by}
+use Rattle.protected_loads.specs.References.{Refers, loaded_by}
 use Rattle.protected_loads.proofs.Learning.{checked, client_found, client_moved, client_null, has_found, known_found}
-use Rattle.protected_loads.proofs.Telling.{holds_has}
 use Rattle.directory_law.specs.declared.view.View.{View}
-use Rattle.directory_law.specs.Payloads.{Text}
 use Rattle.directory_law.specs.Bytes.{IsPiece}
 use Rattle.directory_law.specs.Views.{In}
 use Rattle.directory_law.specs.Cells.{cell, on}
 use Rattle.directory_law.specs.Law.{NoneBound}
 use Rattle.directory_law.specs.Lessons.{SeeReady, SeeTells, see_next, sees}
-use Rattle.directory_law.specs.Walks.{Walked}
 use Rattle.directory_protocol.specs.declared.law.DirectoryLaw.{DirectoryLaw}
 use Rattle.weak_intern.specs.Directories.{area_of}
 use Rattle.weak_intern.specs.Learning.{Learns}

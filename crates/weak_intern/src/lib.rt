@@ -6,7 +6,8 @@
 //! the head that stands there, takes a strong one in its place, and compares its payload with that of the text. What
 //! it learns it notes in its view, as the law asks, so what the walk found stays true.
 //!
-//! It isn't promised that a call which may wait returns. A whole walk isn't a call here yet, nor the making of a record.
+//! It isn't promised that a call which may wait returns. A whole walk isn't a call here yet, nor the making of a
+//! record.
 //!
 //! ```text
 //! let directory = Directory::over(0, 10);                              // weak cells 0 to 9
