@@ -1,5 +1,5 @@
 -- Trails that go on, steps of a call, and what several calls leave.
-use Rattle.std.proofs.Common.{◌≡◌, ℕ, List, [], ◌++◌, refl, ap, sym, ◌∙◌, subst, append_assoc}
+use Rattle.std.proofs.Common.{◌≡◌, ℕ, ◌+◌, ◌≤◌, List, [], ◌++◌, refl, ap, sym, ◌∙◌, subst, arith, append_assoc}
 use Rattle.std.proofs.lemmas.List.{append-nil}
 use Rattle.plain_state.specs.declared.act.PlainAct.{PlainAct}
 use Rattle.plain_state.specs.declared.slot.SlotId.{SlotId}
@@ -12,10 +12,12 @@ use Rattle.core_events.specs.declared.view.CoreView.{CoreView}
 use Rattle.core_events.specs.declared.view.Move.{Move}
 use Rattle.core_events.specs.Shows.{shows}
 use Rattle.core_events.specs.Steps.{moved}
-use Rattle.core_events.specs.Views.{Holds}
+use Rattle.core_events.specs.Views.{Holds, held_times}
+use Rattle.core_invariant.proofs.Kit.{times_none}
 use Rattle.control_word.specs.Moves.{KnowsStill}
 use Rattle.protected_loads.proofs.Telling.{holds_has}
 use Rattle.domain_rule.specs.Told.{Happened}
+use Rattle.domain_rule.specs.Views.{object_in}
 use Rattle.acquire_retire.specs.Calls.{Steps}
 use Rattle.acquire_retire.specs.Domains.{DomainState}
 use Rattle.acquire_retire.specs.Seats.{SeatState}
@@ -108,8 +110,19 @@ also d fact more a b follows s =
       till = s.till;
     }
 
--- WHAT IS LEFT
+-- WHAT IS LEFT. What a seat holds is told by its lists and what it has beside
+pub holds_by : (x : SlotId) (v w : CoreView) → aside v ≡ aside w
+    → times x v.owned + times x v.weaks ≤ times x w.owned + times x w.weaks
+    → Holds v x → Holds w x
+holds_by x v w same is held =
+    let e = ap (λ (u : CoreView). held_times x u) same in
+    let none = times_none x in omega arith
+
 module _ {V : Type 0} where
+  pub seat_same : (a b : SeatState V) → aside b.view.core ≡ aside a.view.core
+      → b.view.core.seat ≡ a.view.core.seat
+  seat_same a b same = ap (λ (u : CoreView). u.seat) same
+
   pub leaves_none : (a : SeatState V) → Leaves a.view.core.owned a.view.core.weaks a a
   leaves_none a = record {
     owns = λ x. refl;
@@ -156,4 +169,18 @@ module _ {V : Type 0} where
     same = ap aside core ∙ same;
     goes = (ms, ap (λ (u : CoreView). u.trail) core);
     knows = λ x was is. knows x (holds_has a.view.core x was);
+  }
+
+  -- the seat has come to have v, but for its trail, and knows what it knew of what v holds
+  pub leaves_less : (a b : SeatState V) (v : CoreView) (ms : List Move)
+      → b.view.core ≡ record v { trail = a.view.core.trail ++ ms }
+      → aside v ≡ aside a.view.core
+      → ((x : SlotId) → Holds v x → object_in b.view x ≡ object_in a.view x)
+      → Leaves v.owned v.weaks a b
+  leaves_less a b v ms core same knows = record {
+    owns = λ x. ap (λ (u : CoreView). times x u.owned) core;
+    weakly = λ x. ap (λ (u : CoreView). times x u.weaks) core;
+    same = ap aside core ∙ same;
+    goes = (ms, ap (λ (u : CoreView). u.trail) core);
+    knows = λ x was is. knows x (subst (λ (u : CoreView). Holds u x) core is);
   }

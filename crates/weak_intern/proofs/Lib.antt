@@ -4,3 +4,5 @@ pub mod Seen
 pub mod Raised
 pub mod Compared
 pub mod Heads
+pub mod Meeting
+pub mod Found

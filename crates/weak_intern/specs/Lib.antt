@@ -2,3 +2,4 @@ pub mod Steps
 pub mod Learning
 pub mod Directories
 pub mod Seeing
+pub mod Walking

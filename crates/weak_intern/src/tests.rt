@@ -2,7 +2,7 @@ ghost use Rattle.std.specs.Prelude.{◌≡◌, IfOk};
 ghost use Rattle.core_events.specs.Steps.{HasRoom};
 ghost use Rattle.control_word.specs.Resting.{IsAtRest};
 
-use crate::{Directory, cell_on, hash_of, see};
+use crate::{Directory, cell_on, find, hash_of, see};
 use acquire_retire::{Domain, OpenError, Quota, Seat, Shape, open_domain};
 use directory_protocol::DirectoryLaw;
 use std::test::Fail;
@@ -38,6 +38,16 @@ fn a_cell_in_which_nothing_was_bound_is_null(rt: HostRuntime) -> Result<(), Fail
     let directory = Directory::over(0, 10);
     let Ok(None) = see(&rt, &domain, &mut seat, &directory, 5) else {
         panic!(rt; "null")
+    };
+    Ok(())
+}
+
+#[test]
+fn a_text_that_was_never_interned_is_not_found(rt: HostRuntime) -> Result<(), Fail> {
+    let (domain, mut seat) = open_alone(&rt)?;
+    let directory = Directory::over(0, 10);
+    let Ok(None) = find(&rt, &domain, &mut seat, &directory, b"ab") else {
+        panic!(rt; "found")
     };
     Ok(())
 }
