@@ -1,6 +1,7 @@
 ghost use Rattle.std.specs.Prelude.{◌≡◌, IfOk};
 ghost use Rattle.core_events.specs.Steps.{HasRoom};
 ghost use Rattle.control_word.specs.Resting.{IsAtRest};
+ghost use Rattle.weak_intern.specs.Directories.{HasQuota};
 
 use crate::{Directory, cell_on, find, hash_of, see};
 use acquire_retire::{Domain, OpenError, Quota, Seat, Shape, open_domain};
@@ -17,7 +18,7 @@ const SHAPE: Shape = Shape {
 
 /// A domain of one seat with a directory of ten cells, and that seat.
 fn open_alone(rt: &HostRuntime) -> Result<(Domain<DirectoryLaw>, Seat<DirectoryLaw>), OpenError>
-    ensures { IfOk result (λ r. IsAtRest r.0 r.1 × HasRoom r.1.view.core
+    ensures { IfOk result (λ r. IsAtRest r.0 r.1 × HasRoom r.1.view.core × HasQuota r.1
         × (r.0.protocol.first ≡ 0) × (r.0.protocol.cells ≡ 10) × (r.0.shape.weak_cells ≡ 10)) }
 {
     let quota = Quota { makes: 1, adds: 7 };
