@@ -1,0 +1,5 @@
+pub mod Steps
+pub mod Learning
+pub mod Directories
+pub mod Seeing
+pub mod Walking

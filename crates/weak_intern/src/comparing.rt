@@ -1,0 +1,35 @@
+//! Whether a head has a text.
+ghost use Rattle.std.specs.Prelude.{◌≡◌, ◌↔◌, length, true};
+ghost use Rattle.core_events.specs.Steps.{HasRoom};
+ghost use Rattle.core_events.specs.Views.{Holds};
+ghost use Rattle.control_word.specs.Resting.{IsAtRest};
+ghost use Rattle.domain_rule.specs.Views.{object_in};
+ghost use Rattle.weak_intern.specs.Steps.{Leaves};
+
+use acquire_retire::{Domain, Seat, SlotId};
+use directory_protocol::DirectoryLaw;
+use slot_store::read;
+
+/// Whether the object in a slot that the seat holds has this payload. At most 16 steps.
+pub fn is_payload(
+    domain: &Domain<DirectoryLaw>,
+    seat: &mut Seat<DirectoryLaw>,
+    slot: SlotId,
+    payload: &[u64; 16],
+) -> bool
+    requires rest { IsAtRest domain.now seat.old }
+    requires room { HasRoom seat.old.view.core }
+    requires holds { Holds seat.old.view.core slot }
+    ensures same { (result ≡ true) ↔ ((object_in seat.old.view slot).payload ≡ payload.now) }
+    ensures leaves { Leaves seat.old.view.core.owned seat.old.view.core.weaks seat.old seat.new }
+    ensures client { seat.new.view.client ≡ seat.old.view.client }
+    ensures room { HasRoom seat.new.view.core }
+    ensures rest { IsAtRest domain.now seat.new }
+{
+    for word in 0..16u32 {
+        if read(domain, seat, slot, word) != payload[word as usize] {
+            return false;
+        }
+    }
+    true
+}

@@ -1,0 +1,54 @@
+ghost use Rattle.std.specs.Prelude.{◌≡◌, IfOk};
+ghost use Rattle.core_events.specs.Steps.{HasRoom};
+ghost use Rattle.control_word.specs.Resting.{IsAtRest};
+ghost use Rattle.weak_intern.specs.Directories.{HasQuota};
+
+use crate::{Directory, cell_on, find, hash_of, see};
+use acquire_retire::{Domain, OpenError, Quota, Seat, Shape, open_domain};
+use directory_protocol::DirectoryLaw;
+use std::test::Fail;
+
+const SHAPE: Shape = Shape {
+    seats: 1,
+    slots: 1,
+    cells: 0,
+    weak_cells: 10,
+    batch: 1,
+};
+
+/// A domain of one seat with a directory of ten cells, and that seat.
+fn open_alone(rt: &HostRuntime) -> Result<(Domain<DirectoryLaw>, Seat<DirectoryLaw>), OpenError>
+    ensures { IfOk result (λ r. IsAtRest r.0 r.1 × HasRoom r.1.view.core × HasQuota r.1
+        × (r.0.protocol.first ≡ 0) × (r.0.protocol.cells ≡ 10) × (r.0.shape.weak_cells ≡ 10)) }
+{
+    let quota = Quota { makes: 1, adds: 7 };
+    let law = DirectoryLaw::new(0, 10, Vec::new(rt.alloc()));
+    let (domain, mut seats) = open_domain(rt.alloc(), SHAPE, &[quota], law)?;
+    Ok((domain, seats.remove(0)))
+}
+
+#[test]
+fn the_walk_of_ab_begins_at_cell_5_and_goes_on_around_the_end(rt: HostRuntime) {
+    assert_eq!(rt; cell_on(hash_of(b"ab"), 0, 10), 5);
+    assert_eq!(rt; cell_on(hash_of(b"ab"), 5, 10), 0);
+}
+
+#[test]
+fn a_cell_in_which_nothing_was_bound_is_null(rt: HostRuntime) -> Result<(), Fail> {
+    let (domain, mut seat) = open_alone(&rt)?;
+    let directory = Directory::over(0, 10);
+    let Ok(None) = see(&rt, &domain, &mut seat, &directory, 5) else {
+        panic!(rt; "null")
+    };
+    Ok(())
+}
+
+#[test]
+fn a_text_that_was_never_interned_is_not_found(rt: HostRuntime) -> Result<(), Fail> {
+    let (domain, mut seat) = open_alone(&rt)?;
+    let directory = Directory::over(0, 10);
+    let Ok(None) = find(&rt, &domain, &mut seat, &directory, b"ab") else {
+        panic!(rt; "found")
+    };
+    Ok(())
+}
