@@ -60,14 +60,8 @@ pub(crate) fn take(
     let Ok(given) = copy_strong(domain, seat, &Strong::of(sight.next)) else {
         return Err(PopError::Spent);
     };
-    let lost = match try_replace(
-        domain,
-        seat,
-        Place::Cell(head),
-        Some(sight.front),
-        Some(given),
-        TakeItem,
-    ) {
+    let cell = Place::Cell(head);
+    let lost = match try_replace(domain, seat, cell, Some(sight.front), Some(given), TakeItem) {
         Ok(()) => return Ok(()),
         Err(lost) => lost,
     };

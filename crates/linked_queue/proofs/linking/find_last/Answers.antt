@@ -1,4 +1,4 @@
-use Rattle.std.proofs.Common.{false, inl, inr, ◌++◌, [], ◌∷◌, refl, ap, subst, arith}
+use Rattle.std.proofs.Common.{rules, false, inl, inr, ◌++◌, [], ◌∷◌, refl, ap, subst, arith}
 use Rattle.std.specs.Prelude.{None, Option, Some}
 use Rattle.core_events.specs.declared.view.CoreView.{CoreView}
 use Rattle.counted_handles.specs.Handles.{Handle}
@@ -62,8 +62,8 @@ drop_strong-requires-in-Err-helped-clause-owned c =
     let some' = some_found c.in-Ok-Some-see_behind.next.slot c.args.seat.now.view.core.owned in
     omega arith
 
-pub returns-in-Ok-clause-sees : goal.returns-in-Ok-clause-sees
-returns-in-Ok-clause-sees c =
+pub returns-in-Ok : goal.returns-in-Ok
+returns-in-Ok c =
     let gains = subst (λ (o : Option Handle). Leaves
     (with_found (named o) c.args.seat.now.view.core.owned) c.args.seat.now c.load_tail.new.seat)
     c.in-Ok-Some.field-0-is c.in-Ok-Some.ensures.leaves in
@@ -80,33 +80,45 @@ returns-in-Ok-clause-sees c =
     let all = through c.in-Ok-Some.old.slot (Some c.in-Ok-Some-see_behind.next.slot)
     c.args.seat.now c.load_tail.new.seat c.help-helped.new.seat c.drop_strong-2.new.seat gains goes
     gives in
-    let next = c.in-Ok-Some-see_behind.next.slot in
-    let at = all.owns next in
-    let some' = some_found next c.args.seat.now.view.core.owned in
-    let before = c.in-Ok.ensures.sees.owns in
-    tail_still next c.help-helped.new.seat c.drop_strong-2.new.seat c.in-Ok.ensures.sees
-    (omega arith) (gives.knows next (omega arith) (omega arith))
-    (ap (λ (v : CoreView). v.shape) gives.same) c.drop_strong-2.ensures.client
-
-pub returns-in-Ok-clause-leaves : goal.returns-in-Ok-clause-leaves
-returns-in-Ok-clause-leaves c =
-    let gains = subst (λ (o : Option Handle). Leaves
-    (with_found (named o) c.args.seat.now.view.core.owned) c.args.seat.now c.load_tail.new.seat)
-    c.in-Ok-Some.field-0-is c.in-Ok-Some.ensures.leaves in
-    let more = subst (λ (o : Option Handle). Leaves
-    (with_found (named o) c.load_tail.new.seat.view.core.owned) c.load_tail.new.seat
-    c.see_behind.new.seat)
-    c.in-Ok-Some-see_behind.field-0-is c.in-Ok-Some-see_behind.ensures.leaves in
-    let goes = leaves_on
-    (c.load_tail.new.seat.view.core.owned ++ c.in-Ok-Some-see_behind.next.slot ∷ [])
-    c.load_tail.new.seat c.see_behind.new.seat c.help-helped.new.seat more
-    c.help-helped.ensures.leaves in
-    let gives = drop_leaves c.in-Ok-Some.old.slot c.help-helped.new.seat c.drop_strong-2.new.seat
-    c.drop_strong-2.ensures.dropped c.drop_strong-2.ensures.objects in
-    let all = through c.in-Ok-Some.old.slot (Some c.in-Ok-Some-see_behind.next.slot)
-    c.args.seat.now c.load_tail.new.seat c.help-helped.new.seat c.drop_strong-2.new.seat gains goes
-    gives in
-    all
+    record {
+      events = record {
+        first = c.in-Ok-Some.old.slot;
+        seen = c.load_tail.new.seat;
+        loads = subst (λ (o : Option Handle). Loads IsNodePayload c.args.domain.now
+            (Cell c.args.domain.now.protocol.tail) (learn_next false)
+            (TailTells (ends_of c.args.domain.now)) (named o) c.args.seat.now c.load_tail.new.seat)
+            c.in-Ok-Some.field-0-is c.in-Ok-Some.ensures.loads;
+        which = inr (record {
+          seen = c.see_behind.new.seat;
+          helped = c.help-helped.new.seat;
+          loads = subst (λ (x : Option Handle × SlotId). Loads IsNodePayload c.args.domain.now
+              (Field x.1 0) next_next (NextTells (ends_of c.args.domain.now)) (named x.0)
+              c.load_tail.new.seat c.see_behind.new.seat)
+              (λ i. (c.in-Ok-Some-see_behind.field-0-is i, c.slot.ensures i)) c.in-Ok-Some-see_behind.ensures.loads;
+          helps = subst (λ (s : SlotId). Helps c.args.domain.now s c.in-Ok-Some-see_behind.next.slot
+              c.see_behind.new.seat c.help-helped.new.seat) c.slot-2.ensures c.in-Ok.ensures.helps;
+          drops = c.drop_strong-2.ensures.dropped;
+        });
+      };
+      sees = let next = c.in-Ok-Some-see_behind.next.slot in
+          let at = all.owns next in
+          let some' = some_found next c.args.seat.now.view.core.owned in
+          let before = c.in-Ok.ensures.sees.owns in
+          tail_still next c.help-helped.new.seat c.drop_strong-2.new.seat c.in-Ok.ensures.sees
+          (omega arith) (gives.knows next (omega arith) (omega arith))
+          (ap (λ (v : CoreView). v.shape) gives.same) c.drop_strong-2.ensures.client;
+      adds = let first = c.load_tail.ensures.adds in
+          let second = c.see_behind.ensures.adds in
+          let third = c.help-helped.ensures.adds in
+          let a = drop_adds c.args.domain.now c.in-Ok-Some.old.slot c.help-helped.new.seat
+          c.drop_strong-2.new.seat c.drop_strong-2.ensures.dropped in
+          omega arith;
+      beside = search rules;
+      leaves = all;
+      why = tt;
+      room = search rules;
+      rest = c.drop_strong-2.ensures.rest;
+    }
 
 pub returns-in-Err-helped-clause-adds : goal.returns-in-Err-helped-clause-adds
 returns-in-Err-helped-clause-adds c =
@@ -160,33 +172,3 @@ returns-in-Ok-None-see_behind-clause-events c = record {
         (λ i. (c.in-Ok-None-see_behind.field-0-is i, c.slot.ensures i)) c.in-Ok-None-see_behind.ensures.loads,
   );
 }
-
-pub returns-in-Ok-clause-events : goal.returns-in-Ok-clause-events
-returns-in-Ok-clause-events c = record {
-  first = c.in-Ok-Some.old.slot;
-  seen = c.load_tail.new.seat;
-  loads = subst (λ (o : Option Handle). Loads IsNodePayload c.args.domain.now
-      (Cell c.args.domain.now.protocol.tail) (learn_next false)
-      (TailTells (ends_of c.args.domain.now)) (named o) c.args.seat.now c.load_tail.new.seat)
-      c.in-Ok-Some.field-0-is c.in-Ok-Some.ensures.loads;
-  which = inr (record {
-    seen = c.see_behind.new.seat;
-    helped = c.help-helped.new.seat;
-    loads = subst (λ (x : Option Handle × SlotId). Loads IsNodePayload c.args.domain.now
-        (Field x.1 0) next_next (NextTells (ends_of c.args.domain.now)) (named x.0)
-        c.load_tail.new.seat c.see_behind.new.seat)
-        (λ i. (c.in-Ok-Some-see_behind.field-0-is i, c.slot.ensures i)) c.in-Ok-Some-see_behind.ensures.loads;
-    helps = subst (λ (s : SlotId). Helps c.args.domain.now s c.in-Ok-Some-see_behind.next.slot
-        c.see_behind.new.seat c.help-helped.new.seat) c.slot-2.ensures c.in-Ok.ensures.helps;
-    drops = c.drop_strong-2.ensures.dropped;
-  });
-}
-
-pub returns-in-Ok-clause-adds : goal.returns-in-Ok-clause-adds
-returns-in-Ok-clause-adds c =
-    let first = c.load_tail.ensures.adds in
-    let second = c.see_behind.ensures.adds in
-    let third = c.help-helped.ensures.adds in
-    let a = drop_adds c.args.domain.now c.in-Ok-Some.old.slot c.help-helped.new.seat
-    c.drop_strong-2.new.seat c.drop_strong-2.ensures.dropped in
-    omega arith

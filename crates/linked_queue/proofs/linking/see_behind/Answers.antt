@@ -13,56 +13,34 @@ use Rattle.linked_queue.proofs.EndNodes.{sees_behind, still_tail}
 use Rattle.linked_queue.proofs.Sights.{sights}
 use Rattle.linked_queue.proofs.linking.see_behind.Goals as goal
 
-pub returns-clause-sees : goal.returns-clause-sees
-returns-clause-sees c =
-    found_sees (λ found. Loads IsNodePayload c.args.domain.now (Field c.args.old 0) next_next
-    (NextTells (ends_of c.args.domain.now)) found c.args.seat.now c.try_load.new.seat)
-    (λ s. SeesBehind c.args.old s c.try_load.new.seat) c.try_load.result
-    (λ s. sees_behind c.args.domain.now c.args.seat.now c.try_load.new.seat c.requires.rest
-    c.args.old s c.requires.tail c.try_load.ensures.objects)
-    c.try_load.ensures.loaded
-
-pub returns-clause-last : goal.returns-clause-last
-returns-clause-last c =
-    then_ok (λ found. Loads IsNodePayload c.args.domain.now (Field c.args.old 0) next_next
-    (NextTells (ends_of c.args.domain.now)) (named found) c.args.seat.now c.try_load.new.seat)
-    (λ found. SeesTail c.args.old c.try_load.new.seat) c.try_load.result
-    (λ found l. still_tail c.args.domain.now c.args.seat.now c.try_load.new.seat c.requires.rest
-    c.args.old (named found) c.requires.tail c.try_load.ensures.objects l)
-    c.try_load.ensures.loaded
-
-pub returns-clause-adds : goal.returns-clause-adds
-returns-clause-adds c =
-    (sights c.args.domain.now (place.Field c.args.old 0) next_next
+pub returns : goal.returns
+returns c =
+    let all = sights c.args.domain.now (place.Field c.args.old 0) next_next
     (NextTells (ends_of c.args.domain.now)) (λ own after v a w. refl) c.args.seat.now
     c.try_load.new.seat c.requires.rest c.try_load.ensures.objects c.try_load.result
     c.try_load.ensures.refused c.try_load.ensures.spent.0 c.try_load.ensures.loaded
     c.try_load.ensures.moved (PushDiffers c.args.domain.now)
-    (λ seen now m. inr (inl (c.args.old, (c.args.seat.now, c.try_load.new.seat, m))))).0.0
-
-pub returns-clause-beside : goal.returns-clause-beside
-returns-clause-beside c =
-    (sights c.args.domain.now (place.Field c.args.old 0) next_next
-    (NextTells (ends_of c.args.domain.now)) (λ own after v a w. refl) c.args.seat.now
-    c.try_load.new.seat c.requires.rest c.try_load.ensures.objects c.try_load.result
-    c.try_load.ensures.refused c.try_load.ensures.spent.0 c.try_load.ensures.loaded
-    c.try_load.ensures.moved (PushDiffers c.args.domain.now)
-    (λ seen now m. inr (inl (c.args.old, (c.args.seat.now, c.try_load.new.seat, m))))).0.1
-
-pub returns-clause-leaves : goal.returns-clause-leaves
-returns-clause-leaves c =
-    (sights c.args.domain.now (place.Field c.args.old 0) next_next
-    (NextTells (ends_of c.args.domain.now)) (λ own after v a w. refl) c.args.seat.now
-    c.try_load.new.seat c.requires.rest c.try_load.ensures.objects c.try_load.result
-    c.try_load.ensures.refused c.try_load.ensures.spent.0 c.try_load.ensures.loaded
-    c.try_load.ensures.moved (PushDiffers c.args.domain.now)
-    (λ seen now m. inr (inl (c.args.old, (c.args.seat.now, c.try_load.new.seat, m))))).0.2
-
-pub returns-clause-why : goal.returns-clause-why
-returns-clause-why c =
-    (sights c.args.domain.now (place.Field c.args.old 0) next_next
-    (NextTells (ends_of c.args.domain.now)) (λ own after v a w. refl) c.args.seat.now
-    c.try_load.new.seat c.requires.rest c.try_load.ensures.objects c.try_load.result
-    c.try_load.ensures.refused c.try_load.ensures.spent.0 c.try_load.ensures.loaded
-    c.try_load.ensures.moved (PushDiffers c.args.domain.now)
-    (λ seen now m. inr (inl (c.args.old, (c.args.seat.now, c.try_load.new.seat, m))))).1
+    (λ seen now m. inr (inl (c.args.old, (c.args.seat.now, c.try_load.new.seat, m)))) in
+    record {
+      loads = c.try_load.ensures.loaded;
+      sees =
+          found_sees (λ found. Loads IsNodePayload c.args.domain.now (Field c.args.old 0) next_next
+          (NextTells (ends_of c.args.domain.now)) found c.args.seat.now c.try_load.new.seat)
+          (λ s. SeesBehind c.args.old s c.try_load.new.seat) c.try_load.result
+          (λ s. sees_behind c.args.domain.now c.args.seat.now c.try_load.new.seat c.requires.rest
+          c.args.old s c.requires.tail c.try_load.ensures.objects)
+          c.try_load.ensures.loaded;
+      last =
+          then_ok (λ found. Loads IsNodePayload c.args.domain.now (Field c.args.old 0) next_next
+          (NextTells (ends_of c.args.domain.now)) (named found) c.args.seat.now c.try_load.new.seat)
+          (λ found. SeesTail c.args.old c.try_load.new.seat) c.try_load.result
+          (λ found l. still_tail c.args.domain.now c.args.seat.now c.try_load.new.seat c.requires.rest
+          c.args.old (named found) c.requires.tail c.try_load.ensures.objects l)
+          c.try_load.ensures.loaded;
+      adds = all.0.0;
+      beside = all.0.1;
+      leaves = all.0.2;
+      why = all.1;
+      room = c.try_load.ensures.room c.requires.room;
+      rest = c.try_load.ensures.rest;
+    }

@@ -16,42 +16,25 @@ try_load-requires-clause-deed c =
     item_ready c.args.domain.now c.args.seat.now c.args.seat.now c.requires.rest c.args.front
     c.args.next c.requires.next c.requires.attached
 
-pub returns-clause-sees : goal.returns-clause-sees
-returns-clause-sees c =
-    found_sees (λ found. Loads IsNodePayload c.args.domain.now (Field c.args.next 1) (item_next)
-    (ItemTells (ends_of c.args.domain.now)) found c.args.seat.now c.try_load.new.seat)
-    (λ s. SeesItem c.args.front c.args.next s c.try_load.new.seat) c.try_load.result
-    (λ s. sees_item c.args.domain.now c.args.seat.now c.try_load.new.seat c.requires.rest c.args.front c.args.next s c.requires.next c.try_load.ensures.objects)
-    c.try_load.ensures.loaded
-
-pub returns-clause-adds : goal.returns-clause-adds
-returns-clause-adds c =
-    (sights c.args.domain.now (place.Field c.args.next 1) (item_next) (ItemTells (ends_of c.args.domain.now))
+pub returns : goal.returns
+returns c =
+    let all = sights c.args.domain.now (place.Field c.args.next 1) (item_next) (ItemTells (ends_of c.args.domain.now))
     (λ own after v a w. refl) c.args.seat.now c.try_load.new.seat c.requires.rest
     c.try_load.ensures.objects c.try_load.result c.try_load.ensures.refused
     c.try_load.ensures.spent.0 c.try_load.ensures.loaded c.try_load.ensures.moved
-    (Differs c.args.domain.now) (λ seen now m. inr (inr (inl (c.args.next, (c.args.seat.now, c.try_load.new.seat, m)))))).0.0
-
-pub returns-clause-beside : goal.returns-clause-beside
-returns-clause-beside c =
-    (sights c.args.domain.now (place.Field c.args.next 1) (item_next) (ItemTells (ends_of c.args.domain.now))
-    (λ own after v a w. refl) c.args.seat.now c.try_load.new.seat c.requires.rest
-    c.try_load.ensures.objects c.try_load.result c.try_load.ensures.refused
-    c.try_load.ensures.spent.0 c.try_load.ensures.loaded c.try_load.ensures.moved
-    (Differs c.args.domain.now) (λ seen now m. inr (inr (inl (c.args.next, (c.args.seat.now, c.try_load.new.seat, m)))))).0.1
-
-pub returns-clause-leaves : goal.returns-clause-leaves
-returns-clause-leaves c =
-    (sights c.args.domain.now (place.Field c.args.next 1) (item_next) (ItemTells (ends_of c.args.domain.now))
-    (λ own after v a w. refl) c.args.seat.now c.try_load.new.seat c.requires.rest
-    c.try_load.ensures.objects c.try_load.result c.try_load.ensures.refused
-    c.try_load.ensures.spent.0 c.try_load.ensures.loaded c.try_load.ensures.moved
-    (Differs c.args.domain.now) (λ seen now m. inr (inr (inl (c.args.next, (c.args.seat.now, c.try_load.new.seat, m)))))).0.2
-
-pub returns-clause-why : goal.returns-clause-why
-returns-clause-why c =
-    (sights c.args.domain.now (place.Field c.args.next 1) (item_next) (ItemTells (ends_of c.args.domain.now))
-    (λ own after v a w. refl) c.args.seat.now c.try_load.new.seat c.requires.rest
-    c.try_load.ensures.objects c.try_load.result c.try_load.ensures.refused
-    c.try_load.ensures.spent.0 c.try_load.ensures.loaded c.try_load.ensures.moved
-    (Differs c.args.domain.now) (λ seen now m. inr (inr (inl (c.args.next, (c.args.seat.now, c.try_load.new.seat, m)))))).1
+    (Differs c.args.domain.now) (λ seen now m. inr (inr (inl (c.args.next, (c.args.seat.now, c.try_load.new.seat, m))))) in
+    record {
+      loads = c.try_load.ensures.loaded;
+      sees =
+          found_sees (λ found. Loads IsNodePayload c.args.domain.now (Field c.args.next 1) (item_next)
+          (ItemTells (ends_of c.args.domain.now)) found c.args.seat.now c.try_load.new.seat)
+          (λ s. SeesItem c.args.front c.args.next s c.try_load.new.seat) c.try_load.result
+          (λ s. sees_item c.args.domain.now c.args.seat.now c.try_load.new.seat c.requires.rest c.args.front c.args.next s c.requires.next c.try_load.ensures.objects)
+          c.try_load.ensures.loaded;
+      adds = all.0.0;
+      beside = all.0.1;
+      leaves = all.0.2;
+      why = all.1;
+      room = c.try_load.ensures.room c.requires.room;
+      rest = c.try_load.ensures.rest;
+    }
