@@ -32,6 +32,15 @@ module _ {V W : Type 0} (law : Plain → List V → Type 0) (part : Plain → Li
 abbrev pub Reads : {V W : Type 0} → (V → W) → (V → W → V) → Type 0
 Reads {V = V} {W = W} seen with_seen = (v : V) (w : W) → seen (with_seen v w) ≡ w
 
+-- a view with its own part put into it is as it was
+abbrev pub PutsBack : {V W : Type 0} → (V → W) → (V → W → V) → Type 0
+PutsBack {V = V} seen with_seen = (v : V) → with_seen v (seen v) ≡ v
+
+-- of two views that were put into one as its part, the later one stays
+abbrev pub PutsOver : {V W : Type 0} → (V → W → V) → Type 0
+PutsOver {V = V} {W = W} with_seen =
+    (v : V) (w u : W) → with_seen (with_seen v w) u ≡ with_seen v u
+
 -- each step within what the part owns is free
 abbrev pub Frees : Owned → (OwnPart → PlainAct → Type 0) → Type 0
 Frees owned free = (own : OwnPart) (step : PlainAct) → IsWithin owned own step → free own step

@@ -3,7 +3,7 @@ ghost use Rattle.std.specs.Prelude.{ℕ, List};
 ghost use Rattle.plain_state.specs.declared.act.PlainAct.{PlainAct};
 ghost use Rattle.plain_protocol.specs.Owns.{OwnPart};
 ghost use Rattle.protocol_pairs.specs.Shares.{owned_of};
-ghost use Rattle.protocol_pairs.specs.Parts.{HasPart, KeepsRest, Reads, Frees, FitsWhole};
+ghost use Rattle.protocol_pairs.specs.Parts.{HasPart, KeepsRest, Reads, PutsBack, PutsOver, Frees, FitsWhole};
 
 use plain_protocol::Protocol;
 
@@ -33,6 +33,12 @@ pub trait Part<Q: Protocol, S>: Protocol {
 
     /// What was put into a view as its part is read there.
     ghost reads: { Reads seen with_seen };
+
+    /// A view with its own part put into it is as it was.
+    ghost puts_back: { PutsBack seen with_seen };
+
+    /// Of two views that were put into one as its part, the later one stays.
+    ghost puts_over: { PutsOver with_seen };
 
     /// A step that writes nothing but what the part owns is free.
     ghost frees: { (it : Self)

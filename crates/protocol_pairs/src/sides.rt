@@ -26,6 +26,10 @@ impl<Q: Protocol> Part<Q, Whole> for Q {
 
     ghost reads = { λ v w. refl };
 
+    ghost puts_back = { λ v. refl };
+
+    ghost puts_over = { λ v w u. refl };
+
     ghost frees = { λ it own step within. tt };
 
     ghost fits = { λ it words owns fit. (fit, refl) };
@@ -49,6 +53,10 @@ impl<P: Protocol, Q: Protocol> Part<P, Left> for Pair<P, Q> {
         (Q.foreign it.right) };
 
     ghost reads = { λ v w. refl };
+
+    ghost puts_back = { λ v. refl };
+
+    ghost puts_over = { λ v w u. refl };
 
     ghost frees = { λ it. left_frees it.left_own it.right_own it.one_draws };
 
@@ -74,6 +82,10 @@ impl<P: Protocol, Q: Protocol> Part<Q, Right> for Pair<P, Q> {
         (P.foreign it.left) };
 
     ghost reads = { λ v w. refl };
+
+    ghost puts_back = { λ v. refl };
+
+    ghost puts_over = { λ v w u. refl };
 
     ghost frees = { λ it. right_frees it.left_own it.right_own it.one_draws };
 
