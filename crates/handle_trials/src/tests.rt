@@ -3,9 +3,12 @@ ghost use Rattle.std.specs.Prelude.{◌≡◌, ◌<◌, All, IfOk, OnOk, length,
 ghost use Rattle.acquire_retire.specs.Seats.{SeatState};
 ghost use Rattle.handle_trials.specs.Free.{HasPlaces, IsFree};
 
+use crate::strong_turns::store_once;
 use crate::{Records, clear, make_turns};
-use acquire_retire::{Domain, OpenError, Quota, Seat, Shape, open_domain};
+use acquire_retire::{Domain, Kind, OpenError, Quota, Seat, Shape, open_domain};
+use counted_handles::SlotId;
 use out_of_memory::OutOfMemory;
+use plain_state::Heap;
 use retiring_stores::leave;
 use std::alloc::Global;
 use std::sync::Wait;
@@ -146,6 +149,51 @@ fn leave_all(domain: &Domain<Records>, root: &mut Seat<Records>, mut seats: Vec<
     for _seat in 0..seats.len() {
         leave_last(domain, root, &mut seats);
     }
+}
+
+/// How often the references to a slot stand in cells, and in deferred entries of this kind.
+fn references(heap: &Heap, cells: &[u64], kind: Kind, slot: u32) -> usize {
+    let held = cells.iter().filter(|cell| **cell == u64::from(slot) + 1);
+    let deferred = heap
+        .deferred
+        .iter()
+        .filter(|entry| **entry == (kind, SlotId(slot)));
+    held.count().saturating_add(deferred.count())
+}
+
+/// Whether the words of a slot are these sums, where no seat has a reference and no field is set. A live object has one
+/// weak reference of its own.
+fn agrees(heap: &Heap, slot: u32) -> bool {
+    let Some(image) = heap.slots.get(slot as usize) else {
+        return false;
+    };
+    let strong = references(heap, &heap.cells, Kind::Strong, slot) as u64;
+    let weak = references(heap, &heap.weak_cells, Kind::Weak, slot) as u64;
+    if image.strong >= ZERO {
+        return strong == 0 && image.weak.abs_diff(weak) <= 1;
+    }
+    image.strong == strong && image.weak.abs_diff(weak) == 1
+}
+
+#[test]
+fn all_words_are_the_sums_of_what_is_left(rt: HostRuntime) -> Result<(), Fail> {
+    let Opened {
+        domain,
+        mut root,
+        mut others,
+    } = open(rt.alloc())?;
+    let four = last_four(rt.alloc(), &domain, &mut others)?;
+    let done = work_all(&rt, &domain, four)?;
+    leave_all(&domain, &mut root, done);
+    leave_all(&domain, &mut root, others);
+    store_once(&domain, &mut root, 0);
+    if !domain.alone(&root) {
+        panic!(rt; "all others have left");
+    }
+    let heap = domain.image(rt.alloc(), &mut root)?;
+    assert!(rt; (0..SHAPE.slots).all(|slot| agrees(&heap, slot)));
+    assert!(rt; heap.slots.iter().any(|slot| slot.strong < ZERO));
+    Ok(())
 }
 
 #[test]
