@@ -80,12 +80,12 @@ module _ {P V : Type 0} (d : DomainState P) where
         })
 
     -- the seat stores what its new view has
-    pub seat_after : (f : Stored → Stored) (s : Stored) (batch_room seen_room dying_room ripe_room : ℕ)
+    pub seat_after : (f : Stored → Stored) (s : Stored) (batch_room seen_room dying_room : ℕ)
         → old.me.0.core.shape ≡ d.shape → s ≡ stored old.me.0.core
-        → HasRooms old.me.0.core batch_room seen_room dying_room ripe_room
+        → HasRooms old.me.0.core batch_room seen_room dying_room
         → kept (moved d.shape a w old.me.0.core) ≡ (f (stored old.me.0.core), old.me.0.core.room)
-        → IsSeat new.me (f s) batch_room seen_room dying_room ripe_room
-    seat_after f s batch_room seen_room dying_room ripe_room same stores rooms goes =
+        → IsSeat new.me (f s) batch_room seen_room dying_room
+    seat_after f s batch_room seen_room dying_room same stores rooms goes =
         let after = ap kept step.told.core ∙ goes in
         let shape = step.told.law.same_shape ∙ sym same in
         let seats = ap (λ (z : Shape). z.seats) shape in
@@ -100,7 +100,6 @@ module _ {P V : Type 0} (d : DomainState P) where
                 (rooms.root (sym step.told.law.number ∙ first));
             seen = omega (arith, rooms.seen);
             dying = omega (arith, rooms.dying);
-            ripe = omega (arith, rooms.ripe);
           };
         }
 

@@ -36,17 +36,17 @@ module _ {P V : Type 0} {fits : List ℕ → Type 0} (d e : DomainState P) (same
       (omega arith)))
 
   pub ticket_seat : old.me.0.core.shape ≡ d.shape → (s : Stored)
-      (batch_room seen_room dying_room ripe_room : ℕ)
-      → IsSeat old.me s batch_room seen_room dying_room ripe_room → (more : ℕ)
+      (batch_room seen_room dying_room : ℕ)
+      → IsSeat old.me s batch_room seen_room dying_room → (more : ℕ)
       → more ≡ slice_index_or kept.grants w 0
       → IsSeat new.me (record s { adds = s.adds + 1; granted = s.granted + more })
-      batch_room seen_room dying_room ripe_room
-  ticket_seat shape s batch_room seen_room dying_room ripe_room seat more is =
+      batch_room seen_room dying_room
+  ticket_seat shape s batch_room seen_room dying_room seat more is =
       let v = old.me.0.core in
       let sum = granted_more v.grants kept.grants v.tickets w seen_grants in
       let longer : granted v.grants (v.tickets ++ w ∷ []) ≡ granted v.grants v.tickets + more =
       omega arith in
       seat_after d next_view allows act.Ticket old new w step
       (λ (t : Stored). record t { adds = t.adds + 1; granted = t.granted + more }) s batch_room
-      seen_room dying_room ripe_room shape seat.stores seat.rooms
+      seen_room dying_room shape seat.stores seat.rooms
       (λ i. (record (stored v) { adds = v.adds + 1; granted = longer i }, v.room))

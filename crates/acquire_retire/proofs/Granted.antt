@@ -41,9 +41,9 @@ pub claims_few : {P V : Type 0} {fits : List ℕ → Type 0} (d : DomainState P)
     (allows : Plain → Plain → ℕ → V → V → Type 0) (s : SlotId)
     (old new : TableSeat (Unit {0}) (SeatView V)) (w : ℕ)
     → Stepped fits d next_view allows (act.Claim s) old w new
-    → (t : Stored) (batch_room seen_room dying_room ripe_room : ℕ)
-    → IsSeat old.me t batch_room seen_room dying_room ripe_room → t.makes + 1 < 2 ^ 64
-claims_few d next_view allows s old new w step t batch_room seen_room dying_room ripe_room seat =
+    → (t : Stored) (batch_room seen_room dying_room : ℕ)
+    → IsSeat old.me t batch_room seen_room dying_room → t.makes + 1 < 2 ^ 64
+claims_few d next_view allows s old new w step t batch_room seen_room dying_room seat =
     let h = step.told.happened in
     let makes = subst (λ (v : CoreView). v.makes < allowed_makes v) (sym h.view) h.enabled.1.2 in
     let quota = seat.seated.law.quota.0 in

@@ -4,6 +4,8 @@ use Rattle.std.specs.Prelude.{Option, Some}
 use Rattle.std.proofs.lemmas.List.Sums.{sum_by-cons}
 use Rattle.atomic_table.specs.Table.{Allows, Me}
 use Rattle.atomic_table.specs.declared.shared.Seat.{Seat as TableSeat}
+use Rattle.plain_state.specs.declared.slot.SlotId.{SlotId}
+use Rattle.plain_state.specs.Lists.{times}
 use Rattle.plain_state.specs.State.{Plain}
 use Rattle.core_events.specs.declared.shape.Shape.{Shape}
 use Rattle.core_events.specs.Views.{Terms}
@@ -22,7 +24,7 @@ use Rattle.domain_rule.specs.Rule.{Kept}
 use Rattle.domain_rule.proofs.Counting.{gone, history_counted}
 use Rattle.domain_rule.proofs.Reading.{reads}
 use Rattle.acquire_retire.specs.Domains.{DomainState, IsDomain, StoredDomain}
-use Rattle.acquire_retire.proofs.Dying.{few_dying_in, few_ripe_in}
+use Rattle.acquire_retire.proofs.Dying.{few_dying_in, few_ripe_in, once_dying_in}
 
 -- no more seats have left than there are
 few_gone : (vs : List CoreView) → total gone vs ≤ length vs
@@ -49,6 +51,11 @@ module _ {V : Type 0} (fits : List ℕ → Type 0) (z : Shape) (ts : Terms) (v :
   found_dying =
       let few = few_dying_in z f.core v.core.seat sound there in
       let same = ap (λ (u : CoreView). length u.dying) f.says.core in omega arith
+
+  pub found_once : (s : SlotId) → times s v.core.dying ≤ 1
+  found_once s =
+      let one = once_dying_in z f.core v.core.seat sound there s in
+      let same = ap (λ (u : CoreView). times s u.dying) f.says.core in omega arith
 
   pub found_ripe : length v.core.ripe ≤ z.slots
   found_ripe =

@@ -4,7 +4,9 @@ use Rattle.std.specs.Prelude.{Option, Some}
 use Rattle.atomic_table.specs.Table.{Joins}
 use Rattle.atomic_table.specs.declared.shared.Seat.{Seat as TableSeat}
 use Rattle.plain_state.specs.declared.slot.SlotId.{SlotId}
+use Rattle.plain_state.specs.Lists.{times}
 use Rattle.plain_state.specs.State.{Plain}
+use Rattle.plain_state.proofs.Kit.{times_append}
 use Rattle.plain_protocol.specs.Laws.{KeptByLeave}
 use Rattle.core_events.specs.declared.act.Act.TheVariants as act
 use Rattle.core_events.specs.declared.outcome.Outcome.TheVariants as outcome
@@ -15,6 +17,8 @@ use Rattle.core_events.specs.Runs.{IsShape, taken_over}
 use Rattle.core_events.specs.Steps.{CanLeave, noted}
 use Rattle.core_events.specs.Views.{room_of}
 use Rattle.retire_batch.specs.Entries.{Entries}
+use Rattle.dying_slots.specs.Dying.{DyingSlots}
+use Rattle.dying_slots.proofs.Waiting.{few_waiting, joined_waiting}
 use Rattle.domain_rule.specs.declared.view.SeatView.{SeatView}
 use Rattle.domain_rule.specs.Opening.{gone_view}
 use Rattle.domain_rule.specs.Rule.{Kept}
@@ -26,7 +30,7 @@ use Rattle.acquire_retire.specs.Domains.{DomainState, IsDomain, StoredDomain}
 use Rattle.acquire_retire.specs.Leavings.{HasJoined, MayJoin, joined_in}
 use Rattle.acquire_retire.specs.Seats.{HasRooms, IsSeat, IsSeated, SeatState, Stored, stored}
 use Rattle.acquire_retire.proofs.Calls.{value_of}
-use Rattle.acquire_retire.proofs.Knowing.{found_dying, found_entries, found_law, found_left, found_ripe, found_room}
+use Rattle.acquire_retire.proofs.Knowing.{found_dying, found_entries, found_law, found_left, found_once, found_ripe, found_room}
 
 module _ {P V : Type 0} (law : P → Plain → List V → Type 0) (first : P → ℕ → V)
     (fits : List ℕ → Type 0) (joined : P → V → V → V) (gone : V)
@@ -60,7 +64,7 @@ abbrev pub taken : Stored → Stored → Stored
 taken s t = record s {
   retired = s.retired ++ t.retired;
   owed = s.owed ++ t.owed;
-  dying = s.dying ++ t.dying;
+  waiting = s.waiting ++ t.waiting;
   ripe = s.ripe ++ t.ripe;
   left = s.left + 1;
 }
@@ -101,10 +105,27 @@ module _ {P V : Type 0} (d : DomainState P) (fits : List ℕ → Type 0) (joined
   shape_after : new.me.0.core.shape ≡ d.shape
   shape_after = ap (λ (u : CoreView). u.shape) core_is ∙ may.shape
 
+  root_law : SeatLaw root.me.0.core.shape root.me.0.core.seat root.me.0.core
+  root_law = may.seated.0.law
+
+  other_law : SeatLaw v.me.0.core.shape v.me.0.core.seat v.me.0.core
+  other_law = may.seated.1.law
+
+  -- a slot that one of them is to destroy the other isn't
+  once_both : (x : SlotId) → times x root.me.0.core.dying + times x v.me.0.core.dying ≤ 1
+  once_both x =
+      let one = found_once fits d.shape d.terms new.me.0 0 join.word join.found inside x in
+      let now = ap (λ (u : CoreView). times x u.dying) core_is in
+      let sum = times_append x root.me.0.core.dying v.me.0.core.dying in omega arith
+
   stored_both : stored both ≡ taken (stored root.me.0.core) (stored v.me.0.core)
   stored_both =
       let owes : root.me.0.core.owed ≡ root.me.0.core.owed ++ v.me.0.core.owed =
       may.may.0.1 ∙ sym (λ i. may.may.0.1 i ++ may.may.1.1 i) in
+      let waits = joined_waiting root.me.0.core.ripe root.me.0.core.dying v.me.0.core.ripe
+      v.me.0.core.dying
+      (λ x among. let two = once_both x in let few = other_law.ripe x in omega arith)
+      (λ x among. let two = once_both x in let few = root_law.ripe x in omega arith) in
       let left = length-append root.me.0.core.left_seats
       (record {
         seat = v.me.0.core.seat;
@@ -113,12 +134,13 @@ module _ {P V : Type 0} (d : DomainState P) (fits : List ℕ → Type 0) (joined
       } ∷ []) in
       λ i. record (taken (stored root.me.0.core) (stored v.me.0.core)) {
         owed = owes i;
+        waiting = waits i;
         left = left i;
       }
 
-  module _ (s t : Stored) (batch_room seen_room dying_room ripe_room : ℕ) (stores : s ≡ stored root.me.0.core)
+  module _ (s t : Stored) (batch_room seen_room dying_room : ℕ) (stores : s ≡ stored root.me.0.core)
       (other_stores : t ≡ stored v.me.0.core)
-      (rooms : HasRooms root.me.0.core batch_room seen_room dying_room ripe_room) where
+      (rooms : HasRooms root.me.0.core batch_room seen_room dying_room) where
     stores_after : taken s t ≡ stored new.me.0.core
     stores_after = (λ i. taken (stores i) (other_stores i)) ∙ sym (ap stored core_is ∙ stored_both)
 
@@ -141,21 +163,22 @@ module _ {P V : Type 0} (d : DomainState P) (fits : List ℕ → Type 0) (joined
         let more_owed = length-append s.owed t.owed in omega arith
 
     -- and so do the slots that they have ended
-    pub dying_fit : length s.dying + length t.dying ≤ dying_room
+    pub dying_fit : length s.waiting + length t.waiting ≤ dying_room
     dying_fit =
         let few = found_dying fits d.shape d.terms new.me.0 0 join.word join.found inside in
-        let dying = ap (λ (x : Stored). length x.dying) stores_after in
-        let more = length-append s.dying t.dying in
+        let waiting = ap (λ (x : Stored). length x.waiting) stores_after in
+        let wait = few_waiting new.me.0.core.ripe new.me.0.core.dying in
+        let more = length-append s.waiting t.waiting in
         let slots = ap (λ (z : Shape). z.slots) may.shape in
         let room = rooms.dying in omega arith
 
-    pub ripe_fit : length s.ripe + length t.ripe ≤ ripe_room
+    pub ripe_fit : length s.ripe + length t.ripe ≤ dying_room
     ripe_fit =
         let few = found_ripe fits d.shape d.terms new.me.0 0 join.word join.found inside in
         let ripe = ap (λ (x : Stored). length x.ripe) stores_after in
         let more = length-append s.ripe t.ripe in
         let slots = ap (λ (z : Shape). z.slots) may.shape in
-        let room = rooms.ripe in omega arith
+        let room = rooms.dying in omega arith
 
     pub left_fits : s.left + 1 < 2 ^ 32
     left_fits =
@@ -165,23 +188,25 @@ module _ {P V : Type 0} (d : DomainState P) (fits : List ℕ → Type 0) (joined
         let most = join.found.shape.1 in omega arith
 
     -- seat 0 is a seat still, and stores what its view has
-    pub taken_seat : (batch : Entries) (slots ripe : List SlotId)
-        (room more_room : ℕ)
+    pub taken_seat : (batch : Entries) (slots : DyingSlots)
         → batch ≡ record {
           retired = s.retired ++ t.retired;
           owed = s.owed ++ t.owed;
           room = batch_room;
         }
-        → slots ≡ s.dying ++ t.dying → ripe ≡ s.ripe ++ t.ripe → dying_room ≤ room
-        → ripe_room ≤ more_room
+        → slots ≡ record {
+          waiting = s.waiting ++ t.waiting;
+          ripe = s.ripe ++ t.ripe;
+          room = dying_room;
+        }
         → IsSeat new.me (record s {
           retired = batch.retired;
           owed = batch.owed;
-          dying = slots;
-          ripe = ripe;
+          waiting = slots.waiting;
+          ripe = slots.ripe;
           left = s.left + 1;
-        }) batch.room seen_room room more_room
-    taken_seat batch slots ripe room more_room is dying ripe_is more more_ripe = record {
+        }) batch.room seen_room slots.room
+    taken_seat batch slots is dying = record {
       seated = record {
         carries = join.carries ∙ may.seated.0.carries;
         here = ap (λ (x : SeatView V). x.gone) join.view ∙ may.seated.0.here;
@@ -200,8 +225,8 @@ module _ {P V : Type 0} (d : DomainState P) (fits : List ℕ → Type 0) (joined
       stores = (λ i. record (taken s t) {
         retired = (is i).retired;
         owed = (is i).owed;
-        dying = dying i;
-        ripe = ripe_is i;
+        waiting = (dying i).waiting;
+        ripe = (dying i).ripe;
       }) ∙ stores_after;
       rooms = record {
         batch = let few = room_after in let same = ap (λ (b : Entries). b.room) is in omega arith;
@@ -213,9 +238,7 @@ module _ {P V : Type 0} (d : DomainState P) (fits : List ℕ → Type 0) (joined
             let now = ap (λ (z : Shape). z.seats) shape_after in
             let was = ap (λ (z : Shape). z.seats) may.shape in omega arith;
         dying = let room = rooms.dying in
-            let now = ap (λ (z : Shape). z.slots) shape_after in
-            let was = ap (λ (z : Shape). z.slots) may.shape in omega arith;
-        ripe = let room = rooms.ripe in
+            let same = ap (λ (b : DyingSlots). b.room) dying in
             let now = ap (λ (z : Shape). z.slots) shape_after in
             let was = ap (λ (z : Shape). z.slots) may.shape in omega arith;
       };

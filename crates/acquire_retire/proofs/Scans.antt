@@ -13,7 +13,11 @@ use Rattle.core_events.specs.declared.view.CoreView.{CoreView}
 use Rattle.core_events.specs.declared.view.Phase.TheVariants as phase
 use Rattle.core_events.specs.Good.{SeatLaw}
 use Rattle.core_events.specs.Steps.{all_seen, answer, is_last, moved}
-use Rattle.plain_state.specs.Ejection.{ripened, ripens, Announcements}
+use Rattle.std.specs.Prelude.{not}
+use Rattle.std.specs.List.{filter}
+use Rattle.dying_slots.specs.Dying.{is_free, waiting_of}
+use Rattle.dying_slots.proofs.Waiting.{ripened_waiting, waiting_after}
+use Rattle.plain_state.specs.Ejection.{Announcements}
 use Rattle.eject_scan.specs.Seen.{announced, noted, total, with_word}
 use Rattle.eject_scan.proofs.Announcements.{announced_alike, fewer, noted_more}
 use Rattle.plain_state.specs.Ejection as batch
@@ -24,10 +28,10 @@ use Rattle.acquire_retire.specs.Seats.{HasRooms, IsSeat, Stored, stored}
 use Rattle.acquire_retire.proofs.Calls.{kept, seat_after}
 
 -- there is room for the word that comes next
-pub room_to_read : (v : CoreView) (s : Stored) (batch_room seen_room dying_room ripe_room : ℕ)
-    → SeatLaw v.shape v.seat v → s ≡ stored v → HasRooms v batch_room seen_room dying_room ripe_room
+pub room_to_read : (v : CoreView) (s : Stored) (batch_room seen_room dying_room : ℕ)
+    → SeatLaw v.shape v.seat v → s ≡ stored v → HasRooms v batch_room seen_room dying_room
     → total s.seen < seen_room
-room_to_read v s batch_room seen_room dying_room ripe_room law stores rooms =
+room_to_read v s batch_room seen_room dying_room law stores rooms =
     let few = fewer v.seen in
     let had = ap (λ (t : Stored). total t.seen) stores in
     let reads = law.reads in
@@ -45,7 +49,8 @@ last_stored w s = record s {
   phase = phase.Idle;
   retired = batch.kept s.retired (announced (with_word w s.seen));
   owed = batch.ejected s.retired (announced (with_word w s.seen));
-  ripe = ripened s.ripe s.dying (announced (with_word w s.seen));
+  waiting = filter (λ x. not (is_free (announced (with_word w s.seen)) x)) s.waiting;
+  ripe = s.ripe ++ filter (is_free (announced (with_word w s.seen))) s.waiting;
   seen = [];
   read = 0;
 }
@@ -57,7 +62,12 @@ last_kept z v w last = rw last (λ i. (
     phase = phase.Idle;
     retired = batch.kept v.retired (sym (seen_alike v w) i);
     owed = batch.ejected v.retired (sym (seen_alike v w) i);
-    ripe = ripened v.ripe v.dying (sym (seen_alike v w) i);
+    waiting = (waiting_after v.ripe v.dying (all_seen w v)
+        ∙ ap (λ a. filter (λ x. not (is_free a x)) (waiting_of v.ripe v.dying)) (sym (seen_alike v w)))
+        i;
+    ripe = (ripened_waiting v.ripe v.dying (all_seen w v)
+        ∙ ap (λ a. v.ripe ++ filter (is_free a) (waiting_of v.ripe v.dying)) (sym (seen_alike v w)))
+        i;
     seen = [];
     read = 0;
   },
@@ -88,20 +98,23 @@ reads_word z v w on = rw on refl
 module _ {P V : Type 0} {fits : List ℕ → Type 0} (d : DomainState P) (next_view : OwnPart → OwnPart → V → PlainAct → ℕ → V)
     (allows : Plain → Plain → ℕ → V → V → Type 0) (old new : TableSeat (Unit {0}) (SeatView V))
     (w : ℕ) (step : Stepped fits d next_view allows act.Scan old w new) (s : Stored)
-    (batch_room seen_room dying_room ripe_room : ℕ) (seat : IsSeat old.me s batch_room seen_room dying_room ripe_room)
+    (batch_room seen_room dying_room : ℕ) (seat : IsSeat old.me s batch_room seen_room dying_room)
     (same : old.me.0.core.shape ≡ d.shape) (last : is_last d.shape old.me.0.core ≡ true) where
   -- the ripe slots after the last word are those that the seat finds
   pub ripe_after : (moved d.shape act.Scan w old.me.0.core).ripe
-      ≡ ripened s.ripe s.dying (announced (with_word w s.seen))
+      ≡ s.ripe ++ filter (is_free (announced (with_word w s.seen))) s.waiting
   ripe_after = rw last
-      (ap (ripened old.me.0.core.ripe old.me.0.core.dying) (sym (seen_alike old.me.0.core w))
-      ∙ ap (λ (t : Stored). ripened t.ripe t.dying
-      (announced (with_word w t.seen))) (sym seat.stores))
+      (ripened_waiting old.me.0.core.ripe old.me.0.core.dying (all_seen w old.me.0.core)
+      ∙ (ap (λ (a : Announcements). old.me.0.core.ripe
+      ++ filter (is_free a) (waiting_of old.me.0.core.ripe old.me.0.core.dying))
+      (sym (seen_alike old.me.0.core w))
+      ∙ ap (λ (t : Stored). t.ripe ++ filter (is_free (announced (with_word w t.seen))) t.waiting)
+      (sym seat.stores)))
 
   -- the seat is one after the last word
-  pub scan_ends : IsSeat new.me (last_stored w s) batch_room seen_room dying_room ripe_room
+  pub scan_ends : IsSeat new.me (last_stored w s) batch_room seen_room dying_room
   scan_ends = seat_after d next_view allows act.Scan old new w step (last_stored w) s batch_room
-      seen_room dying_room ripe_room same seat.stores seat.rooms
+      seen_room dying_room same seat.stores seat.rooms
       (last_kept d.shape old.me.0.core w last)
 
   -- and the call answers how many entries stay and go

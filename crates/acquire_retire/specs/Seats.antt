@@ -11,6 +11,7 @@ use Rattle.core_events.specs.declared.view.Phase.{Phase}
 use Rattle.core_events.specs.Good.{SeatLaw}
 use Rattle.core_events.specs.Runs.{IsShape}
 use Rattle.core_events.specs.Views.{granted, room_of}
+use Rattle.dying_slots.specs.Dying.{waiting_of}
 use Rattle.eject_scan.specs.Seen.{noted}
 use Rattle.eject_scan.specs.declared.seen.Row.{Row}
 use Rattle.domain_rule.specs.declared.view.SeatView.{SeatView}
@@ -34,12 +35,13 @@ pub record Stored : Type 0 where
   pub owed : List Entry
   pub seen : List Row
   pub read : ℕ
-  pub dying : List SlotId
+  pub waiting : List SlotId
   pub ripe : List SlotId
   pub left : ℕ
 
 -- of the words that its scan has read it stores how often it read each that announces something, of
--- its tickets how many makes they grant, and of the seats that have left their number
+-- its tickets how many makes they grant, of the seats that have left their number, and of its dying slots which are
+-- ripe and which are not
 abbrev pub stored : CoreView → Stored
 stored v = record {
   number = v.seat;
@@ -53,19 +55,18 @@ stored v = record {
   owed = v.owed;
   seen = noted v.seen;
   read = length v.seen;
-  dying = v.dying;
+  waiting = waiting_of v.ripe v.dying;
   ripe = v.ripe;
   left = length v.left_seats;
 }
 
 -- there is room for all that it may have to store: at seat 0 for what all seats may retire, since
 -- it takes over from those that leave
-pub record HasRooms (v : CoreView) (batch_room seen_room dying_room ripe_room : ℕ) : Type 0 where
+pub record HasRooms (v : CoreView) (batch_room seen_room dying_room : ℕ) : Type 0 where
   pub batch : v.room ≤ batch_room
   pub root : v.seat ≡ 0 → v.shape.seats * room_of v.shape ≤ batch_room
   pub seen : seen_room ≡ 4 * v.shape.seats
   pub dying : v.shape.slots ≤ dying_room
-  pub ripe : v.shape.slots ≤ ripe_room
 
 -- there is room to retire an entry for each announcement word, and a batch
 abbrev pub HasBatch : CoreView → Type 0
@@ -84,7 +85,7 @@ pub record IsSeated {V : Type 0} (me : Me (Unit {0}) (SeatView V)) : Type 0 wher
 
 -- between calls it stores what its view has
 pub record IsSeat {V : Type 0} (me : Me (Unit {0}) (SeatView V)) (s : Stored)
-    (batch_room seen_room dying_room ripe_room : ℕ) : Type 0 where
+    (batch_room seen_room dying_room : ℕ) : Type 0 where
   pub seated : IsSeated me
   pub stores : s ≡ stored me.0.core
-  pub rooms : HasRooms me.0.core batch_room seen_room dying_room ripe_room
+  pub rooms : HasRooms me.0.core batch_room seen_room dying_room

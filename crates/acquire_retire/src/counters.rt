@@ -94,7 +94,7 @@ impl<P: Protocol> Domain<P> {
             ZERO,
         );
         if found == 0 {
-            seat.dying.push_reserved(slot);
+            seat.dying.end(slot);
             seat.phase = Phase::Idle;
             return Outcome::Ended;
         }
@@ -126,7 +126,7 @@ impl<P: Protocol> Domain<P> {
         );
         seat.phase = Phase::Idle;
         if has_help(found) {
-            seat.dying.push_reserved(slot);
+            seat.dying.end(slot);
             return Outcome::Ended;
         }
         Outcome::NoHelp

@@ -67,13 +67,11 @@ impl<P: Protocol> Domain<P> {
             seat,
             mut batch,
             mut dying,
-            mut ripe,
             ..
         } = seat;
         self.join(&mut root.seat, seat);
         root.batch.absorb(&mut batch);
-        let _moved = root.dying.append(&mut dying);
-        let _moved_ripe = root.ripe.append(&mut ripe);
+        root.dying.absorb(&mut dying);
         root.left += 1;
     }
 }

@@ -18,6 +18,7 @@ use atomic_table::{Split, Table};
 use core_events::{Note, Phase, Quota, Shape};
 use core_functions::{first_bad, first_words};
 use domain_rule::{Charter, SeatView};
+use dying_slots::Dying;
 use eject_scan::Seen;
 use out_of_memory::OutOfMemory;
 use plain_protocol::Protocol;
@@ -57,8 +58,7 @@ fn new_seat<W>(
 {
     let batch = Batch::with_room(alloc, room)?;
     let seen = Seen::with_room(alloc, 4 * shape.seats)?;
-    let dying = Vec::with_capacity(alloc, shape.slots as usize)?;
-    let ripe = Vec::with_capacity(alloc, shape.slots as usize)?;
+    let dying = Dying::with_room(alloc, shape.slots)?;
     let freed = Vec::with_capacity(alloc, MOST_FREED)?;
     Ok(SeatOf {
         seat,
@@ -73,7 +73,6 @@ fn new_seat<W>(
         seen,
         read: 0,
         dying,
-        ripe,
         left: 0,
         freed,
         searched: (shape.slots / 32).wrapping_mul(number),

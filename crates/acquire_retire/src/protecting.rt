@@ -11,7 +11,7 @@ use crate::splitting::split;
 use announce_slots::announced_as;
 use core_events::{Act, EventPlace, Kind, Note, Outcome, Phase, SlotId};
 use core_functions::{
-    found_in, held_as, note_index, note_of, place_index, ripen, slot_in_note, slot_index, validated,
+    found_in, held_as, note_index, note_of, place_index, slot_in_note, slot_index, validated,
 };
 use counter_word::value;
 use plain_protocol::{Deed, Protocol, Still};
@@ -133,7 +133,7 @@ impl<P: Protocol> Domain<P> {
             return Outcome::Word(found);
         }
         let (stay, go) = split(&mut seat.batch, &seat.seen);
-        ripen(&mut seat.ripe, &seat.dying, &seat.seen);
+        seat.dying.ripen(&seat.seen);
         seat.seen.clear();
         seat.read = 0;
         seat.phase = Phase::Idle;

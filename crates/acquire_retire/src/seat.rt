@@ -1,6 +1,7 @@
 //! A seat of a domain, with which one thread at a time steps.
 use core_events::{Note, Phase, Quota, SlotId};
 use domain_rule::SeatView;
+use dying_slots::Dying;
 use eject_scan::Seen;
 use plain_protocol::Protocol;
 use retire_batch::Batch;
@@ -22,9 +23,7 @@ pub struct SeatOf<W> {
     pub(crate) seen: Seen,
     /// How many words its scan has read.
     pub(crate) read: u32,
-    pub(crate) dying: Vec<SlotId>,
-    /// Those of the dying slots that a whole scan found under no announcement.
-    pub(crate) ripe: Vec<SlotId>,
+    pub(crate) dying: Dying,
     /// At seat 0: how many seats have left.
     pub(crate) left: u32,
     /// Slots that it gave back itself, which may be free still, the latest last.
@@ -35,7 +34,6 @@ pub struct SeatOf<W> {
 
 // A clause sees which table it steps on, and what it knows.
 impl<W> Model for SeatOf<W> {
-    ghost use Rattle.std.specs.Prelude.{vec_capacity};
     ghost use Rattle.acquire_retire.specs.Seats.{SeatState, IsSeat};
 
     ghost Value = { SeatState W };
@@ -54,10 +52,10 @@ impl<W> Model for SeatOf<W> {
       owed = s.batch.owed;
       seen = s.seen.rows;
       read = s.read;
-      dying = s.dying.items;
-      ripe = s.ripe.items;
+      waiting = s.dying.waiting;
+      ripe = s.dying.ripe;
       left = s.left;
-    }) s.batch.room s.seen.room (vec_capacity s.dying) (vec_capacity s.ripe) };
+    }) s.batch.room s.seen.room s.dying.room };
 }
 
 /// A seat of a domain under the protocol P.

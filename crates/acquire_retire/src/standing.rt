@@ -1,5 +1,5 @@
 //! What a domain and its seats tell of themselves, without a step.
-ghost use Rattle.std.specs.Prelude.{◌≡◌, ◌≤◌, ◌↔◌, ◌+◌, false, [], IfSome, IsNone, IsTrue, length, slice_index_or};
+ghost use Rattle.std.specs.Prelude.{◌<◌, ◌≡◌, ◌≤◌, ◌↔◌, ◌+◌, false, [], IfSome, IsNone, IsTrue, length, slice_index_or};
 ghost use Rattle.plain_state.specs.declared.slot.SlotId.{SlotId};
 ghost use Rattle.plain_state.specs.Lists.{times};
 ghost use Rattle.core_events.specs.Views.{allowed_makes};
@@ -76,16 +76,15 @@ impl<P: Protocol> Domain<P> {
         seat.batch.len()
     }
 
-    /// The slot that comes first of those that the seat has ended and not yet destroyed.
+    /// A slot that the seat has ended and not yet destroyed: the first ripe one, or else the first of the others.
     pub fn next_dying(&self, seat: &Seat<P>) -> Option<SlotId>
         requires { IsOf self.now seat.now }
         ensures none { IsNone result ↔ (seat.now.view.core.dying ≡ []) }
-        ensures first { IfSome result (λ s. s ≡ slice_index_or seat.now.view.core.dying 0 s) }
+        ensures dying { IfSome result (λ s. 0 < times s seat.now.view.core.dying) }
     {
-        if seat.dying.is_empty() {
-            None
-        } else {
-            Some(seat.dying[0])
+        match seat.dying.first_ripe() {
+            Some(slot) => Some(slot),
+            None => seat.dying.first_waiting(),
         }
     }
 
@@ -98,11 +97,7 @@ impl<P: Protocol> Domain<P> {
         ensures dying { (s : SlotId)
             → times s seat.now.view.core.ripe ≤ times s seat.now.view.core.dying }
     {
-        if seat.ripe.is_empty() {
-            None
-        } else {
-            Some(seat.ripe[0])
-        }
+        seat.dying.first_ripe()
     }
 
     /// The sizes of the domain.

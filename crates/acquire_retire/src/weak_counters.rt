@@ -9,7 +9,7 @@ use crate::domain::Domain;
 use crate::hints::remember;
 use crate::seat::Seat;
 use core_events::{Act, Kind, Outcome, Phase, SlotId};
-use core_functions::{bit_alone, bits_index, counter_index, given_up, take_first};
+use core_functions::{bit_alone, bits_index, counter_index, given_up};
 use plain_protocol::{Protocol, Still};
 use std::marker::Brand;
 
@@ -75,8 +75,7 @@ impl<P: Protocol> Domain<P> {
             Still,
             word,
         );
-        take_first(&mut seat.dying, slot);
-        take_first(&mut seat.ripe, slot);
+        seat.dying.take(slot);
         let (phase, outcome) = given_up(Kind::Weak, slot, found);
         seat.phase = phase;
         outcome

@@ -25,7 +25,7 @@ invariant_of-seat g c =
     let shape = ap (λ (s : SeatState _). s.view.core.shape) c.seat.view_is ∙ c.requires.seat.1 in
     seat_after c.args.self.now _ _ (act.Cas c.args.place c.args.old c.args.new) c.seat.inside.seat
     c.compare_exchange_as-found.new.seat c.compare_exchange_as-found.result
-    c.compare_exchange_as-found.ensures (λ (s : Stored). s) _ _ _ _ _ shape
+    c.compare_exchange_as-found.ensures (λ (s : Stored). s) _ _ _ _ shape
     c.seat.invariant.stores c.seat.invariant.rooms
     (cas_lost c.args.self.now.shape c.args.place c.args.old c.args.new
     c.compare_exchange_as-found.result c.seat.inside.seat.me.0.core
@@ -41,6 +41,6 @@ invariant_of-seat-2 g c =
     c.compare_exchange_as-found.ensures
     (λ (s : Stored). record s {
       retired = joined (place_kind c.args.place) (slot_in found) s.retired;
-    }) _ _ _ _ _ shape c.seat.invariant.stores c.seat.invariant.rooms
+    }) _ _ _ _ shape c.seat.invariant.stores c.seat.invariant.rooms
     (cas_done c.args.self.now.shape c.args.place c.args.old c.args.new found
     c.seat.inside.seat.me.0.core (c.if-found-expected.false ∙ c.held_as-expected.ensures)))

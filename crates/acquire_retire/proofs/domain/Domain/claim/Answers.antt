@@ -22,6 +22,6 @@ returns g c =
 pub overflow_add-seat : goal.overflow_add-seat
 overflow_add-seat g c =
     let small : c.seat.inside.makes + 1 < 2 ^ 64 = claims_few c.args.self.now _ _ c.args.slot
-    c.seat.inside.seat c.fetch_and_as-found.new.seat _ c.fetch_and_as-found.ensures _ _ _ _ _
+    c.seat.inside.seat c.fetch_and_as-found.new.seat _ c.fetch_and_as-found.ensures _ _ _ _
     c.seat.invariant in
     search rules

@@ -13,7 +13,7 @@ load_as-found-requires-clause-can g c = can_still c.args.self.now _ act.Scan
 
 pub note-requires : goal.note-requires
 note-requires g c =
-    let room = room_to_read c.seat.inside.seat.me.0.core _ _ _ _ _ c.seat.invariant.seated.law
+    let room = room_to_read c.seat.inside.seat.me.0.core _ _ _ _ c.seat.invariant.seated.law
     c.seat.invariant.stores c.seat.invariant.rooms in
     search rules
 
@@ -27,14 +27,12 @@ invariant_of-seat-2 g c =
     c.seat.invariant.stores c.if-seat-self.false in
     rw (
       c.split-stay.ensures.batch,
-      c.ripen.ensures.ripened,
-      c.ripen.ensures.capacity,
-      c.deref.ensures.value,
+      c.ripen.ensures,
       c.clear.ensures,
       c.note.ensures,
     )
     (scan_ends c.args.self.now _ _ c.seat.inside.seat c.load_as-found.new.seat c.load_as-found.result
-    c.load_as-found.ensures _ _ _ _ _ c.seat.invariant can.shape last)
+    c.load_as-found.ensures _ _ _ _ c.seat.invariant can.shape last)
 
 pub ripen-requires : goal.ripen-requires
 ripen-requires g c =
@@ -44,12 +42,12 @@ ripen-requires g c =
     let shape = c.self.invariant.same ∙ ap (λ (d : DomainState _). d.shape) c.self.view_is in
     let last = reads_last c.args.self.now.shape _ c.seat.inside.seat.me.0.core _ shape
     c.seat.invariant.stores c.if-seat-self.false in
-    rw (c.deref.ensures.value, c.note.ensures)
+    rw c.note.ensures
     (room_for_ripe c.args.self.now _ c.self.view_is _ c.self.invariant _ _ act.Scan
-    c.seat.inside.seat c.load_as-found.new.seat _ c.load_as-found.ensures tt can.shape _ _ _ _ _
+    c.seat.inside.seat c.load_as-found.new.seat _ c.load_as-found.ensures tt can.shape _ _ _ _
     c.seat.invariant _
     (ripe_after c.args.self.now _ _ c.seat.inside.seat c.load_as-found.new.seat
-    c.load_as-found.result c.load_as-found.ensures _ _ _ _ _ c.seat.invariant can.shape last))
+    c.load_as-found.result c.load_as-found.ensures _ _ _ _ c.seat.invariant can.shape last))
 
 pub returns-then-seat-self : goal.returns-then-seat-self
 returns-then-seat-self g c =
@@ -72,5 +70,5 @@ returns g c =
     call_tells c.args.self.now _ _ act.Scan c.seat.inside.seat c.load_as-found.new.seat
     c.load_as-found.result c.load_as-found.ensures c.args.seat.now c.seat.view_is _
     (split_answers c.args.self.now _ _ c.seat.inside.seat c.load_as-found.new.seat
-    c.load_as-found.result c.load_as-found.ensures _ _ _ _ _ c.seat.invariant can.shape last _ _
+    c.load_as-found.result c.load_as-found.ensures _ _ _ _ c.seat.invariant can.shape last _ _
     (e.stay ∙ rw (e.batch, c.note.ensures) refl) (e.go ∙ rw (e.batch, c.note.ensures) refl))

@@ -4,8 +4,9 @@ use Rattle.core_events.specs.declared.act.Act.TheVariants as act
 use Rattle.core_events.specs.declared.view.Phase.TheVariants as phase
 use Rattle.core_events.specs.Steps.{ended}
 use Rattle.core_events.specs.Views.{alone, slot_of}
-use Rattle.acquire_retire.proofs.Calls.{call_tells, can_still}
-use Rattle.acquire_retire.proofs.Dying.{room_to_end}
+use Rattle.acquire_retire.specs.Seats.{Stored}
+use Rattle.acquire_retire.proofs.Calls.{call_tells, can_still, kept}
+use Rattle.acquire_retire.proofs.Dying.{room_to_end, seat_ended}
 use Rattle.acquire_retire.proofs.domain.Domain.take.Goals as goal
 
 pub fetch_and_as-found-requires-clause-can : goal.fetch_and_as-found-requires-clause-can
@@ -13,8 +14,8 @@ fetch_and_as-found-requires-clause-can g c =
     can_still c.args.self.now _ act.Take c.seat.inside.seat c.args.seat.now
     c.seat.view_is c.seat.invariant.seated c.requires.seat tt tt c.requires.may
 
-pub push_reserved-requires : goal.push_reserved-requires
-push_reserved-requires g c =
+pub end-requires : goal.end-requires
+end-requires g c =
     let can = can_still c.args.self.now g.P.Kind.PayloadKind.fits act.Take c.seat.inside.seat
     c.args.seat.now c.seat.view_is c.seat.invariant.seated c.requires.seat tt tt c.requires.may in
     let v = c.seat.inside.seat.me.0.core in
@@ -22,7 +23,7 @@ push_reserved-requires g c =
     (sym c.has_help.ensures ∙ c.if-has_help.true) in
     let room = room_to_end c.args.self.now _ c.self.view_is _ c.self.invariant _ _ act.Take
     c.seat.inside.seat c.fetch_and_as-found.new.seat _ c.fetch_and_as-found.ensures tt
-    can.shape _ _ _ _ _ c.seat.invariant can.may.0
+    can.shape _ _ _ _ c.seat.invariant can.may.0
     (longer ∙ ap (λ (o : Option SlotId). v.dying ++ alone o) (ap slot_of can.may.1)) in
     search rules
 
@@ -35,3 +36,18 @@ pub returns : goal.returns
 returns g c =
     call_tells c.args.self.now _ _ act.Take c.seat.inside.seat c.fetch_and_as-found.new.seat c.fetch_and_as-found.result c.fetch_and_as-found.ensures
     c.args.seat.now c.seat.view_is _ (search rules)
+
+pub invariant_of-seat : goal.invariant_of-seat
+invariant_of-seat g c =
+    let can = can_still c.args.self.now g.P.Kind.PayloadKind.fits act.Take c.seat.inside.seat
+    c.args.seat.now c.seat.view_is c.seat.invariant.seated c.requires.seat tt tt c.requires.may in
+    let v = c.seat.inside.seat.me.0.core in
+    let is = ap slot_of (sym (ap (λ (s : Stored). s.phase) c.seat.invariant.stores) ∙ c.in-Help.is) in
+    let longer = ap (λ b. (ended b (slot_of v.phase) phase.Idle v).dying)
+    (sym c.has_help.ensures ∙ c.if-has_help.true) in
+    rw c.end.ensures
+    (seat_ended c.args.self.now _ c.self.view_is _ c.self.invariant _ _ act.Take c.seat.inside.seat
+    c.fetch_and_as-found.new.seat _ c.fetch_and_as-found.ensures tt _ _ _ _ c.seat.invariant can.shape
+    c.in-Help.slot (slot_of v.phase)
+    (ap (λ b. kept (ended b (slot_of v.phase) phase.Idle v)) (sym c.has_help.ensures ∙ c.if-has_help.true))
+    (longer ∙ ap (λ (o : Option SlotId). v.dying ++ alone o) is) is)

@@ -18,5 +18,5 @@ invariant_of-seat g c =
     let more : c.granted_by.result ≡ slice_index_or c.self.inside.grants.items found 0 =
     search rules in
     ticket_seat c.args.self.now _ c.self.view_is _ c.self.invariant _ _ c.seat.inside.seat
-    c.fetch_add_as-found.new.seat found c.fetch_add_as-found.ensures shape _ _ _ _ _
+    c.fetch_add_as-found.new.seat found c.fetch_add_as-found.ensures shape _ _ _ _
     c.seat.invariant c.granted_by.result more
