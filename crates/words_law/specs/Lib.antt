@@ -1,0 +1,5 @@
+pub mod Views
+pub mod Law
+pub mod Pushes
+pub mod Reading
+pub mod Owned
