@@ -19,6 +19,7 @@ use Rattle.directory_law.specs.Law.{DirectoryLaw}
 use Rattle.directory_law.proofs.Kept.{kept_set}
 use Rattle.directory_law.proofs.Notes.{each_in}
 use Rattle.words_law.specs.Law.{HasText, ItemsHaveTexts, WasPushed, head_of}
+use Rattle.words_law.specs.Owned.{join_directories}
 use Rattle.words_law.specs.Pushes.{SawHead, KeepsHead}
 use Rattle.words_law.proofs.Noted.{noted_cases, noted_before, noted_after, taken_append}
 
@@ -48,14 +49,14 @@ pub items_leave : (qs : List QueueView) (ds : List DirectoryView) (j : ℕ) → 
     → j < length ds → j ≢ 0 → ItemsHaveTexts qs ds
     → ItemsHaveTexts
     (set (set qs 0 (queue.joined (queue.view_at qs 0) (queue.view_at qs j))) j queue.first_view)
-    (set (set ds 0 (directory.joined (directory.view_at ds 0) (directory.view_at ds j))) j
+    (set (set ds 0 (join_directories (directory.view_at ds 0) (directory.view_at ds j))) j
     directory.gone)
 items_leave qs ds j low there other items x was =
     let old = noted_before queue.first_view (λ (v : QueueView). taken_items v.pushed) queue.joined
     refl (λ a b. taken_append a.pushed b.pushed) qs j low other x was in
     let text = items x old in (
       text.0,
-      noted_after directory.gone (λ (v : DirectoryView). v.kept) directory.joined refl
+      noted_after directory.gone (λ (v : DirectoryView). v.kept) join_directories refl
           (λ a b. refl) ds j there other (directory.rope (head_of x) x.life text.0) text.1,
     )
 

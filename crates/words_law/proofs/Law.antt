@@ -31,11 +31,11 @@ use Rattle.directory_law.specs.Law.{DirectoryLaw}
 use Rattle.directory_law.specs.Owned as directory_owned
 use Rattle.directory_law.proofs.Start.{starts}
 use Rattle.directory_law.proofs.Quiet.{calm_keeps}
-use Rattle.directory_law.proofs.Leave.{leave_keeps}
 use Rattle.directory_law.proofs.Foreign.{foreign_keeps}
 use Rattle.words_law.specs.Views.{View, gone, queues, directories}
 use Rattle.words_law.specs.Law.{WordsLaw, ItemsHaveTexts, Gone}
-use Rattle.words_law.specs.Owned.{owns, first_view, joined}
+use Rattle.words_law.specs.Owned.{owns, first_view, join_directories, joined}
+use Rattle.words_law.proofs.Joined.{directory_leave}
 use Rattle.words_law.proofs.Items.{items_leave}
 use Rattle.words_law.proofs.Left.{gone_leave, gone_same, gone_start}
 
@@ -95,12 +95,12 @@ words_leave u z p q j found views meets does =
     let lq = length-map views (λ (v : View). v.0) in
     let ld = length-map views (λ (v : View). v.1) in
     let eq = left_lists (λ (v : View). v.0) queue.joined (λ v w. refl) views j in
-    let ed = left_lists (λ (v : View). v.1) directory.joined (λ v w. refl) views j in
+    let ed = left_lists (λ (v : View). v.1) join_directories (λ v w. refl) views j in
     let one = joined (get_or views 0 gone) (get_or views j gone) in
     let after = set (set views 0 one) j gone in
     record {
-      both = both_leave (WholeLaw u) (DirectoryLaw z) queue.joined directory.joined queue.first_view
-          directory.gone (whole_leave u) (leave_keeps z) p q j found views
+      both = both_leave (WholeLaw u) (DirectoryLaw z) queue.joined join_directories queue.first_view
+          directory.gone (whole_leave u) (directory_leave z) p q j found views
           (meets_both u z p views meets) does;
       items = subst (λ (l : List QueueView). ItemsHaveTexts l (directories after)) (sym eq)
           (subst (λ (l : List DirectoryView). ItemsHaveTexts

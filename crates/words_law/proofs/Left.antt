@@ -7,8 +7,9 @@ use Rattle.plain_state.specs.State.{Plain, PlainSeat, empty, new_seat, seat_at}
 use Rattle.plain_state.specs.Steps.{Does}
 use Rattle.directory_law.specs.declared.view.View.{View}
 use Rattle.queue_law.proofs.Left.{LeftSame, left_with, seats_of}
-use Rattle.directory_law.specs.Views.{gone, joined, view_at}
+use Rattle.directory_law.specs.Views.{gone, view_at}
 use Rattle.words_law.specs.Law.{Gone}
+use Rattle.words_law.specs.Owned.{join_directories}
 
 pub gone_same : (p q : Plain) (views : List View) → LeftSame p q → Gone p views → Gone q views
 gone_same p q views same left m e =
@@ -27,9 +28,9 @@ gone_set p n views w there here left m e = ⊎_elim
 
 pub gone_leave : (p q : Plain) (j found : ℕ) (views : List View) → length views ≡ length p.seats
     → Does p 0 (act.Leave j) found q → Gone p views
-    → Gone q (set (set views 0 (joined (view_at views 0) (view_at views j))) j gone)
+    → Gone q (set (set views 0 (join_directories (view_at views 0) (view_at views j))) j gone)
 gone_leave p q j found views count does left m e =
-    let one = joined (view_at views 0) (view_at views j) in
+    let one = join_directories (view_at views 0) (view_at views j) in
     let seats = seats_of _ q does.1.8 in
     ⊎_elim
     (λ (is : m ≡ j). ap (view_at (set (set views 0 one) j gone)) is

@@ -3,3 +3,4 @@ pub mod Law
 pub mod Pushes
 pub mod Reading
 pub mod Owned
+pub mod Texts

@@ -1,0 +1,73 @@
+//! What the law gives a caller.
+ghost use Rattle.std.specs.Prelude.{◌≡◌, ◌⊎◌, ◌+◌, ◌≤◌, ◌++◌, ℕ, List, [], slice_index_or, true};
+ghost use Rattle.plain_state.specs.State.{Plain};
+ghost use Rattle.plain_protocol.specs.Laws.{Meets};
+ghost use Rattle.plain_protocol.specs.Owns.{is_alone};
+ghost use Rattle.queue_law.specs.declared.view.Item.{Item};
+ghost use Rattle.queue_law.specs.Chain.{Ends};
+ghost use Rattle.queue_law.specs.Law.{QueueLaw};
+ghost use Rattle.queue_law.specs.Lists.{popped_times, pushed_times, taken_items};
+ghost use Rattle.directory_law.specs.declared.view.Rope.{Rope};
+ghost use Rattle.directory_law.specs.declared.view.View.{View as DirectoryView};
+ghost use Rattle.directory_law.specs.Cells.{Area};
+ghost use Rattle.directory_law.specs.Payloads.{Text};
+ghost use Rattle.directory_law.specs.Views.{In};
+ghost use Rattle.directory_law.specs.Views as directory;
+ghost use Rattle.words_law.specs.Views.{View, directories, gone, queues};
+ghost use Rattle.words_law.specs.Law.{HasText, WasPopped, WasPushed, WordsLaw};
+ghost use Rattle.words_law.specs.Owned.{join_directories};
+ghost use Rattle.words_law.specs.Texts.{HasAll, HasOneText, HasRootText, KnowsText, PushesAre, WordsAgree, all_popped, all_pushed, text_of_item, word_times};
+
+use queue_law::View as QueueView;
+
+/// Each item that was pushed has one text, which a view keeps for its slot, in its life. What a view tells of an
+/// item's text is so; and where a seat leaves, seat 0's view tells what the views of both told.
+pub fn items_have_texts()
+    ensures pushed { (u : Ends) (z : Area) (p : Plain) (views : List View) → WordsLaw u z p views
+        → (x : Item) → WasPushed (queues views) x → HasOneText (directories views) x }
+    ensures known { (u : Ends) (z : Area) (p : Plain) (views : List View) → WordsLaw u z p views
+        → (n : ℕ) (x : Item) (text : Text)
+        → KnowsText (directory.view_at (directories views) n) x text
+        → HasText (directories views) x text × HasOneText (directories views) x }
+    ensures joined { (v w : DirectoryView) (x : Item) (text : Text)
+        → KnowsText v x text ⊎ KnowsText w x text → KnowsText (join_directories v w) x text }
+{}
+
+/// Each item that was popped was pushed, and at least as often.
+pub fn popped_items_were_pushed()
+    ensures was { (u : Ends) (p : Plain) (views : List QueueView) → QueueLaw u p views
+        → (x : Item) → WasPopped views x → WasPushed views x }
+    ensures often { (u : Ends) (p : Plain) (views : List QueueView) → QueueLaw u p views
+        → (x : Item) → popped_times x views ≤ pushed_times x views }
+{}
+
+/// Where each item was pushed as often as it was popped and is among the rest, so was each word: what waits, or was
+/// left, is such a rest. Words of two lists of items add up.
+pub fn words_agree()
+    ensures even { (kept : List Rope) (w : List ℕ) (views : List QueueView) (rest : List Item)
+        → PushesAre views rest → word_times kept w (all_pushed views)
+        ≡ word_times kept w (all_popped views) + word_times kept w rest }
+    ensures more { (kept : List Rope) (w : List ℕ) (xs ys : List Item)
+        → word_times kept w (xs ++ ys) ≡ word_times kept w xs + word_times kept w ys }
+{}
+
+/// Once seat 0 is alone, its view has all pushes and pops and all texts: each item that was pushed has one, by what
+/// that view keeps, and it is the one that the view tells. Where the queue is shut and nothing was left, each word was
+/// pushed as often as it was popped.
+pub fn the_root_knows_all()
+    ensures lists { (u : Ends) (z : Area) (p : Plain) (views : List View)
+        → Meets (WordsLaw u z) p views → is_alone p 0 ≡ true
+        → HasAll views (slice_index_or views 0 gone) }
+    ensures texts { (u : Ends) (z : Area) (p : Plain) (views : List View)
+        → Meets (WordsLaw u z) p views → is_alone p 0 ≡ true
+        → let root = slice_index_or views 0 gone in
+        (x : Item) → In x (taken_items root.0.pushed) → HasRootText root x }
+    ensures known { (u : Ends) (z : Area) (p : Plain) (views : List View)
+        → Meets (WordsLaw u z) p views → is_alone p 0 ≡ true
+        → let root = slice_index_or views 0 gone in
+        (x : Item) (text : Text) → KnowsText root.1 x text → text ≡ text_of_item root.1.kept x }
+    ensures words { (u : Ends) (z : Area) (p : Plain) (views : List View)
+        → Meets (WordsLaw u z) p views → is_alone p 0 ≡ true
+        → let root = slice_index_or views 0 gone in
+        3 ≤ root.0.stand.laid → root.0.stand.left ≡ [] → WordsAgree root }
+{}
