@@ -1,5 +1,5 @@
 -- The law holds at the start, and is kept by calm and by foreign steps and where a seat leaves.
-use Rattle.std.proofs.Common.{◌≡◌, ◌≢◌, ⊎_elim, ℕ, ◌<◌, List, [], ◌∷◌, length, get_or, set, map, refl, sym, ap, subst, ◌∙◌, arith}
+use Rattle.std.proofs.Common.{◌≡◌, ◌≢◌, ⊎_elim, ℕ, List, [], get_or, set, map, refl, sym, ap, subst, ◌∙◌, arith}
 use Rattle.std.specs.List.{range_with_len}
 use Rattle.std.proofs.lemmas.List.{get_or_past, length-map, map-set}
 use Rattle.std.proofs.lemmas.List.FromFn.{length-map-range_with_len, get_or-map-range_with_len}
@@ -22,7 +22,7 @@ use Rattle.queue_law.specs.Chain.{Ends}
 use Rattle.queue_law.specs.Lists.{taken_items}
 use Rattle.queue_law.specs.Law.{WholeLaw}
 use Rattle.queue_law.specs.Owned as queue_owned
-use Rattle.queue_law.proofs.Left.{LeftSame, does_left}
+use Rattle.queue_law.proofs.Left.{does_left}
 use Rattle.queue_law.proofs.Whole.{whole_calm, whole_foreign, whole_leave, whole_start}
 use Rattle.directory_law.specs.Views.{In}
 use Rattle.directory_law.specs.Views as directory

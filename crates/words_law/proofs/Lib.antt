@@ -8,4 +8,5 @@ pub mod Popped
 pub mod Reading
 pub mod Texts
 pub mod Counts
+pub mod Known
 pub mod Root

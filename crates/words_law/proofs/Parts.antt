@@ -1,5 +1,5 @@
 -- The queue and the directory as parts: a step that is free for the one keeps the whole law.
-use Rattle.std.proofs.Common.{◌≡◌, ◌≢◌, ◌⊎◌, inl, inr, ⊎_elim, ℕ, ◌<◌, List, [], ◌∷◌, ◌++◌, length, get_or, set, map, refl, sym, ap, subst, ◌∙◌, arith}
+use Rattle.std.proofs.Common.{◌≡◌, ◌≢◌, ◌⊎◌, inl, inr, ⊎_elim, ℕ, ◌<◌, List, [], ◌∷◌, ◌++◌, length, get_or, set, refl, sym, ap, subst, ◌∙◌, arith}
 use Rattle.std.proofs.lemmas.List.{length-map, map-set, set-get_or}
 use Rattle.std.proofs.Math.ListN.{get_or-map}
 use Rattle.plain_state.specs.declared.act.PlainAct.{PlainAct}
@@ -11,7 +11,6 @@ use Rattle.protocol_pairs.specs.Parts.{HasPart, KeepsRest}
 use Rattle.protocol_pairs.specs.Sides.{left_rest, right_rest}
 use Rattle.protocol_pairs.specs.Spared.{IsSpared}
 use Rattle.directory_law.specs.declared.view.Rope.{Rope}
-use Rattle.directory_law.specs.declared.view.Seen.{Seen}
 use Rattle.directory_law.specs.declared.view.View.{View as DirectoryView}
 use Rattle.queue_law.specs.declared.view.Item.{Item}
 use Rattle.queue_law.specs.declared.view.Taken.{Taken}
@@ -24,7 +23,7 @@ use Rattle.queue_law.specs.Owned as queue_owned
 use Rattle.queue_law.proofs.Left.{does_left}
 use Rattle.queue_law.proofs.Whole.{whole_foreign}
 use Rattle.directory_law.specs.Payloads.{Text}
-use Rattle.directory_law.specs.Views.{In}
+use Rattle.directory_law.specs.Views.{In, rope}
 use Rattle.directory_law.specs.Views as directory
 use Rattle.directory_law.specs.Cells.{Area}
 use Rattle.directory_law.specs.Steps.{life_in}
@@ -184,3 +183,8 @@ may_push_stays v w x saw kept may = ⊎_elim
 pub seen_may_push : (own : OwnPart) (v : View) (x : Item) → HasSeen own v.1 (head_of x)
     → x.life ≡ life_in own (head_of x) → MayPush v x
 seen_may_push own v x seen life = inl (_, seen.1, refl, sym life)
+
+-- and one that it bound
+pub bound_may_push : (v : View) (x : Item) (text : Text)
+    → In (rope (head_of x) x.life text) v.1.kept → MayPush v x
+bound_may_push v x text kept = inr (rope (head_of x) x.life text, kept, refl, refl)

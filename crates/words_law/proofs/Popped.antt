@@ -1,8 +1,7 @@
 -- Each item that was popped was pushed, and as often at most.
-use Rattle.std.proofs.Common.{◌≡◌, ◌≢◌, ◌⊎◌, inl, inr, ⊎_elim, ℕ, zero, suc, ◌+◌, ◌<◌, ◌≤◌, Bool, true, false, List, [], ◌∷◌, ◌++◌, length, get_or, drop, refl, sym, ap, subst, ◌∙◌, arith}
+use Rattle.std.proofs.Common.{◌≡◌, inl, inr, ⊎_elim, ℕ, suc, ◌+◌, ◌<◌, ◌≤◌, Bool, true, false, List, [], ◌∷◌, length, drop, refl, sym, ap, subst, ◌∙◌, arith}
 use Rattle.std.specs.Prelude.{cond, ◌==◌, ◌&&◌}
 use Rattle.std.proofs.lemmas.Bool.{cases_lt, eqb-true, eq-eqb}
-use Rattle.std.proofs.lemmas.Bool.Decides.{nat_tests}
 use Rattle.std.proofs.lemmas.List.{get_or_past}
 use Rattle.std.proofs.lemmas.List.Sums.{sum_by-cons, get_or-le-sum_by}
 use Rattle.plain_state.specs.State.{Plain}
@@ -10,7 +9,7 @@ use Rattle.queue_law.specs.declared.view.Item.{Item}
 use Rattle.queue_law.specs.declared.view.Taken.{Taken}
 use Rattle.queue_law.specs.declared.view.View.{View}
 use Rattle.queue_law.specs.Views.{first_view, view_at}
-use Rattle.queue_law.specs.Chain.{Ends, Sent}
+use Rattle.queue_law.specs.Chain.{Ends}
 use Rattle.queue_law.specs.Lists.{same_words, same_item, item_times, views_total, sent_items, taken_items, pushed_times, popped_times}
 use Rattle.queue_law.specs.Law.{QueueLaw}
 use Rattle.queue_law.proofs.Gives.{all_items, times_append}

@@ -1,16 +1,14 @@
 -- A seat that popped a head may begin to read it.
-use Rattle.std.proofs.Common.{◌≡◌, ◌≢◌, ◌⊎◌, inl, inr, ⊎_elim, ℕ, ◌<◌, false, List, [], ◌∷◌, ◌++◌, length, get_or, set, refl, sym, ap, subst, ◌∙◌, arith}
+use Rattle.std.proofs.Common.{◌≡◌, ⊎_elim, ℕ, ◌<◌, false, List, [], ◌∷◌, ◌++◌, length, get_or, set, sym, ap, subst, ◌∙◌, arith}
 use Rattle.std.proofs.lemmas.List.{length-map, length-set}
 use Rattle.plain_state.specs.declared.act.EventPlace.TheVariants.{Field}
 use Rattle.plain_state.specs.declared.act.PlainAct.{PlainAct}
-use Rattle.plain_state.specs.declared.act.PlainAct.TheVariants as act
 use Rattle.plain_state.specs.declared.slot.SlotId.{SlotId}
 use Rattle.plain_state.specs.State.{Plain, slot_at, seat_at}
 use Rattle.plain_state.specs.Places.{HoldsStrongly}
 use Rattle.plain_state.specs.Lawful.{Lawful}
-use Rattle.plain_state.specs.Steps.{Does}
 use Rattle.plain_protocol.specs.Acts.{IsCalm}
-use Rattle.plain_protocol.specs.Laws.{Keeps, Meets}
+use Rattle.plain_protocol.specs.Laws.{Keeps}
 use Rattle.plain_protocol.specs.Owns.{OwnPart, own_part}
 use Rattle.directory_law.specs.declared.view.Ran.{Ran}
 use Rattle.directory_law.specs.declared.view.View.{View as DirectoryView}
@@ -32,7 +30,7 @@ use Rattle.directory_law.proofs.Kept.{kept_counts}
 use Rattle.directory_law.proofs.Owns.{has_strongly, life_at, payload_at, strongly_live}
 use Rattle.directory_law.proofs.Reading.{unmarked_bound}
 use Rattle.words_law.specs.Views.{View, gone, queues, directories}
-use Rattle.words_law.specs.Law.{Gone, WordsLaw, HasText}
+use Rattle.words_law.specs.Law.{Gone, WordsLaw}
 use Rattle.words_law.specs.Reading.{HasPopped, BeginReady, BeginTells, begin_next, field_slot}
 use Rattle.words_law.proofs.Left.{gone_set}
 use Rattle.words_law.proofs.Law.{words_calm}

@@ -1,7 +1,8 @@
 -- Once seat 0 is alone, its view has all.
-use Rattle.std.proofs.Common.{◌≡◌, ◌≢◌, ◌⊎◌, ℕ, zero, suc, ◌+◌, ◌<◌, ◌≤◌, true, List, [], ◌∷◌, ◌++◌, length, get_or, refl, sym, ap, subst, ◌∙◌, arith, Some, None}
+use Rattle.std.proofs.Common.{◌≡◌, ◌≢◌, ◌⊎◌, ℕ, suc, ◌≤◌, true, List, [], ◌∷◌, ◌++◌, length, map, get_or, refl, sym, ap, subst, ◌∙◌, arith, Some, None}
 use Rattle.std.specs.Prelude.{if◌then◌else◌}
-use Rattle.std.specs.List.{flat_map}
+use Rattle.std.specs.List.{count_by, flat_map}
+use Rattle.std.specs.Str.{bytes_eq}
 use Rattle.std.proofs.lemmas.List.{append-nil}
 use Rattle.plain_state.specs.State.{Plain, seat_at}
 use Rattle.plain_protocol.specs.Laws.{Meets}
@@ -10,25 +11,23 @@ use Rattle.queue_law.specs.declared.view.Item.{Item}
 use Rattle.queue_law.specs.declared.view.View.{View as QueueView}
 use Rattle.queue_law.specs.Views as queue
 use Rattle.queue_law.specs.Chain.{Ends}
-use Rattle.queue_law.specs.Lists.{taken_items, pushed_times, popped_times, item_times}
-use Rattle.queue_law.specs.Law.{QueueLaw}
-use Rattle.queue_law.specs.Lessons.{NothingLinked}
-use Rattle.queue_law.specs.Promises.{NoFlights}
+use Rattle.queue_law.specs.Lists.{taken_items, item_times}
 use Rattle.queue_law.proofs.Alone.{alone_at}
-use Rattle.queue_law.proofs.Empties.{all_popped as all_were_popped}
 use Rattle.queue_law.proofs.Shut.{left_over}
 use Rattle.directory_law.specs.declared.view.Rope.{Rope}
 use Rattle.directory_law.specs.declared.view.View.{View as DirectoryView}
+use Rattle.directory_law.specs.Bytes.{text_bytes}
 use Rattle.directory_law.specs.Payloads.{Text, IsText}
 use Rattle.directory_law.specs.Views.{In, rope}
 use Rattle.directory_law.specs.Views as directory
 use Rattle.directory_law.specs.Cells.{Area}
 use Rattle.words_law.specs.Views.{View, gone, queues, directories}
-use Rattle.words_law.specs.Law.{HasText, WasPushed, WordsLaw, head_of}
-use Rattle.words_law.specs.Texts.{all_kept, all_popped, all_pushed, HasAll, HasOneText, HasRootText, KnowsText, PushesAre, WordsAgree, text_of_item, word_times}
+use Rattle.words_law.specs.Law.{WasPushed, WordsLaw, head_of}
+use Rattle.words_law.specs.Texts.{HasAll, HasRootText, PushesAre, WordsAgree, all_kept, all_popped, all_pushed, text_of_item, word_times, words_of}
+use Rattle.words_law.specs.Known.{KnowsText, KnowsTexts}
 use Rattle.words_law.proofs.Counts.{times_of_none, words_even}
+use Rattle.words_law.proofs.Known.{told_words}
 use Rattle.words_law.proofs.Parts.{directory_at, queue_at}
-use Rattle.words_law.proofs.Popped.{times_none}
 use Rattle.words_law.proofs.Texts.{has_one, kept_all, known_has}
 
 module _ {V X : Type 0} (none : V) (f : V → List X) (empty : f none ≡ []) where
@@ -115,3 +114,17 @@ module _ (u : Ends) (z : Area) (p : Plain) (views : List View)
       agree (λ x.
       let e = over.even x in
       let n = ap (item_times x) (ap (λ (v : QueueView). v.stand.left) at ∙ none) in omega arith)
+
+  pub root_words : (xs : List Item) (ts : List Text) → KnowsTexts root.1 xs ts
+      → words_of root.1.kept xs ≡ map text_bytes ts
+  root_words xs ts knows = told_words root.1.kept root.1 root_knows xs ts knows
+
+  pub told_agree : 3 ≤ root.0.stand.laid → root.0.stand.left ≡ [] → (ts us : List Text)
+      → KnowsTexts root.1 (taken_items root.0.pushed) ts
+      → KnowsTexts root.1 (taken_items root.0.popped) us
+      → (w : List ℕ)
+      → count_by (bytes_eq w) (map text_bytes ts) ≡ count_by (bytes_eq w) (map text_bytes us)
+  told_agree shut none ts us pushed popped w =
+      let a = root_words (taken_items root.0.pushed) ts pushed in
+      let b = root_words (taken_items root.0.popped) us popped in
+      ap (count_by (bytes_eq w)) (sym a) ∙ (shut_agree shut none w ∙ ap (count_by (bytes_eq w)) b)

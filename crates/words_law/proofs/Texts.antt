@@ -1,13 +1,12 @@
 -- Each item that was pushed has one text, and what a view tells of it is so.
-use Rattle.std.proofs.Common.{◌≡◌, ◌⊎◌, inl, inr, ⊎_elim, ℕ, zero, suc, ◌<◌, ◌≤◌, Bool, true, false, List, [], ◌∷◌, ◌++◌, refl, sym, ap, subst, ◌∙◌, arith}
+use Rattle.std.proofs.Common.{◌≡◌, inl, inr, ⊎_elim, ℕ, zero, suc, ◌≤◌, Bool, true, false, List, [], ◌∷◌, ◌++◌, refl, sym, ap, subst, ◌∙◌, arith}
 use Rattle.std.specs.Prelude.{if◌then◌else◌}
 use Rattle.std.specs.List.{flat_map}
 use Rattle.std.proofs.lemmas.List.{append-nil}
 use Rattle.std.proofs.lemmas.Bool.Decides.{nat_tests}
 use Rattle.plain_state.specs.declared.slot.SlotId.{SlotId}
-use Rattle.plain_state.specs.State.{Plain, slot_at}
+use Rattle.plain_state.specs.State.{Plain}
 use Rattle.queue_law.specs.declared.view.Item.{Item}
-use Rattle.directory_law.specs.declared.view.Ran.{Ran}
 use Rattle.directory_law.specs.declared.view.Rope.{Rope}
 use Rattle.directory_law.specs.declared.view.View.{View}
 use Rattle.directory_law.specs.Payloads.{Text, IsText}
@@ -19,8 +18,8 @@ use Rattle.directory_law.proofs.Ends.{text_ends}
 use Rattle.directory_law.proofs.Kept.{kept_counts, same_text}
 use Rattle.directory_law.proofs.Notes.{each_in, in_left, in_right, is_of_at}
 use Rattle.words_law.specs.Law.{HasText, head_of}
-use Rattle.words_law.specs.Owned.{join_directories}
-use Rattle.words_law.specs.Texts.{text_in, all_kept, text_of_item, HasOneText, KnowsText, ReadText}
+use Rattle.words_law.specs.Texts.{text_in, all_kept, text_of_item, HasOneText}
+use Rattle.words_law.specs.Known.{KnowsText, ReadText}
 use Rattle.words_law.proofs.Noted.{in_cases}
 
 -- WHAT VIEWS KEEP TOGETHER
@@ -108,29 +107,3 @@ module _ (z : Area) (p : Plain) (views : List View) (law : DirectoryLaw z p view
 
   pub known_has : (n : ℕ) (text : Text) → KnowsText (view_at views n) x text → HasText views x text
   known_has n text knows = ⊎_elim (λ kept. (n, kept)) (λ read. read_has n text read) knows
-
--- WHERE A SEAT LEAVES, seat 0 knows what both knew
-read_in : (v w : View) (x : Item) (text : Text)
-    → ((e : Ran) → In e v.ran → In e w.ran) → ReadText v x text → ReadText w x text
-read_in v w x text more read = record {
-  ran = read.ran;
-  noted = more read.ran read.noted;
-  slot = read.slot;
-  life = read.life;
-  whole = read.whole;
-  is = read.is;
-}
-
-pub joined_knows : (v w : View) (x : Item) (text : Text)
-    → KnowsText v x text ⊎ KnowsText w x text → KnowsText (join_directories v w) x text
-joined_knows v w x text knows =
-    let after = join_directories v w in
-    let e = rope (head_of x) x.life text in
-    ⊎_elim
-    (λ (k : KnowsText v x text). ⊎_elim
-    (λ kept. inl (in_left e v.kept w.kept kept))
-    (λ read. inr (read_in v after x text (λ r i. in_left r v.ran w.ran i) read)) k)
-    (λ (k : KnowsText w x text). ⊎_elim
-    (λ kept. inl (in_right e v.kept w.kept kept))
-    (λ read. inr (read_in w after x text (λ r i. in_right r v.ran w.ran i) read)) k)
-    knows

@@ -4,3 +4,4 @@ pub mod Pushes
 pub mod Reading
 pub mod Owned
 pub mod Texts
+pub mod Known

@@ -1,12 +1,11 @@
 -- The texts of items: which words were pushed and popped, and how often.
-use Rattle.std.specs.Prelude.{◌≡◌, ◌⊎◌, ℕ, ◌+◌, List, [], ◌∷◌, map, if◌then◌else◌}
+use Rattle.std.specs.Prelude.{◌≡◌, ℕ, ◌+◌, List, [], ◌∷◌, map, if◌then◌else◌}
 use Rattle.std.specs.List.{count_by, flat_map}
 use Rattle.std.specs.Str.{bytes_eq}
 use Rattle.plain_state.specs.declared.slot.SlotId.{SlotId}
 use Rattle.queue_law.specs.declared.view.Item.{Item}
 use Rattle.queue_law.specs.declared.view.View.{View as QueueView}
 use Rattle.queue_law.specs.Lists.{pushed_times, popped_times, item_times, taken_items}
-use Rattle.directory_law.specs.declared.view.Ran.{Ran}
 use Rattle.directory_law.specs.declared.view.Rope.{Rope}
 use Rattle.directory_law.specs.declared.view.View.{View as DirectoryView}
 use Rattle.directory_law.specs.Bytes.{text_bytes}
@@ -49,18 +48,6 @@ pub record HasOneText (views : List DirectoryView) (x : Item) : Type 0 where
   pub has : HasText views x (text_of_item (all_kept views) x)
   pub is : IsText (text_of_item (all_kept views) x)
   pub one : (text : Text) → HasText views x text → text ≡ text_of_item (all_kept views) x
-
--- a view tells the item's text: its seat bound it, or read it whole
-pub record ReadText (v : DirectoryView) (x : Item) (text : Text) : Type 0 where
-  pub ran : Ran
-  pub noted : In ran v.ran
-  pub slot : ran.slot ≡ head_of x
-  pub life : ran.life ≡ x.life
-  pub whole : ran.before ≡ text
-  pub is : IsText text
-
-abbrev pub KnowsText : DirectoryView → Item → Text → Type 0
-KnowsText v x text = In (rope (head_of x) x.life text) v.kept ⊎ ReadText v x text
 
 -- each item was pushed as often as it was popped and stands among the rest together
 abbrev pub PushesAre : List QueueView → List Item → Type 0

@@ -16,6 +16,8 @@ ghost use Rattle.directory_law.specs.Law.{DirectoryLaw};
 ghost use Rattle.directory_law.specs.Lessons.{HasSeen};
 ghost use Rattle.directory_law.specs.Owned as directory_owned;
 ghost use Rattle.directory_law.specs.Steps.{life_in};
+ghost use Rattle.directory_law.specs.Payloads.{Text};
+ghost use Rattle.directory_law.specs.Views.{In, rope};
 ghost use Rattle.words_law.specs.Views.{View, gone};
 ghost use Rattle.words_law.specs.Law.{WordsLaw, head_of};
 ghost use Rattle.words_law.specs.Owned.{owns, first_view, joined};
@@ -43,14 +45,17 @@ pub fn each_part_keeps_the_law()
 {}
 
 /// A next view of the queue suits that has pushed nothing more, or one item more that the seat may push. A seat may
-/// push a head that it saw in a cell, in the life in which it now has it. What it may push, it may push until its view
-/// of the directory forgets what it saw or keeps.
+/// push a head that it saw in a cell, in the life in which it now has it, and one that it bound. What it may push, it
+/// may push whatever it did with the queue, and until its view of the directory forgets what it saw or keeps.
 pub fn what_may_be_pushed()
     ensures nothing { (v : View) (w : QueueView) → w.pushed ≡ v.0.pushed → PushesBound v w }
     ensures one { (v : View) (w : QueueView) (e : Taken) → w.pushed ≡ v.0.pushed ++ e ∷ []
         → MayPush v e.item → PushesBound v w }
     ensures seen { (own : OwnPart) (v : View) (x : Item) → HasSeen own v.1 (head_of x)
         → x.life ≡ life_in own (head_of x) → MayPush v x }
+    ensures bound { (v : View) (x : Item) (text : Text)
+        → In (rope (head_of x) x.life text) v.1.kept → MayPush v x }
+    ensures kept { (v : View) (w : QueueView) (x : Item) → MayPush v x → MayPush (w, v.1) x }
     ensures stays { (v : View) (w : DirectoryView) (x : Item) → SawAll v w → KeepsAll v w
         → MayPush v x → MayPush (v.0, w) x }
 {}

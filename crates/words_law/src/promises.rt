@@ -1,5 +1,7 @@
 //! What the law gives a caller.
-ghost use Rattle.std.specs.Prelude.{◌≡◌, ◌⊎◌, ◌+◌, ◌≤◌, ◌++◌, ℕ, List, [], slice_index_or, true};
+ghost use Rattle.std.specs.Prelude.{◌≡◌, ◌+◌, ◌≤◌, ◌++◌, ℕ, List, [], map, slice_index_or, true};
+ghost use Rattle.std.specs.List.{count_by};
+ghost use Rattle.std.specs.Str.{bytes_eq};
 ghost use Rattle.plain_state.specs.State.{Plain};
 ghost use Rattle.plain_protocol.specs.Laws.{Meets};
 ghost use Rattle.plain_protocol.specs.Owns.{is_alone};
@@ -9,6 +11,7 @@ ghost use Rattle.queue_law.specs.Law.{QueueLaw};
 ghost use Rattle.queue_law.specs.Lists.{popped_times, pushed_times, taken_items};
 ghost use Rattle.directory_law.specs.declared.view.Rope.{Rope};
 ghost use Rattle.directory_law.specs.declared.view.View.{View as DirectoryView};
+ghost use Rattle.directory_law.specs.Bytes.{text_bytes};
 ghost use Rattle.directory_law.specs.Cells.{Area};
 ghost use Rattle.directory_law.specs.Payloads.{Text};
 ghost use Rattle.directory_law.specs.Views.{In};
@@ -16,12 +19,13 @@ ghost use Rattle.directory_law.specs.Views as directory;
 ghost use Rattle.words_law.specs.Views.{View, directories, gone, queues};
 ghost use Rattle.words_law.specs.Law.{HasText, WasPopped, WasPushed, WordsLaw};
 ghost use Rattle.words_law.specs.Owned.{join_directories};
-ghost use Rattle.words_law.specs.Texts.{HasAll, HasOneText, HasRootText, KnowsText, PushesAre, WordsAgree, all_popped, all_pushed, text_of_item, word_times};
+ghost use Rattle.words_law.specs.Texts.{HasAll, HasOneText, HasRootText, PushesAre, WordsAgree, all_popped, all_pushed, text_of_item, word_times, words_of};
+ghost use Rattle.words_law.specs.Known.{KnowsMore, KnowsText, KnowsTexts};
 
 use queue_law::View as QueueView;
 
 /// Each item that was pushed has one text, which a view keeps for its slot, in its life. What a view tells of an
-/// item's text is so; and where a seat leaves, seat 0's view tells what the views of both told.
+/// item's text is so.
 pub fn items_have_texts()
     ensures pushed { (u : Ends) (z : Area) (p : Plain) (views : List View) → WordsLaw u z p views
         → (x : Item) → WasPushed (queues views) x → HasOneText (directories views) x }
@@ -29,8 +33,20 @@ pub fn items_have_texts()
         → (n : ℕ) (x : Item) (text : Text)
         → KnowsText (directory.view_at (directories views) n) x text
         → HasText (directories views) x text × HasOneText (directories views) x }
-    ensures joined { (v w : DirectoryView) (x : Item) (text : Text)
-        → KnowsText v x text ⊎ KnowsText w x text → KnowsText (join_directories v w) x text }
+{}
+
+/// A view that keeps and has read what another one does tells what that one tells. Where a seat leaves, seat 0's view
+/// tells what the views of both told, of the items of both, in order.
+pub fn known_texts_stay()
+    ensures one { (v w : DirectoryView) → KnowsMore v w → (x : Item) (text : Text)
+        → KnowsText v x text → KnowsText w x text }
+    ensures all { (v w : DirectoryView) → KnowsMore v w → (xs : List Item) (ts : List Text)
+        → KnowsTexts v xs ts → KnowsTexts w xs ts }
+    ensures more { (v : DirectoryView) (xs ys : List Item) (ts us : List Text)
+        → KnowsTexts v xs ts → KnowsTexts v ys us → KnowsTexts v (xs ++ ys) (ts ++ us) }
+    ensures joined { (v w : DirectoryView) (xs ys : List Item) (ts us : List Text)
+        → KnowsTexts v xs ts → KnowsTexts w ys us
+        → KnowsTexts (join_directories v w) (xs ++ ys) (ts ++ us) }
 {}
 
 /// Each item that was popped was pushed, and at least as often.
@@ -70,4 +86,22 @@ pub fn the_root_knows_all()
         → Meets (WordsLaw u z) p views → is_alone p 0 ≡ true
         → let root = slice_index_or views 0 gone in
         3 ≤ root.0.stand.laid → root.0.stand.left ≡ [] → WordsAgree root }
+{}
+
+/// Once seat 0 is alone, what its view tells are the words of the items. Where besides the queue is shut and nothing
+/// was left, each word is among the texts that it tells of pushed items as often as among those of popped items.
+pub fn what_was_read_is_what_was_pushed()
+    ensures words { (u : Ends) (z : Area) (p : Plain) (views : List View)
+        → Meets (WordsLaw u z) p views → is_alone p 0 ≡ true
+        → let root = slice_index_or views 0 gone in
+        (xs : List Item) (ts : List Text) → KnowsTexts root.1 xs ts
+        → words_of root.1.kept xs ≡ map text_bytes ts }
+    ensures even { (u : Ends) (z : Area) (p : Plain) (views : List View)
+        → Meets (WordsLaw u z) p views → is_alone p 0 ≡ true
+        → let root = slice_index_or views 0 gone in
+        3 ≤ root.0.stand.laid → root.0.stand.left ≡ [] → (ts us : List Text)
+        → KnowsTexts root.1 (taken_items root.0.pushed) ts
+        → KnowsTexts root.1 (taken_items root.0.popped) us
+        → (w : List ℕ) → count_by (bytes_eq w) (map text_bytes ts)
+        ≡ count_by (bytes_eq w) (map text_bytes us) }
 {}

@@ -1,5 +1,5 @@
 use Rattle.words_law.proofs.promises.items_have_texts.Goals as goal
-use Rattle.words_law.proofs.Texts.{has_one, known_has, joined_knows}
+use Rattle.words_law.proofs.Texts.{has_one, known_has}
 use Rattle.words_law.specs.Views.{directories}
 
 pub returns : goal.returns
@@ -10,5 +10,4 @@ returns c = record {
   known = λ u z p views law n x text knows.
       let has = known_has z p (directories views) law.both.1 x n text knows in
       (has, has_one z p (directories views) law.both.1 x text has);
-  joined = joined_knows;
 }
