@@ -10,3 +10,4 @@ pub mod Texts
 pub mod Counts
 pub mod Known
 pub mod Root
+pub mod Taken

@@ -1,9 +1,9 @@
 -- Once seat 0 is alone, its view has all.
-use Rattle.std.proofs.Common.{◌≡◌, ◌≢◌, ◌⊎◌, ℕ, suc, ◌≤◌, true, List, [], ◌∷◌, ◌++◌, length, map, get_or, refl, sym, ap, subst, ◌∙◌, arith, Some, None}
+use Rattle.std.proofs.Common.{◌≡◌, ◌≢◌, ◌⊎◌, ℕ, suc, ◌<◌, ◌≤◌, true, List, [], ◌∷◌, ◌++◌, length, map, get_or, refl, sym, ap, subst, ◌∙◌, arith, Some, None}
 use Rattle.std.specs.Prelude.{if◌then◌else◌}
-use Rattle.std.specs.List.{count_by, flat_map}
-use Rattle.std.specs.Str.{bytes_eq}
+use Rattle.std.specs.List.{flat_map}
 use Rattle.std.proofs.lemmas.List.{append-nil}
+use Rattle.cdrc_text.specs.Fold.{times}
 use Rattle.plain_state.specs.State.{Plain, seat_at}
 use Rattle.plain_protocol.specs.Laws.{Meets}
 use Rattle.plain_protocol.specs.Owns.{is_alone}
@@ -24,10 +24,12 @@ use Rattle.directory_law.specs.Cells.{Area}
 use Rattle.words_law.specs.Views.{View, gone, queues, directories}
 use Rattle.words_law.specs.Law.{WasPushed, WordsLaw, head_of}
 use Rattle.words_law.specs.Texts.{HasAll, HasRootText, PushesAre, WordsAgree, all_kept, all_popped, all_pushed, text_of_item, word_times, words_of}
+use Rattle.words_law.specs.Fold.{File, added, gathered, occurrences_in, taken_pieces}
 use Rattle.words_law.specs.Known.{KnowsText, KnowsTexts}
 use Rattle.words_law.proofs.Counts.{times_of_none, words_even}
 use Rattle.words_law.proofs.Known.{told_words}
 use Rattle.words_law.proofs.Parts.{directory_at, queue_at}
+use Rattle.words_law.proofs.Taken.{taken_occurs, times_gathered}
 use Rattle.words_law.proofs.Texts.{has_one, kept_all, known_has}
 
 module _ {V X : Type 0} (none : V) (f : V → List X) (empty : f none ≡ []) where
@@ -123,8 +125,24 @@ module _ (u : Ends) (z : Area) (p : Plain) (views : List View)
       → KnowsTexts root.1 (taken_items root.0.pushed) ts
       → KnowsTexts root.1 (taken_items root.0.popped) us
       → (w : List ℕ)
-      → count_by (bytes_eq w) (map text_bytes ts) ≡ count_by (bytes_eq w) (map text_bytes us)
+      → times w (map text_bytes ts) ≡ times w (map text_bytes us)
   told_agree shut none ts us pushed popped w =
       let a = root_words (taken_items root.0.pushed) ts pushed in
       let b = root_words (taken_items root.0.popped) us popped in
-      ap (count_by (bytes_eq w)) (sym a) ∙ (shut_agree shut none w ∙ ap (count_by (bytes_eq w)) b)
+      ap (times w) (sym a) ∙ (shut_agree shut none w ∙ ap (times w) b)
+
+  -- where the pushed items have the words that seats took of files, those that seats popped are what occurs in them
+  pub all_counted : 3 ≤ root.0.stand.laid → root.0.stand.left ≡ [] → (ts us : List Text)
+      → KnowsTexts root.1 (taken_items root.0.pushed) ts
+      → KnowsTexts root.1 (taken_items root.0.popped) us
+      → (taker : ℕ → ℕ) (lanes rounds : ℕ) (files : List File) → ((k : ℕ) → taker k < lanes)
+      → map text_bytes ts ≡ gathered (taken_pieces taker rounds files) lanes
+      → (seats : ℕ) (words : ℕ → List (List ℕ)) → map text_bytes us ≡ gathered words seats
+      → (w : List ℕ) → added (λ n. times w (words n)) seats ≡ occurrences_in w rounds files
+  all_counted shut none ts us pushed popped taker lanes rounds files each took seats words read w =
+      sym (times_gathered w words seats)
+      ∙ (ap (times w) (sym read)
+      ∙ (sym (told_agree shut none ts us pushed popped w)
+      ∙ (ap (times w) took
+      ∙ (times_gathered w (taken_pieces taker rounds files) lanes
+      ∙ taken_occurs w taker lanes rounds files each))))

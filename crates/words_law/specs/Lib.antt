@@ -5,3 +5,4 @@ pub mod Reading
 pub mod Owned
 pub mod Texts
 pub mod Known
+pub mod Fold

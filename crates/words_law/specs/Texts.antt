@@ -1,7 +1,7 @@
 -- The texts of items: which words were pushed and popped, and how often.
 use Rattle.std.specs.Prelude.{◌≡◌, ℕ, ◌+◌, List, [], ◌∷◌, map, if◌then◌else◌}
-use Rattle.std.specs.List.{count_by, flat_map}
-use Rattle.std.specs.Str.{bytes_eq}
+use Rattle.std.specs.List.{flat_map}
+use Rattle.cdrc_text.specs.Fold.{times}
 use Rattle.plain_state.specs.declared.slot.SlotId.{SlotId}
 use Rattle.queue_law.specs.declared.view.Item.{Item}
 use Rattle.queue_law.specs.declared.view.View.{View as QueueView}
@@ -41,7 +41,7 @@ abbrev pub words_of : List Rope → List Item → List (List ℕ)
 words_of kept items = map (word_of_item kept) items
 
 abbrev pub word_times : List Rope → List ℕ → List Item → ℕ
-word_times kept w items = count_by (bytes_eq w) (words_of kept items)
+word_times kept w items = times w (words_of kept items)
 
 -- the item has one text
 pub record HasOneText (views : List DirectoryView) (x : Item) : Type 0 where

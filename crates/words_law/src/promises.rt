@@ -1,7 +1,6 @@
 //! What the law gives a caller.
-ghost use Rattle.std.specs.Prelude.{◌≡◌, ◌+◌, ◌≤◌, ◌++◌, ℕ, List, [], map, slice_index_or, true};
-ghost use Rattle.std.specs.List.{count_by};
-ghost use Rattle.std.specs.Str.{bytes_eq};
+ghost use Rattle.std.specs.Prelude.{◌≡◌, ◌+◌, ◌<◌, ◌≤◌, ◌++◌, ℕ, List, [], map, slice_index_or, true};
+ghost use Rattle.cdrc_text.specs.Fold.{times};
 ghost use Rattle.plain_state.specs.State.{Plain};
 ghost use Rattle.plain_protocol.specs.Laws.{Meets};
 ghost use Rattle.plain_protocol.specs.Owns.{is_alone};
@@ -20,6 +19,7 @@ ghost use Rattle.words_law.specs.Views.{View, directories, gone, queues};
 ghost use Rattle.words_law.specs.Law.{HasText, WasPopped, WasPushed, WordsLaw};
 ghost use Rattle.words_law.specs.Owned.{join_directories};
 ghost use Rattle.words_law.specs.Texts.{HasAll, HasOneText, HasRootText, PushesAre, WordsAgree, all_popped, all_pushed, text_of_item, word_times, words_of};
+ghost use Rattle.words_law.specs.Fold.{File, added, gathered, occurrences_in, taken_pieces};
 ghost use Rattle.words_law.specs.Known.{KnowsMore, KnowsText, KnowsTexts};
 
 use queue_law::View as QueueView;
@@ -89,7 +89,8 @@ pub fn the_root_knows_all()
 {}
 
 /// Once seat 0 is alone, what its view tells are the words of the items. Where besides the queue is shut and nothing
-/// was left, each word is among the texts that it tells of pushed items as often as among those of popped items.
+/// was left, each word is among the texts that it tells of pushed items as often as among those of popped items. So
+/// where lanes pushed the pieces of files in some rounds, the words that seats popped add up to what occurs there.
 pub fn what_was_read_is_what_was_pushed()
     ensures words { (u : Ends) (z : Area) (p : Plain) (views : List View)
         → Meets (WordsLaw u z) p views → is_alone p 0 ≡ true
@@ -102,6 +103,15 @@ pub fn what_was_read_is_what_was_pushed()
         3 ≤ root.0.stand.laid → root.0.stand.left ≡ [] → (ts us : List Text)
         → KnowsTexts root.1 (taken_items root.0.pushed) ts
         → KnowsTexts root.1 (taken_items root.0.popped) us
-        → (w : List ℕ) → count_by (bytes_eq w) (map text_bytes ts)
-        ≡ count_by (bytes_eq w) (map text_bytes us) }
+        → (w : List ℕ) → times w (map text_bytes ts) ≡ times w (map text_bytes us) }
+    ensures occurrences { (u : Ends) (z : Area) (p : Plain) (views : List View)
+        → Meets (WordsLaw u z) p views → is_alone p 0 ≡ true
+        → let root = slice_index_or views 0 gone in
+        3 ≤ root.0.stand.laid → root.0.stand.left ≡ [] → (ts us : List Text)
+        → KnowsTexts root.1 (taken_items root.0.pushed) ts
+        → KnowsTexts root.1 (taken_items root.0.popped) us
+        → (taker : ℕ → ℕ) (lanes rounds : ℕ) (files : List File) → ((k : ℕ) → taker k < lanes)
+        → map text_bytes ts ≡ gathered (taken_pieces taker rounds files) lanes
+        → (seats : ℕ) (words : ℕ → List (List ℕ)) → map text_bytes us ≡ gathered words seats
+        → (w : List ℕ) → added (λ n. times w (words n)) seats ≡ occurrences_in w rounds files }
 {}
