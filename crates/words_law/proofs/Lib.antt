@@ -11,3 +11,5 @@ pub mod Counts
 pub mod Known
 pub mod Root
 pub mod Taken
+pub mod Alive
+pub mod Seats

@@ -1,11 +1,14 @@
 -- The texts of items: which words were pushed and popped, and how often.
-use Rattle.std.specs.Prelude.{◌≡◌, ℕ, ◌+◌, List, [], ◌∷◌, map, if◌then◌else◌}
+use Rattle.std.specs.Prelude.{◌≡◌, ℕ, ◌+◌, false, List, [], ◌∷◌, map, if◌then◌else◌}
 use Rattle.std.specs.List.{flat_map}
 use Rattle.cdrc_text.specs.Fold.{times}
 use Rattle.plain_state.specs.declared.slot.SlotId.{SlotId}
+use Rattle.plain_state.specs.declared.slot.Stage.TheVariants.{Live}
+use Rattle.plain_state.specs.State.{Plain, slot_at, stage_at}
 use Rattle.queue_law.specs.declared.view.Item.{Item}
+use Rattle.queue_law.specs.declared.view.Taken.{Taken}
 use Rattle.queue_law.specs.declared.view.View.{View as QueueView}
-use Rattle.queue_law.specs.Lists.{pushed_times, popped_times, item_times, taken_items}
+use Rattle.queue_law.specs.Lists.{pushed_times, popped_times, item_times, tagged, taken_items}
 use Rattle.directory_law.specs.declared.view.Rope.{Rope}
 use Rattle.directory_law.specs.declared.view.View.{View as DirectoryView}
 use Rattle.directory_law.specs.Bytes.{text_bytes}
@@ -48,6 +51,16 @@ pub record HasOneText (views : List DirectoryView) (x : Item) : Type 0 where
   pub has : HasText views x (text_of_item (all_kept views) x)
   pub is : IsText (text_of_item (all_kept views) x)
   pub one : (text : Text) → HasText views x text → text ≡ text_of_item (all_kept views) x
+
+-- all in the list was pushed, or popped, by seat n
+abbrev pub IsOwnList : ℕ → List Taken → Type 0
+IsOwnList n taken = tagged n taken ≡ taken_items taken
+
+-- the item's object lives, in the item's life, and has no zero mark
+pub record IsAlive (p : Plain) (x : Item) : Type 0 where
+  pub stage : stage_at p (head_of x) ≡ Live
+  pub mark : (slot_at p (head_of x)).marked ≡ false
+  pub life : (slot_at p (head_of x)).life ≡ x.life
 
 -- each item was pushed as often as it was popped and stands among the rest together
 abbrev pub PushesAre : List QueueView → List Item → Type 0

@@ -23,7 +23,7 @@ mod shares;
 
 pub use laws::{each_part_keeps_the_law, others_keep_the_law, what_may_be_pushed};
 pub use promises::{
-    items_have_texts, known_texts_stay, popped_items_were_pushed, the_root_knows_all,
-    what_was_read_is_what_was_pushed, words_agree,
+    each_list_is_its_seats, items_have_texts, known_texts_stay, living_items_are_records,
+    popped_items_were_pushed, the_root_knows_all, what_was_read_is_what_was_pushed, words_agree,
 };
 pub use shares::counts_add_up;

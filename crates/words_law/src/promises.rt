@@ -1,10 +1,11 @@
 //! What the law gives a caller.
-ghost use Rattle.std.specs.Prelude.{◌≡◌, ◌+◌, ◌<◌, ◌≤◌, ◌++◌, ℕ, List, [], map, slice_index_or, true};
+ghost use Rattle.std.specs.Prelude.{◌≡◌, ◌≢◌, ◌+◌, ◌<◌, ◌≤◌, ◌++◌, ℕ, List, [], map, slice_index_or, true};
 ghost use Rattle.cdrc_text.specs.Fold.{times};
 ghost use Rattle.plain_state.specs.State.{Plain};
 ghost use Rattle.plain_protocol.specs.Laws.{Meets};
 ghost use Rattle.plain_protocol.specs.Owns.{is_alone};
 ghost use Rattle.queue_law.specs.declared.view.Item.{Item};
+ghost use Rattle.queue_law.specs.Views as queue;
 ghost use Rattle.queue_law.specs.Chain.{Ends};
 ghost use Rattle.queue_law.specs.Law.{QueueLaw};
 ghost use Rattle.queue_law.specs.Lists.{popped_times, pushed_times, taken_items};
@@ -12,13 +13,14 @@ ghost use Rattle.directory_law.specs.declared.view.Rope.{Rope};
 ghost use Rattle.directory_law.specs.declared.view.View.{View as DirectoryView};
 ghost use Rattle.directory_law.specs.Bytes.{text_bytes};
 ghost use Rattle.directory_law.specs.Cells.{Area};
+ghost use Rattle.directory_law.specs.Law.{IsBound};
 ghost use Rattle.directory_law.specs.Payloads.{Text};
 ghost use Rattle.directory_law.specs.Views.{In};
 ghost use Rattle.directory_law.specs.Views as directory;
 ghost use Rattle.words_law.specs.Views.{View, directories, gone, queues};
-ghost use Rattle.words_law.specs.Law.{HasText, WasPopped, WasPushed, WordsLaw};
+ghost use Rattle.words_law.specs.Law.{HasText, WasPopped, WasPushed, WordsLaw, head_of};
 ghost use Rattle.words_law.specs.Owned.{join_directories};
-ghost use Rattle.words_law.specs.Texts.{HasAll, HasOneText, HasRootText, PushesAre, WordsAgree, all_popped, all_pushed, text_of_item, word_times, words_of};
+ghost use Rattle.words_law.specs.Texts.{HasAll, HasOneText, HasRootText, IsAlive, IsOwnList, PushesAre, WordsAgree, all_popped, all_pushed, text_of_item, word_times, words_of};
 ghost use Rattle.words_law.specs.Fold.{File, added, gathered, occurrences_in, taken_pieces};
 ghost use Rattle.words_law.specs.Known.{KnowsMore, KnowsText, KnowsTexts};
 
@@ -33,6 +35,18 @@ pub fn items_have_texts()
         → (n : ℕ) (x : Item) (text : Text)
         → KnowsText (directory.view_at (directories views) n) x text
         → HasText (directories views) x text × HasOneText (directories views) x }
+{}
+
+/// An item that is alive is the live record of its text, in a cell. So two that are alive and have one text are in one
+/// slot.
+pub fn living_items_are_records()
+    ensures bound { (u : Ends) (z : Area) (p : Plain) (views : List View) → WordsLaw u z p views
+        → (x : Item) (text : Text) → IsAlive p x → HasText (directories views) x text
+        → IsBound z p text (head_of x) }
+    ensures one { (u : Ends) (z : Area) (p : Plain) (views : List View) → WordsLaw u z p views
+        → (x y : Item) (text : Text) → IsAlive p x → IsAlive p y
+        → HasText (directories views) x text → HasText (directories views) y text
+        → x.slot ≡ y.slot }
 {}
 
 /// A view that keeps and has read what another one does tells what that one tells. Where a seat leaves, seat 0's view
@@ -55,6 +69,13 @@ pub fn popped_items_were_pushed()
         → (x : Item) → WasPopped views x → WasPushed views x }
     ensures often { (u : Ends) (p : Plain) (views : List QueueView) → QueueLaw u p views
         → (x : Item) → popped_times x views ≤ pushed_times x views }
+{}
+
+/// What stands in the lists of a seat but seat 0 it pushed or popped itself.
+pub fn each_list_is_its_seats()
+    ensures { (u : Ends) (p : Plain) (views : List QueueView) (n : ℕ) → QueueLaw u p views
+        → n ≢ 0 → IsOwnList n (queue.view_at views n).pushed
+        × IsOwnList n (queue.view_at views n).popped }
 {}
 
 /// Where each item was pushed as often as it was popped and is among the rest, so was each word: what waits, or was
