@@ -1,5 +1,5 @@
 -- A seat that popped a head may begin to read it.
-use Rattle.std.proofs.Common.{◌≡◌, ⊎_elim, ℕ, ◌<◌, false, List, [], ◌∷◌, ◌++◌, length, get_or, set, sym, ap, subst, ◌∙◌, arith}
+use Rattle.std.proofs.Common.{◌≡◌, ⊎_elim, ℕ, ◌+◌, ◌-◌, inl, refl, ◌<◌, false, List, [], ◌∷◌, ◌++◌, length, get_or, set, sym, ap, subst, ◌∙◌, arith}
 use Rattle.std.proofs.lemmas.List.{length-map, length-set}
 use Rattle.plain_state.specs.declared.act.EventPlace.TheVariants.{Field}
 use Rattle.plain_state.specs.declared.act.PlainAct.{PlainAct}
@@ -16,6 +16,7 @@ use Rattle.queue_law.specs.declared.view.Item.{Item}
 use Rattle.queue_law.specs.declared.view.View.{View as QueueView}
 use Rattle.queue_law.specs.Chain.{Ends}
 use Rattle.queue_law.specs.Lists.{taken_items}
+use Rattle.queue_law.specs.Pops.{popped_item, popped_view}
 use Rattle.queue_law.specs.Law.{WholeLaw}
 use Rattle.directory_law.specs.Payloads.{Text, IsText}
 use Rattle.directory_law.specs.Views.{KeptIn, In}
@@ -23,15 +24,17 @@ use Rattle.directory_law.specs.Views as directory
 use Rattle.directory_law.specs.Cells.{Area}
 use Rattle.directory_law.specs.Law.{DirectoryLaw, IsBound}
 use Rattle.directory_law.specs.Promises.{IsKept, at_head, begins_at}
-use Rattle.directory_law.specs.Steps.{LooksAt, life_in, payload_in, place_of}
-use Rattle.directory_law.specs.Lessons.{UpgradeTells, first_ran, starts_at}
+use Rattle.directory_law.specs.Steps.{LooksAt, id, life_in, payload_in, place_of}
+use Rattle.directory_law.specs.Lessons.{ReadReady, UpgradeTells, first_ran, starts_at}
 use Rattle.directory_law.proofs.Gives.{law_begins}
 use Rattle.directory_law.proofs.Kept.{kept_counts}
+use Rattle.directory_law.proofs.Notes.{in_right}
 use Rattle.directory_law.proofs.Owns.{has_strongly, life_at, payload_at, strongly_live}
 use Rattle.directory_law.proofs.Reading.{unmarked_bound}
 use Rattle.words_law.specs.Views.{View, gone, queues, directories}
 use Rattle.words_law.specs.Law.{Gone, WordsLaw}
 use Rattle.words_law.specs.Reading.{HasPopped, BeginReady, BeginTells, begin_next, field_slot}
+use Rattle.words_law.proofs.Noted.{taken_append}
 use Rattle.words_law.proofs.Left.{gone_set}
 use Rattle.words_law.proofs.Law.{words_calm}
 use Rattle.words_law.proofs.Parts.{directory_at, directory_here, items_kept, queue_at, queue_same}
@@ -134,3 +137,39 @@ begin_keeps u z p q views n step found meets low ready does =
     subst (λ (x : SlotId). WordsLaw u z q (set views n (v.0, begun (own_part p n) x v.1))
     × UpgradeTells z p q n v.1 (begun (own_part p n) x v.1)) at
     (kept, tells u z p views n low does.0.0 does.0.1 meets.lawful meets.law s ready.held ready.popped q)
+
+-- IN TURN. The item that was taken may be read, while the seat has it in the same life
+pub taken_popped : (own later : OwnPart) (v : QueueView) (item : ℕ) → v.eyes.found ≡ item + 1
+    → life_in later (id item) ≡ life_in own (id item) → HasPopped later (popped_view own v) (id item)
+taken_popped own later v item found same =
+    let is : v.eyes.found - 1 ≡ item = omega arith in
+    let x : ℕ → Item = λ s. record {
+      slot = s;
+      life = life_in own (id s);
+      payload = payload_in own (id s);
+    } in
+    let last : In (x (v.eyes.found - 1)) (taken_items (popped_view own v).popped) =
+    subst (In (x (v.eyes.found - 1)))
+    (sym (taken_append v.popped (record { item = popped_item own v; taker = v.number } ∷ [])))
+    (in_right (x (v.eyes.found - 1)) (taken_items v.popped) (popped_item own v ∷ []) (inl refl)) in
+    let here = subst (λ (s : ℕ). In (x s) (taken_items (popped_view own v).popped)) is last in (
+      payload_in own (id item),
+      subst (λ (l : ℕ). In (record { slot = item; life = l; payload = payload_in own (id item) })
+          (taken_items (popped_view own v).popped)) (sym same) here,
+    )
+
+-- and what was begun is read on, while the seat holds it in the same life
+pub begun_reads_on : (own after later : OwnPart) (v : View) (step next : PlainAct) (found : ℕ)
+    (s : SlotId) → LooksAt (Field s 1) step → LooksAt (Field s 1) next
+    → HoldsStrongly later.seat s → life_in later s ≡ life_in own s
+    → ReadReady later (begin_next own after v step found).1 next
+begun_reads_on own after later v step next found s looks looks_next held same =
+    let at : s ≡ field_slot (place_of step) = sym (looks_slot s step looks) in
+    subst (λ (x : SlotId). ReadReady later (record v.1 { ran = starts_at own x ∷ v.1.ran }) next) at
+    (record {
+      earlier = v.1.ran;
+      ran = refl;
+      looks = looks_next;
+      held = held;
+      life = same;
+    })

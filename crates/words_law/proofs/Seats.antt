@@ -1,6 +1,6 @@
 -- What stands in the lists of a seat that is there, but for seat 0, it pushed or popped itself.
-use Rattle.std.proofs.Common.{◌≡◌, ◌≢◌, ⊎_elim, ℕ, Bool, true, false, List, [], ◌∷◌, refl, sym, ap, ◌∙◌}
-use Rattle.std.specs.Prelude.{cond}
+use Rattle.std.proofs.Common.{◌≡◌, ◌≢◌, ⊎_elim, ℕ, Bool, true, false, List, [], ◌∷◌, ◌++◌, refl, sym, ap, ◌∙◌}
+use Rattle.std.specs.Prelude.{cond, ◌==◌}
 use Rattle.std.proofs.lemmas.Bool.{cases_eq, eq-eqb, ne_eqb}
 use Rattle.plain_state.specs.State.{Plain}
 use Rattle.queue_law.specs.declared.view.Taken.{Taken}
@@ -38,20 +38,54 @@ all_tagged n (t ∷ ts) others =
     rest m ne none = sym (ap (λ b. cond b (t.item ∷ tagged m ts) (tagged m ts)) (ne_eqb t.taker m ne))
         ∙ none
 
--- the others' homes are elsewhere
-kept_own : (f : View → List Taken) (all : List Taken) (views : List View) (n : ℕ) → Kept f all views
-    → n ≢ 0 → IsOwnList n (f (view_at views n))
-kept_own f all views n kept other =
-    all_tagged n (f (view_at views n)) (λ m ne. kept.none m n (elsewhere m ne (view_at views m).here))
+pub tagged_append : (n : ℕ) (xs ys : List Taken) → tagged n (xs ++ ys) ≡ tagged n xs ++ tagged n ys
+unfolding tagged
+tagged_append n [] ys = refl
+tagged_append n (t ∷ xs) ys = go (t.taker == n) (tagged_append n xs ys)
   where
-    elsewhere : (m : ℕ) → m ≢ n → (b : Bool) → n ≢ cond b m 0
-    elsewhere m ne true e = ne (sym e)
-    elsewhere m ne false e = other e
+    go : (b : Bool) → tagged n (xs ++ ys) ≡ tagged n xs ++ tagged n ys
+        → cond b (t.item ∷ tagged n (xs ++ ys)) (tagged n (xs ++ ys))
+        ≡ cond b (t.item ∷ tagged n xs) (tagged n xs) ++ tagged n ys
+    go true rest = ap (λ l. t.item ∷ l) rest
+    go false rest = rest
 
-pub own_lists : (u : Ends) (p : Plain) (views : List View) (n : ℕ) → QueueLaw u p views → n ≢ 0
-    → IsOwnList n (view_at views n).pushed × IsOwnList n (view_at views n).popped
-own_lists u p views n law other =
-    let o = law.3.ordered in (
-      kept_own (λ (v : View). v.pushed) _ views n o.pushed other,
-      kept_own (λ (v : View). v.popped) _ views n o.popped other,
-    )
+module _ (f : View → List Taken) (all : List Taken) (views : List View) (kept : Kept f all views)
+    (n : ℕ) (other : n ≢ 0) where
+  -- the others' homes are elsewhere
+  elsewhere : (m : ℕ) → m ≢ n → (b : Bool) → n ≢ cond b m 0
+  elsewhere m ne true e = ne (sym e)
+  elsewhere m ne false e = other e
+
+  none_other : (m : ℕ) → m ≢ n → tagged m (f (view_at views n)) ≡ []
+  none_other m ne = kept.none m n (elsewhere m ne (view_at views m).here)
+
+  kept_own : IsOwnList n (f (view_at views n))
+  kept_own = all_tagged n (f (view_at views n)) none_other
+
+  kept_root : (view_at views n).here ≡ true → tagged n (f (view_at views 0)) ≡ []
+  kept_root here = kept.none n 0 (λ e. other (sym (e ∙ ap (λ b. cond b n 0) here)))
+
+module _ (u : Ends) (p : Plain) (views : List View) (n : ℕ) (law : QueueLaw u p views)
+    (other : n ≢ 0) where
+  pub own_lists : IsOwnList n (view_at views n).pushed × IsOwnList n (view_at views n).popped
+  own_lists =
+      let o = law.3.ordered in (
+        kept_own (λ (v : View). v.pushed) _ views o.pushed n other,
+        kept_own (λ (v : View). v.popped) _ views o.popped n other,
+      )
+
+  pub others_lists : (m : ℕ) → m ≢ n
+      → (tagged m (view_at views n).pushed ≡ []) × (tagged m (view_at views n).popped ≡ [])
+  others_lists m ne =
+      let o = law.3.ordered in (
+        none_other (λ (v : View). v.pushed) _ views o.pushed n other m ne,
+        none_other (λ (v : View). v.popped) _ views o.popped n other m ne,
+      )
+
+  pub root_lists : (view_at views n).here ≡ true
+      → (tagged n (view_at views 0).pushed ≡ []) × (tagged n (view_at views 0).popped ≡ [])
+  root_lists here =
+      let o = law.3.ordered in (
+        kept_root (λ (v : View). v.pushed) _ views o.pushed n other here,
+        kept_root (λ (v : View). v.popped) _ views o.popped n other here,
+      )

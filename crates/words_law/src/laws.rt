@@ -1,5 +1,9 @@
 //! What steps leave of the law.
-ghost use Rattle.std.specs.Prelude.{◌≡◌, ◌++◌, [], ◌∷◌};
+ghost use Rattle.std.specs.Prelude.{◌≡◌, ◌+◌, ◌++◌, ℕ, [], ◌∷◌};
+ghost use Rattle.plain_state.specs.declared.act.EventPlace.TheVariants.{Field};
+ghost use Rattle.plain_state.specs.declared.act.PlainAct.{PlainAct};
+ghost use Rattle.plain_state.specs.declared.slot.SlotId.{SlotId};
+ghost use Rattle.plain_state.specs.Places.{HoldsStrongly};
 ghost use Rattle.plain_protocol.specs.Laws.{Starts, KeptByCalm, KeptByForeign, KeptByLeave};
 ghost use Rattle.plain_protocol.specs.Owns.{OwnPart};
 ghost use Rattle.protocol_pairs.specs.Parts.{KeepsRest};
@@ -13,14 +17,16 @@ ghost use Rattle.queue_law.specs.Law.{WholeLaw};
 ghost use Rattle.queue_law.specs.Owned as queue_owned;
 ghost use Rattle.directory_law.specs.Cells.{Area};
 ghost use Rattle.directory_law.specs.Law.{DirectoryLaw};
-ghost use Rattle.directory_law.specs.Lessons.{HasSeen};
+ghost use Rattle.directory_law.specs.Lessons.{HasSeen, ReadReady};
 ghost use Rattle.directory_law.specs.Owned as directory_owned;
-ghost use Rattle.directory_law.specs.Steps.{life_in};
+ghost use Rattle.directory_law.specs.Steps.{LooksAt, id, life_in};
 ghost use Rattle.directory_law.specs.Payloads.{Text};
 ghost use Rattle.directory_law.specs.Views.{In, rope};
 ghost use Rattle.words_law.specs.Views.{View, gone};
 ghost use Rattle.words_law.specs.Law.{WordsLaw, head_of};
 ghost use Rattle.words_law.specs.Owned.{owns, first_view, joined};
+ghost use Rattle.queue_law.specs.Pops.{popped_view};
+ghost use Rattle.words_law.specs.Reading.{HasPopped, begin_next};
 ghost use Rattle.words_law.specs.Pushes.{KeepsAll, MayPush, PushesBound, SawAll};
 
 /// The law holds of the state with nothing in it and the first views. Calm steps keep it, and so do steps that leave
@@ -58,4 +64,16 @@ pub fn what_may_be_pushed()
     ensures kept { (v : View) (w : QueueView) (x : Item) → MayPush v x → MayPush (w, v.1) x }
     ensures stays { (v : View) (w : DirectoryView) (x : Item) → SawAll v w → KeepsAll v w
         → MayPush v x → MayPush (v.0, w) x }
+{}
+
+/// The deeds by which a popped item is read follow one another: the item that a seat takes may be read, and what it
+/// begins to read it may read on, both while it holds the item's slot in the same life.
+pub fn items_are_read_in_turn()
+    ensures taken { (own later : OwnPart) (v : QueueView) (item : ℕ) → v.eyes.found ≡ item + 1
+        → life_in later (id item) ≡ life_in own (id item)
+        → HasPopped later (popped_view own v) (id item) }
+    ensures begun { (own after later : OwnPart) (v : View) (step next : PlainAct) (found : ℕ)
+        (s : SlotId) → LooksAt (Field s 1) step → LooksAt (Field s 1) next
+        → HoldsStrongly later.seat s → life_in later s ≡ life_in own s
+        → ReadReady later (begin_next own after v step found).1 next }
 {}

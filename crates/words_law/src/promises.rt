@@ -5,10 +5,11 @@ ghost use Rattle.plain_state.specs.State.{Plain};
 ghost use Rattle.plain_protocol.specs.Laws.{Meets};
 ghost use Rattle.plain_protocol.specs.Owns.{is_alone};
 ghost use Rattle.queue_law.specs.declared.view.Item.{Item};
+ghost use Rattle.queue_law.specs.declared.view.Taken.{Taken};
 ghost use Rattle.queue_law.specs.Views as queue;
 ghost use Rattle.queue_law.specs.Chain.{Ends};
 ghost use Rattle.queue_law.specs.Law.{QueueLaw};
-ghost use Rattle.queue_law.specs.Lists.{popped_times, pushed_times, taken_items};
+ghost use Rattle.queue_law.specs.Lists.{popped_times, pushed_times, tagged, taken_items};
 ghost use Rattle.directory_law.specs.declared.view.Rope.{Rope};
 ghost use Rattle.directory_law.specs.declared.view.View.{View as DirectoryView};
 ghost use Rattle.directory_law.specs.Bytes.{text_bytes};
@@ -71,11 +72,21 @@ pub fn popped_items_were_pushed()
         → (x : Item) → popped_times x views ≤ pushed_times x views }
 {}
 
-/// What stands in the lists of a seat but seat 0 it pushed or popped itself.
+/// What stands in the lists of a seat but seat 0 it pushed or popped itself, and no other seat. While it is there,
+/// nothing of it stands in seat 0's lists; and what a seat did in two lists is what it did in both together.
 pub fn each_list_is_its_seats()
-    ensures { (u : Ends) (p : Plain) (views : List QueueView) (n : ℕ) → QueueLaw u p views
+    ensures own { (u : Ends) (p : Plain) (views : List QueueView) (n : ℕ) → QueueLaw u p views
         → n ≢ 0 → IsOwnList n (queue.view_at views n).pushed
         × IsOwnList n (queue.view_at views n).popped }
+    ensures others { (u : Ends) (p : Plain) (views : List QueueView) (n : ℕ) → QueueLaw u p views
+        → n ≢ 0 → (m : ℕ) → m ≢ n → (tagged m (queue.view_at views n).pushed ≡ [])
+        × (tagged m (queue.view_at views n).popped ≡ []) }
+    ensures root { (u : Ends) (p : Plain) (views : List QueueView) (n : ℕ) → QueueLaw u p views
+        → n ≢ 0 → (queue.view_at views n).here ≡ true
+        → (tagged n (queue.view_at views 0).pushed ≡ [])
+        × (tagged n (queue.view_at views 0).popped ≡ []) }
+    ensures joined { (n : ℕ) (xs ys : List Taken)
+        → tagged n (xs ++ ys) ≡ tagged n xs ++ tagged n ys }
 {}
 
 /// Where each item was pushed as often as it was popped and is among the rest, so was each word: what waits, or was
