@@ -1,0 +1,15 @@
+pub mod Noted
+pub mod Left
+pub mod Items
+pub mod Joined
+pub mod Law
+pub mod Parts
+pub mod Popped
+pub mod Reading
+pub mod Texts
+pub mod Counts
+pub mod Known
+pub mod Root
+pub mod Taken
+pub mod Alive
+pub mod Seats

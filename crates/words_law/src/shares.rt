@@ -1,0 +1,14 @@
+//! What seats that share the files take and count, added up.
+ghost use Rattle.std.specs.Prelude.{◌≡◌, ◌<◌, ◌%◌, ℕ, List};
+ghost use Rattle.cdrc_text.specs.Fold.{times};
+ghost use Rattle.words_law.specs.Fold.{File, added, gathered, occurrences_in, taken_pieces};
+
+/// Where each file is some seat's, all seats together take each word as often as it occurs. Words that seats take one
+/// after the other, and those that they count, add up.
+pub fn counts_add_up()
+    ensures taken { (w : List ℕ) (taker : ℕ → ℕ) (seats rounds : ℕ) (files : List File)
+        → ((k : ℕ) → taker k < seats)
+        → times w (gathered (taken_pieces taker rounds files) seats) ≡ occurrences_in w rounds files }
+    ensures counted { (w : List ℕ) (words : ℕ → List (List ℕ)) (seats : ℕ)
+        → times w (gathered words seats) ≡ added (λ n. times w (words n)) seats }
+{}
