@@ -32,6 +32,8 @@ mod taking;
 #[cfg(test)]
 mod tests;
 #[cfg(test)]
+mod tests_pair;
+#[cfg(test)]
 mod tests_threads;
 mod unless_ripe;
 mod waiting;
