@@ -1,5 +1,5 @@
 -- An item goes into a node of the seat's own.
-use Rattle.std.proofs.Common.{◌≡◌, ◌+◌, ◌-◌, ◌<◌, ap, sym, ◌∙◌, arith}
+use Rattle.std.proofs.Common.{◌≡◌, ◌+◌, ◌-◌, ◌<◌, ap, sym, ◌∙◌, arith, ℕ, List}
 use Rattle.std.specs.Prelude.{Some}
 use Rattle.plain_state.specs.declared.act.EventPlace.TheVariants.{Field}
 use Rattle.plain_state.specs.declared.act.PlainAct.{PlainAct}
@@ -18,7 +18,6 @@ use Rattle.queue_law.specs.Nodes.{carry_next}
 use Rattle.queue_law.specs.Pushes.{carried_item}
 use Rattle.queue_law.specs.Words.{life_in, payload_in}
 use Rattle.queue_protocol.specs.declared.law.QueueLaw.{QueueLaw}
-use Rattle.queue_protocol.specs.Nodes.{IsNodePayload}
 use Rattle.linked_queue.specs.Leaving.{Leaves}
 use Rattle.linked_queue.specs.Nodes.{HasNode}
 use Rattle.linked_queue.specs.Pops.{item_in}
@@ -26,9 +25,9 @@ use Rattle.linked_queue.specs.Pushes.{HasLoad}
 use Rattle.linked_queue.specs.UnlessRipe.{next_unless}
 use Rattle.linked_queue.proofs.Owning.{has_owned, own_life, own_payload}
 
-module _ (d : DomainState QueueLaw) (node item : SlotId) (old new : SeatState View)
+module _ (fits : List ℕ → Type 0) (d : DomainState QueueLaw) (node item : SlotId) (old new : SeatState View)
     (has : HasNode node old)
-    (stores : Stores IsNodePayload d (next_unless carry_next) TellsNothing (Field node 1) (Some item)
+    (stores : Stores fits d (next_unless carry_next) TellsNothing (Field node 1) (Some item)
     old new) where
   loaded : new.view.client
       ≡ carry_next (own_of old.view) (own_of stores.swaps.mid.view) old.view.client

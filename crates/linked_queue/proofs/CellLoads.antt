@@ -1,5 +1,5 @@
 -- What a load of one of the queue's cells answers, whichever it is.
-use Rattle.std.proofs.Common.{◌≡◌, ◌≢◌, ℕ, suc, zero, Bool, true, false, refl, ap, subst}
+use Rattle.std.proofs.Common.{◌≡◌, ◌≢◌, ℕ, suc, zero, Bool, true, false, refl, ap, subst, List}
 use Rattle.std.specs.Prelude.{Err, IfErr, IfOk, IfSome, Ok, Option, Result, Some, None, cond, nat_lt}
 use Rattle.plain_state.specs.declared.act.EventPlace.TheVariants.{Cell}
 use Rattle.plain_state.specs.declared.act.PlainAct.{PlainAct}
@@ -23,7 +23,6 @@ use Rattle.queue_law.specs.declared.view.View.{View}
 use Rattle.queue_law.specs.Lessons.{learn_next, learnt}
 use Rattle.queue_law.specs.Words.{held_times}
 use Rattle.queue_protocol.specs.declared.law.QueueLaw.{QueueLaw}
-use Rattle.queue_protocol.specs.Nodes.{IsNodePayload}
 use Rattle.linked_queue.specs.Cells.{NodeTells}
 use Rattle.linked_queue.specs.Queues.{IsAttached, beside_eyes}
 use Rattle.linked_queue.specs.Leaving.{found_by}
@@ -58,61 +57,61 @@ found_none loads T (Ok (Some h)) follows l = λ is. absurd (cc (is))
 found_none loads T (Err e) follows l = tt
 
 -- whatever a load of a cell answers, whose number the call knows by another name
-module _ (d : DomainState QueueLaw) (head : Bool)
+module _ (fits : List ℕ → Type 0) (d : DomainState QueueLaw) (head : Bool)
     (allows : Plain → Plain → ℕ → View → View → Type 0) (c i : ℕ) (is : i ≡ c)
     (old new : SeatState View) (rest : IsAtRest d old) (knows : KnowsStill old.view.core old new)
     (r : Result (Option Handle) LoadError) (same : r ≡ Err unloaded.Spent → new ≡ old)
     (spent : r ≡ Err unloaded.Spent → IsSpent old.view.core)
     (loads : IfOk r (λ found.
-    Loads IsNodePayload d (Cell i) (learn_next head) allows (named found) old new))
+    Loads fits d (Cell i) (learn_next head) allows (named found) old new))
     (moved : (seen now : ℕ) → r ≡ Err (unloaded.Moved seen now)
-    → Misses IsNodePayload d 0 (Cell i) (learn_next head) allows (slot_in seen) (slot_in now) old new)
+    → Misses fits d 0 (Cell i) (learn_next head) allows (slot_in seen) (slot_in now) old new)
   where
     at_cell : IfOk r (λ found.
-        Loads IsNodePayload d (Cell c) (learn_next head) allows (named found) old new)
+        Loads fits d (Cell c) (learn_next head) allows (named found) old new)
         × ((seen now : ℕ) → r ≡ Err (unloaded.Moved seen now)
-        → Misses IsNodePayload d 0 (Cell c) (learn_next head) allows (slot_in seen) (slot_in now)
+        → Misses fits d 0 (Cell c) (learn_next head) allows (slot_in seen) (slot_in now)
         old new)
     at_cell = subst (λ n. IfOk r (λ found.
-        Loads IsNodePayload d (Cell n) (learn_next head) allows (named found) old new)
+        Loads fits d (Cell n) (learn_next head) allows (named found) old new)
         × ((seen now : ℕ) → r ≡ Err (unloaded.Moved seen now)
-        → Misses IsNodePayload d 0 (Cell n) (learn_next head) allows (slot_in seen) (slot_in now)
+        → Misses fits d 0 (Cell n) (learn_next head) allows (slot_in seen) (slot_in now)
         old new))
         is (loads, moved)
 
     pub cell_seen : (sees : SlotId → Type 0)
-        → ((s : SlotId) → Refers IsNodePayload d (Cell c) (learn_next head) allows s old new
+        → ((s : SlotId) → Refers fits d (Cell c) (learn_next head) allows s old new
         → sees s)
         → IfOk r (λ found. IfSome found (λ h. sees h.slot))
     cell_seen sees follows = found_sees (λ found.
-        Loads IsNodePayload d (Cell c) (learn_next head) allows found old new)
+        Loads fits d (Cell c) (learn_next head) allows found old new)
         sees r follows at_cell.0
 
     pub cell_sights : (differs : ℕ → ℕ → Type 0)
-        → ((seen now : ℕ) → Missed d (Cell c) (learn_next head) allows seen now → differs seen now)
-        → Sights d (place.Cell c) (learn_next head) allows (learn_notes head) old new rest knows
+        → ((seen now : ℕ) → Missed fits d (Cell c) (learn_next head) allows seen now → differs seen now)
+        → Sights fits d (place.Cell c) (learn_next head) allows (learn_notes head) old new rest knows
         (found_by r)
         × IfErr r (λ error. IsWhyUnread differs error old)
-    cell_sights differs told = sights d (place.Cell c) (learn_next head) allows (learn_notes head)
+    cell_sights differs told = sights fits d (place.Cell c) (learn_next head) allows (learn_notes head)
         old new rest knows r same spent at_cell.0 at_cell.1 differs
         (λ seen now m. told seen now (old, new, m))
 
     -- where null tells a contradiction, a node was found
-    pub cell_there : (FindsNull IsNodePayload d (Cell c) (learn_next head) allows old new → ⊥)
+    pub cell_there : (FindsNull fits d (Cell c) (learn_next head) allows old new → ⊥)
         → IfOk r (λ found. named found ≢ None)
     cell_there none = go r at_cell.0
       where
         go : (o : Result (Option Handle) LoadError)
             → IfOk o (λ found.
-            Loads IsNodePayload d (Cell c) (learn_next head) allows (named found) old new)
+            Loads fits d (Cell c) (learn_next head) allows (named found) old new)
             → IfOk o (λ found. named found ≢ None)
         go (Ok None) null = λ is. none null
         go (Ok (Some h)) l = λ is. absurd (cc (is))
         go (Err e) l = tt
 
 -- what the cell of an attached seat tells
-pub not_null : (d : DomainState QueueLaw) (c : ℕ) (head : Bool) (old new : SeatState View)
+pub not_null : (fits : List ℕ → Type 0) (d : DomainState QueueLaw) (c : ℕ) (head : Bool) (old new : SeatState View)
     → IsAttached old.view.client
-    → FindsNull IsNodePayload d (Cell c) (learn_next head) (NodeTells c) old new → ⊥
-not_null d c head old new attached null =
+    → FindsNull fits d (Cell c) (learn_next head) (NodeTells c) old new → ⊥
+not_null fits d c head old new attached null =
     null.becomes.walks.1.told.happened.fact.2.1 attached.attached (ap word_of null.null)

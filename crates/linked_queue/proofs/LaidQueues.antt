@@ -1,5 +1,5 @@
 -- How a queue is laid, step by step.
-use Rattle.std.proofs.Common.{◌≡◌, ◌<◌, [], ◌∷◌, ◌++◌, refl, ap, sym, ◌∙◌, arith}
+use Rattle.std.proofs.Common.{◌≡◌, ◌<◌, [], ◌∷◌, ◌++◌, refl, ap, sym, ◌∙◌, arith, ℕ, List}
 use Rattle.std.specs.Prelude.{None}
 use Rattle.plain_state.specs.declared.slot.SlotId.{SlotId}
 use Rattle.plain_state.specs.Lists.{times}
@@ -18,7 +18,6 @@ use Rattle.queue_law.specs.declared.view.View.{View}
 use Rattle.queue_law.specs.Lessons.{TellsNothing}
 use Rattle.queue_law.specs.Nodes.{make_next}
 use Rattle.queue_protocol.specs.declared.law.QueueLaw.{QueueLaw}
-use Rattle.queue_protocol.specs.Nodes.{IsNodePayload}
 use Rattle.linked_queue.specs.Leaving.{Leaves}
 use Rattle.linked_queue.specs.Nodes.{HasFewAdds, HasNode, IsHalfLaid, half_laid_in}
 use Rattle.linked_queue.specs.Queues.{CanLay, deeds_in}
@@ -26,16 +25,16 @@ use Rattle.linked_queue.proofs.Leavings.{copy_leaves, leaves_same}
 use Rattle.linked_queue.proofs.Owning.{has_owned, still_owned, through}
 
 -- a seat that finds no add left once it has made a node had one at most before
-pub spent_made : (d : DomainState QueueLaw) (s : SlotId) (old made : SeatState View)
-    → Makes IsNodePayload d make_next TellsNothing no_payload s old made → IsSpent made.view.core
+pub spent_made : (fits : List ℕ → Type 0) (d : DomainState QueueLaw) (s : SlotId) (old made : SeatState View)
+    → Makes fits d make_next TellsNothing no_payload s old made → IsSpent made.view.core
     → HasFewAdds 1 old.view.core
-spent_made d s old made makes spent =
+spent_made fits d s old made makes spent =
     let adds = ap (λ (v : CoreView). v.adds) makes.core in
     let quota = ap (λ (v : CoreView). v.quota.adds) makes.core in omega arith
 
-module _ (d : DomainState QueueLaw) (s : SlotId) (old made copied half new : SeatState View)
+module _ (fits : List ℕ → Type 0) (d : DomainState QueueLaw) (s : SlotId) (old made copied half new : SeatState View)
     (node : HasNode s made)
-    (copies : GainsStrong IsNodePayload d same_view IsSameView s made copied)
+    (copies : GainsStrong fits d same_view IsSameView s made copied)
     (client : copied.view.client ≡ made.view.client)
     (knows : KnowsStill made.view.core made copied) where
   -- a second reference leaves the node as it was

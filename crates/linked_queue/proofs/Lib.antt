@@ -14,3 +14,4 @@ pub mod Linkings
 pub mod Pushings
 pub mod Attached
 pub mod HandedBack
+pub mod Accepting

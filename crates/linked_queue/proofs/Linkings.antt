@@ -1,5 +1,5 @@
 -- The exchanges at the end of a queue: what their deeds ask, and what they leave.
-use Rattle.std.proofs.Common.{◌≡◌, ℕ, ◌-◌, ◌<◌, Bool, true, false, [], ◌∷◌, ◌++◌, refl, ap, sym, ◌∙◌, subst, arith, ◌+◌, ◌≤◌}
+use Rattle.std.proofs.Common.{◌≡◌, ℕ, ◌-◌, ◌<◌, Bool, true, false, [], ◌∷◌, ◌++◌, refl, ap, sym, ◌∙◌, subst, arith, ◌+◌, ◌≤◌, List}
 use Rattle.std.specs.Prelude.{◌==◌, Option, Some, None, cond}
 use Rattle.plain_state.specs.declared.act.EventPlace.{EventPlace}
 use Rattle.plain_state.specs.declared.act.EventPlace.TheVariants.{Field}
@@ -33,7 +33,6 @@ use Rattle.queue_law.specs.Pushes.{LinkReady, link_next, linked_view}
 use Rattle.queue_law.specs.Views.{sees_node}
 use Rattle.queue_law.specs.Words.{life_in}
 use Rattle.queue_protocol.specs.declared.law.QueueLaw.{QueueLaw}
-use Rattle.queue_protocol.specs.Nodes.{IsNodePayload}
 use Rattle.linked_queue.specs.Leaving.{Leaves}
 use Rattle.linked_queue.specs.Pushes.{HasLoad, IsWhyUnlinked, LostLink, SeesBehind, SeesTail, advanced_in}
 use Rattle.linked_queue.specs.Queues.{IsAttached, ends_of}
@@ -42,11 +41,11 @@ use Rattle.linked_queue.proofs.Owning.{has_owned, holds_more, own_life, own_payl
 use Rattle.linked_queue.proofs.Takings.{is_done}
 
 -- an exchange that was lost leaves what the seat has
-pub lost_keeps : (d : DomainState QueueLaw) {next : OwnPart → OwnPart → View → PlainAct → ℕ → View}
+pub lost_keeps : (fits : List ℕ → Type 0) (d : DomainState QueueLaw) {next : OwnPart → OwnPart → View → PlainAct → ℕ → View}
     (place : EventPlace) (given expected : Option SlotId) (now : ℕ) (old new : SeatState View)
-    → LosesTo IsNodePayload d next TellsNothing place given expected now old new
+    → LosesTo fits d next TellsNothing place given expected now old new
     → Leaves old.view.core.owned old new
-lost_keeps d place given expected now old new loses =
+lost_keeps fits d place given expected now old new loses =
     let by = loses.loses.becomes in
     leaves_all old new _ by.core
     (λ s has. ap (λ (z : SeatState View). object_in z.view s) by.walks.2
@@ -71,7 +70,7 @@ then_gives n a b c some' first more = record {
 }
 
 -- ADVANCE
-module _ (d : DomainState QueueLaw) (last next : SlotId) (old : SeatState View)
+module _ (fits : List ℕ → Type 0) (d : DomainState QueueLaw) (last next : SlotId) (old : SeatState View)
     (sees : SeesBehind last next old) where
   -- the view is told that the tail cell has held the next node
   pub advanced : (new : SeatState View)
@@ -100,6 +99,7 @@ module _ (d : DomainState QueueLaw) (last next : SlotId) (old : SeatState View)
     node = ap (λ (v : View). v.eyes.node) is;
     life = ap (λ (o : Object). o.life) object ∙ sym (ap (λ (v : View). v.eyes.life) is);
     was_tail = ap (λ (v : View). v.eyes.was_tail) is;
+    is_node = ap (λ (o : Object). o.payload) object ∙ sees.is_node;
     inside = inside;
   }
 
@@ -116,16 +116,18 @@ behind_still last next old new sees owns knows shape client = record {
     life = ap (λ (o : Object). o.life) (knows last sees.tail.owns) ∙ sees.tail.life
         ∙ sym (ap (λ (v : View). v.eyes.life) client);
     was_tail = ap (λ (v : View). v.eyes.was_tail) client ∙ sees.tail.was_tail;
+    is_node = ap (λ (o : Object). o.payload) (knows last sees.tail.owns) ∙ sees.tail.is_node;
     inside = subst (λ (z : Shape). last.0 < z.slots) (sym shape) sees.tail.inside;
   };
   owns = owns next sees.owns;
   following = ap (λ (v : View). v.eyes.following) client ∙ sees.following;
+  is_node = ap (λ (o : Object). o.payload) (knows next sees.owns) ∙ sees.is_node;
 }
 
 -- LINK
-module _ (d : DomainState QueueLaw) (last node : SlotId) (old copied : SeatState View)
+module _ (fits : List ℕ → Type 0) (d : DomainState QueueLaw) (last node : SlotId) (old copied : SeatState View)
     (tail : SeesTail last old) (load : HasLoad node old)
-    (copies : GainsStrong IsNodePayload d same_view IsSameView node old copied)
+    (copies : GainsStrong fits d same_view IsSameView node old copied)
     (client : copied.view.client ≡ old.view.client)
     (knows : KnowsStill old.view.core old copied) where
   owned : copied.view.core.owned ≡ old.view.core.owned ++ node ∷ []
@@ -175,7 +177,7 @@ module _ (d : DomainState QueueLaw) (last node : SlotId) (old copied : SeatState
           (copy_leaves node old copied copies knows) (leaves_same copied copied refl) still
 
       pub linked_client :
-          Replaces IsNodePayload d link_next TellsNothing (Field last 0) (Some node) None copied new
+          Replaces fits d link_next TellsNothing (Field last 0) (Some node) None copied new
           → new.view.client ≡ linked_view old.view.client
       linked_client replaces =
           let step = replaces.puts.step in
@@ -199,32 +201,39 @@ module _ (d : DomainState QueueLaw) (last node : SlotId) (old copied : SeatState
                   ap (λ (o : Object). o.life) (link_leaves.knows last (omega arith) (omega arith))
                   ∙ tail.life ∙ sym (ap (λ (v : View). v.eyes.life) is);
               was_tail = ap (λ (v : View). v.eyes.was_tail) is;
+              is_node =
+                  ap (λ (o : Object). o.payload)
+                  (link_leaves.knows last (omega arith) (omega arith))
+                  ∙ tail.is_node;
               inside = subst (λ (z : Shape). last.0 < z.slots) (sym shape) tail.inside;
             };
             owns = omega arith;
             following = ap (λ (v : View). v.eyes.following) is ∙ load.node;
+            is_node =
+                ap (λ (o : Object). o.payload) (link_leaves.knows node (omega arith) (omega arith))
+                ∙ load.is_node;
           }
 
   -- and where it was lost
   module _ (lost' new : SeatState View) (now : ℕ)
-      (loses : LosesTo IsNodePayload d link_next TellsNothing (Field last 0) (Some node) None now
+      (loses : LosesTo fits d link_next TellsNothing (Field last 0) (Some node) None now
       copied lost') where
-    pub unlinked : DropsStrong IsNodePayload d node lost' new
+    pub unlinked : DropsStrong fits d node lost' new
         → KnowsStill (without_strong node lost'.view.core) lost' new
         → Leaves old.view.core.owned old new
     unlinked drops still = through node None old copied lost' new
         (copy_leaves node old copied copies knows)
-        (lost_keeps d (Field last 0) (Some node) None now copied lost' loses)
+        (lost_keeps fits d (Field last 0) (Some node) None now copied lost' loses)
         (drop_leaves node lost' new drops still)
 
-    pub lost_link : (seen : ℕ) → seen ≡ 0 → LostLink d seen now
+    pub lost_link : (seen : ℕ) → seen ≡ 0 → LostLink fits d seen now
     lost_link seen is = (
       last,
       Some node,
       copied,
       lost',
       subst (λ (e : Option SlotId × Option SlotId).
-          Loses IsNodePayload d link_next TellsNothing (Field last 0) (Some node) e.0 e.1 copied
+          Loses fits d link_next TellsNothing (Field last 0) (Some node) e.0 e.1 copied
           lost')
           (λ i. (
             sym (ap slot_in is ∙ slot_word None) i,
@@ -238,9 +247,9 @@ with_ended_adds : (b : Bool) (s : SlotId) (v : CoreView) → (with_ended b s v).
 with_ended_adds true s v = refl
 with_ended_adds false s v = refl
 
-pub drop_adds : (d : DomainState QueueLaw) (s : SlotId) (old new : SeatState View)
-    → DropsStrong IsNodePayload d s old new → new.view.core.adds ≡ old.view.core.adds
-drop_adds d s old new drops = ap (λ (v : CoreView). v.adds) drops.1.core
+pub drop_adds : (fits : List ℕ → Type 0) (d : DomainState QueueLaw) (s : SlotId) (old new : SeatState View)
+    → DropsStrong fits d s old new → new.view.core.adds ≡ old.view.core.adds
+drop_adds fits d s old new drops = ap (λ (v : CoreView). v.adds) drops.1.core
     ∙ with_ended_adds (ends drops.0) s (without_strong s old.view.core)
 
 -- what is seen in the tail cell is seen still once another reference was given up
@@ -254,13 +263,14 @@ tail_still last old new sees owns object shape client = record {
   life = ap (λ (o : Object). o.life) object ∙ sees.life
       ∙ sym (ap (λ (v : View). v.eyes.life) client);
   was_tail = ap (λ (v : View). v.eyes.was_tail) client ∙ sees.was_tail;
+  is_node = ap (λ (o : Object). o.payload) object ∙ sees.is_node;
   inside = subst (λ (z : Shape). last.0 < z.slots) (sym shape) sees.inside;
 }
 
 -- why a later step was refused tells why all of it was, by the adds that were used before
-pub why_later : (d : DomainState QueueLaw) (k n j : ℕ) → n ≡ k + j → (error : LoadError)
+pub why_later : (fits : List ℕ → Type 0) (d : DomainState QueueLaw) (k n j : ℕ) → n ≡ k + j → (error : LoadError)
     (old mid : SeatState View) → mid.view.core.adds ≤ old.view.core.adds + j
-    → mid.view.core.quota.adds ≡ old.view.core.quota.adds → IsWhyUnlinked d k error mid
-    → IsWhyUnlinked d n error old
-why_later d k n j is unloaded.Spent old mid adds quota why = omega arith
-why_later d k n j is (unloaded.Moved seen now) old mid adds quota why = why
+    → mid.view.core.quota.adds ≡ old.view.core.quota.adds → IsWhyUnlinked fits d k error mid
+    → IsWhyUnlinked fits d n error old
+why_later fits d k n j is unloaded.Spent old mid adds quota why = omega arith
+why_later fits d k n j is (unloaded.Moved seen now) old mid adds quota why = why

@@ -1,5 +1,5 @@
 -- What a make with the deed MakeNode asks, and what it leaves.
-use Rattle.std.proofs.Common.{◌≡◌, ◌+◌, ◌<◌, true, refl, ap, sym, ◌∙◌, arith}
+use Rattle.std.proofs.Common.{◌≡◌, ◌+◌, ◌<◌, true, refl, ap, sym, ◌∙◌, arith, ℕ, List}
 use Rattle.std.proofs.lemmas.Bool.Decides.{nat_tests}
 use Rattle.plain_state.specs.declared.act.PlainAct.TheVariants as plain
 use Rattle.plain_state.specs.declared.slot.SlotId.{SlotId}
@@ -23,15 +23,14 @@ use Rattle.queue_law.specs.Lessons.{TellsNothing}
 use Rattle.queue_law.specs.Words.{life_in}
 use Rattle.queue_law.specs.Nodes.{MakeReady, make_next, made}
 use Rattle.queue_protocol.specs.declared.law.QueueLaw.{QueueLaw}
-use Rattle.queue_protocol.specs.Nodes.{IsNodePayload}
 use Rattle.linked_queue.specs.Nodes.{HasNode}
 use Rattle.linked_queue.proofs.Owning.{own_life, own_payload}
 
 made_more : (s : SlotId) (o : Object) → (changed_object (plain.Make s) s o).life ≡ o.life + 1
 made_more s o = let itself : is_slot s s ≡ true = grind (arith, nat_tests) in rw itself refl
 
-module _ (d : DomainState QueueLaw) (s : SlotId) (old mid : SeatState View)
-    (begins : Begins IsNodePayload d no_payload s old mid) where
+module _ (fits : List ℕ → Type 0) (d : DomainState QueueLaw) (s : SlotId) (old mid : SeatState View)
+    (begins : Begins fits d no_payload s old mid) where
   blank : mid.view.core.phase ≡ phase.Blank s
   blank = ap (λ (v : CoreView). v.phase) begins.goes.becomes.core
 
@@ -49,13 +48,13 @@ module _ (d : DomainState QueueLaw) (s : SlotId) (old mid : SeatState View)
     is_node = own_payload s mid has ∙ begins.filled;
   }
 
-module _ (d : DomainState QueueLaw) (s : SlotId) (old new : SeatState View)
-    (makes : Makes IsNodePayload d make_next TellsNothing no_payload s old new) where
+module _ (fits : List ℕ → Type 0) (d : DomainState QueueLaw) (s : SlotId) (old new : SeatState View)
+    (makes : Makes fits d make_next TellsNothing no_payload s old new) where
   pub made_node : 0 < times s new.view.core.owned → HasNode s new
   made_node owns =
       let mid = makes.mid in
       let step = makes.starts.walks.1 in
-      let is = act_is d s old mid makes.begins in
+      let is = act_is fits d s old mid makes.begins in
       let client : new.view.client
       ≡ make_next (own_of mid.view) (own_of makes.starts.walks.0.view) mid.view.client
       (on_slot plain.Make (slot_of mid.view.core.phase)) 0 =
@@ -64,7 +63,7 @@ module _ (d : DomainState QueueLaw) (s : SlotId) (old new : SeatState View)
       ≡ changed_object (on_slot plain.Make (slot_of mid.view.core.phase)) s
       (object_in mid.view s) =
       ap (λ (z : SeatState View). object_in z.view s) makes.starts.walks.2
-      ∙ step.told.objects s (has d s old mid makes.begins) in
+      ∙ step.told.objects s (has fits d s old mid makes.begins) in
       record {
         owns = owns;
         node = ap (λ (v : View). v.load.node) client ∙ ap (λ a. made a + 1) is;
@@ -73,7 +72,7 @@ module _ (d : DomainState QueueLaw) (s : SlotId) (old new : SeatState View)
             ∙ made_more s (object_in mid.view s)
             ∙ sym (ap (λ (v : View). v.load.life) client
             ∙ ap (λ a. life_in (own_of mid.view) (made a) + 1) is
-            ∙ ap (λ n. n + 1) (own_life s mid (has d s old mid makes.begins)));
+            ∙ ap (λ n. n + 1) (own_life s mid (has fits d s old mid makes.begins)));
         is_node = ap (λ (o : Object). o.payload) makes.object;
         no_back = ap (λ (v : View). v.load.back) client;
       }

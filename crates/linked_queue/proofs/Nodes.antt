@@ -1,5 +1,7 @@
 -- What a seat sees by the nodes of a queue that it loads.
-use Rattle.std.proofs.Common.{◌≡◌, ◌⊎◌, inl, inr, ℕ, suc, ◌+◌, ◌-◌, ◌<◌, Bool, true, false, [], ◌∷◌, ◌++◌, length, refl, ap, sym, ◌∙◌, subst, arith}
+use Rattle.linked_queue.specs.Cells.{NodeTells}
+use Rattle.plain_state.specs.Steps.{word_of}
+use Rattle.std.proofs.Common.{◌≡◌, ◌⊎◌, inl, inr, ℕ, suc, ◌+◌, ◌-◌, ◌<◌, Bool, true, false, [], ◌∷◌, ◌++◌, length, refl, ap, sym, ◌∙◌, subst, arith, List}
 use Rattle.std.specs.Prelude.{cond, nat_lt, slice_set}
 use Rattle.std.proofs.lemmas.Bool.Decides.{nat_tests}
 use Rattle.plain_state.specs.declared.act.EventPlace.TheVariants.{Cell, Field}
@@ -8,7 +10,7 @@ use Rattle.plain_state.specs.declared.act.PlainAct.TheVariants as plain
 use Rattle.plain_state.specs.declared.slot.Kind.TheVariants.{Strong}
 use Rattle.plain_state.specs.declared.slot.SlotId.{SlotId}
 use Rattle.plain_state.specs.Lists.{times}
-use Rattle.plain_state.specs.State.{Plain}
+use Rattle.plain_state.specs.State.{Plain, no_payload}
 use Rattle.plain_protocol.specs.Owns.{Object}
 use Rattle.core_events.specs.declared.shape.Shape.{Shape}
 use Rattle.core_events.specs.declared.view.CoreView.{CoreView}
@@ -22,7 +24,7 @@ use Rattle.control_word.specs.Moves.{KnowsStill}
 use Rattle.control_word.specs.Resting.{IsAtRest}
 use Rattle.protected_loads.specs.Loads.{FindsNull}
 use Rattle.protected_loads.specs.References.{IsReadyToLoad, Refers}
-use Rattle.protected_loads.proofs.Learning.{checked, client_found, client_null, has_found, known_found, slot_there}
+use Rattle.protected_loads.proofs.Learning.{checked, client_found, client_null, has_found, known_found, slot_there, client_checked}
 use Rattle.protected_loads.proofs.Noting.{snapshot_gains, some_more}
 use Rattle.protected_loads.proofs.Telling.{four_notes}
 use Rattle.queue_law.specs.declared.view.View.{View}
@@ -30,7 +32,6 @@ use Rattle.queue_law.specs.declared.view.Eyes.{Eyes}
 use Rattle.queue_law.specs.Lessons.{ItemReady, ItemTells, NextTells, item_next, learn_next, learnt, next_next}
 use Rattle.queue_law.specs.Words.{held_times, life_in}
 use Rattle.queue_protocol.specs.declared.law.QueueLaw.{QueueLaw}
-use Rattle.queue_protocol.specs.Nodes.{IsNodePayload}
 use Rattle.linked_queue.specs.Queues.{IsAttached, ends_of}
 use Rattle.linked_queue.specs.Seeing.{FindsLast, SeesHead, SeesItem, SeesNext}
 use Rattle.linked_queue.specs.Pushes.{SeesTail}
@@ -54,18 +55,20 @@ head_still front old new sees owns object node life head = record {
 pub next_still : (front next : SlotId) (old new : SeatState View) → SeesNext front next old
     → 0 < times front new.view.core.owned → 0 < times next new.view.core.owned
     → object_in new.view front ≡ object_in old.view front
+    → object_in new.view next ≡ object_in old.view next
     → new.view.client.eyes ≡ old.view.client.eyes → SeesNext front next new
-next_still front next old new sees owns owns_next object eyes = record {
+next_still front next old new sees owns owns_next object object_next eyes = record {
   head = head_still front old new sees.head owns object (ap (λ (e : Eyes). e.node) eyes)
       (ap (λ (e : Eyes). e.life) eyes) (ap (λ (e : Eyes). e.was_head) eyes);
   owns = owns_next;
   following = ap (λ (e : Eyes). e.following) eyes ∙ sees.following;
+  is_node = ap (λ (o : Object). o.payload) object_next ∙ sees.is_node;
 }
 
-module _ (d : DomainState QueueLaw) (old new : SeatState View) (rest : IsAtRest d old) where
+module _ (fits : List ℕ → Type 0) (d : DomainState QueueLaw) (old new : SeatState View) (rest : IsAtRest d old) where
   -- CELLS. A seat that found a node in the head cell or the tail cell sees it
   module _ (c : ℕ) (head : Bool) {allows : Plain → Plain → ℕ → View → View → Type 0} (s : SlotId)
-      (r : Refers IsNodePayload d (Cell c) (learn_next head) allows s old new) where
+      (r : Refers fits d (Cell c) (learn_next head) allows s old new) where
     abbrev mid : SeatState View
     mid = checked d (Cell c) old new s rest r
 
@@ -89,7 +92,7 @@ module _ (d : DomainState QueueLaw) (old new : SeatState View) (rest : IsAtRest 
 
     cell_owns : 0 < times s new.view.core.owned
     cell_owns = owns_pushed s old.view.core.owned new.view.core.owned
-        (ap (λ (v : CoreView). v.owned) (core_found d (place.Cell c) old new s r))
+        (ap (λ (v : CoreView). v.owned) (core_found fits d (place.Cell c) old new s r))
 
     cell_node : new.view.client.eyes.node ≡ s.0 + 1
     cell_node = ap (λ (v : View). v.eyes.node) cell_view ∙ omega arith
@@ -101,8 +104,19 @@ module _ (d : DomainState QueueLaw) (old new : SeatState View) (rest : IsAtRest 
         ∙ sym (own_life s mid (has_found d (Cell c) old new s rest r))
         ∙ sym (ap (λ (v : View). v.eyes.life) cell_view ∙ ap (life_in (own_of mid.view)) less)
 
+  -- and what such a cell held is a node
+  cell_is_node : (c : ℕ) (head : Bool) (s : SlotId)
+      → Refers fits d (Cell c) (learn_next head) (NodeTells c) s old new
+      → (object_in new.view s).payload ≡ no_payload
+  cell_is_node c head s r =
+      let step = r.protects.checks.walks.1 in
+      ap (λ (o : Object). o.payload) (known_found d (Cell c) old new s rest r)
+      ∙ ap (λ (o : Object). o.payload)
+      (step.told.says.objects s (has_found d (Cell c) old new s rest r))
+      ∙ step.told.happened.fact.2.0 s.0 (ap word_of r.protects.there)
+
   pub sees_head : (c : ℕ) {allows : Plain → Plain → ℕ → View → View → Type 0} (s : SlotId)
-      → Refers IsNodePayload d (Cell c) (learn_next true) allows s old new → SeesHead s new
+      → Refers fits d (Cell c) (learn_next true) allows s old new → SeesHead s new
   sees_head c s r = record {
     owns = cell_owns c true s r;
     node = cell_node c true s r;
@@ -110,22 +124,39 @@ module _ (d : DomainState QueueLaw) (old new : SeatState View) (rest : IsAtRest 
     was_head = ap (λ (v : View). v.eyes.was_head) (cell_view c true s r);
   }
 
-  pub sees_tail : (c : ℕ) {allows : Plain → Plain → ℕ → View → View → Type 0} (s : SlotId)
-      → Refers IsNodePayload d (Cell c) (learn_next false) allows s old new → SeesTail s new
+  pub sees_tail : (c : ℕ) (s : SlotId)
+      → Refers fits d (Cell c) (learn_next false) (NodeTells c) s old new → SeesTail s new
   sees_tail c s r = record {
     owns = cell_owns c false s r;
     node = cell_node c false s r;
     life = cell_life c false s r;
     was_tail = ap (λ (v : View). v.eyes.was_tail) (cell_view c false s r);
+    is_node = cell_is_node c false s r;
     inside =
         let there = slot_there d (Cell c) old new s rest r in
-        let shape = ap (λ (v : CoreView). v.shape.slots) (core_found d (place.Cell c) old new s r)
+        let shape = ap (λ (v : CoreView). v.shape.slots) (core_found fits d (place.Cell c) old new s r)
         ∙ ap (λ (z : Shape). z.slots) rest.of_domain.1 in omega arith;
   }
 
+  -- what stood behind a node is a node
+  pub found_node : (front s : SlotId)
+      → Refers fits d (Field front 0) next_next (NextTells (ends_of d)) s old new
+      → (object_in new.view s).payload ≡ no_payload
+  found_node front s r =
+      let step = r.protects.checks.walks.1 in
+      let follows : r.protects.checks.walks.0.view.client.eyes.following ≡ s.0 + 1 =
+      ap (λ (v : View). v.eyes.following)
+      (sym (client_checked d (Field front 0) old new s rest r)
+      ∙ client_found d (Field front 0) old new s rest r)
+      ∙ omega arith in
+      ap (λ (o : Object). o.payload) (known_found d (Field front 0) old new s rest r)
+      ∙ ap (λ (o : Object). o.payload)
+      (step.told.says.objects s (has_found d (Field front 0) old new s rest r))
+      ∙ step.told.happened.fact.2.node s.0 follows
+
   -- NEXT. A seat that found a node behind one that it saw in the head cell sees both
   module _ (front s : SlotId) (sees : SeesHead front old) (knows : KnowsStill old.view.core old new)
-      (r : Refers IsNodePayload d (Field front 0) next_next (NextTells (ends_of d)) s old new) where
+      (r : Refers fits d (Field front 0) next_next (NextTells (ends_of d)) s old new) where
     next_seen : new.view.client
         ≡ record r.protects.mid.view.client {
           eyes = record r.protects.mid.view.client.eyes { following = suc s.0; found = 0 };
@@ -133,7 +164,7 @@ module _ (d : DomainState QueueLaw) (old new : SeatState View) (rest : IsAtRest 
     next_seen = client_found d (Field front 0) old new s rest r
 
     next_owned : new.view.core.owned ≡ old.view.core.owned ++ s ∷ []
-    next_owned = ap (λ (v : CoreView). v.owned) (core_found d (place.Field front 0) old new s r)
+    next_owned = ap (λ (v : CoreView). v.owned) (core_found fits d (place.Field front 0) old new s r)
 
     pub sees_next : SeesNext front s new
     sees_next =
@@ -148,12 +179,13 @@ module _ (d : DomainState QueueLaw) (old new : SeatState View) (rest : IsAtRest 
               ∙ ap (λ (v : View). v.eyes.was_head) client);
           owns = owns_pushed s old.view.core.owned new.view.core.owned next_owned;
           following = ap (λ (v : View). v.eyes.following) next_seen ∙ omega arith;
+          is_node = found_node front s r;
         }
 
   -- one that found none saw the last node, if that is the head's
   pub finds_last : (front : SlotId) → SeesHead front old → IsAttached old.view.client
-      → FindsNull IsNodePayload d (Field front 0) next_next (NextTells (ends_of d)) old new
-      → FindsLast d front old new
+      → FindsNull fits d (Field front 0) next_next (NextTells (ends_of d)) old new
+      → FindsLast fits d front old new
   finds_last front sees attached null = record {
     null = null;
     nothing =
@@ -168,7 +200,7 @@ module _ (d : DomainState QueueLaw) (old new : SeatState View) (rest : IsAtRest 
   -- ITEM. A seat that found the item of the next node sees it
   module _ (front next s : SlotId) (sees : SeesNext front next old)
       (knows : KnowsStill old.view.core old new)
-      (r : Refers IsNodePayload d (Field next 1) item_next (ItemTells (ends_of d)) s old new) where
+      (r : Refers fits d (Field next 1) item_next (ItemTells (ends_of d)) s old new) where
     item_seen : new.view.client
         ≡ record r.protects.mid.view.client {
           eyes = record r.protects.mid.view.client.eyes { found = suc s.0 };
@@ -176,7 +208,7 @@ module _ (d : DomainState QueueLaw) (old new : SeatState View) (rest : IsAtRest 
     item_seen = client_found d (Field next 1) old new s rest r
 
     item_owned : new.view.core.owned ≡ old.view.core.owned ++ s ∷ []
-    item_owned = ap (λ (v : CoreView). v.owned) (core_found d (place.Field next 1) old new s r)
+    item_owned = ap (λ (v : CoreView). v.owned) (core_found fits d (place.Field next 1) old new s r)
 
     pub sees_item : SeesItem front next s new
     sees_item =
@@ -195,6 +227,8 @@ module _ (d : DomainState QueueLaw) (old new : SeatState View) (rest : IsAtRest 
                 sees.owns;
             following = ap (λ (v : View). v.eyes.following) item_seen
                 ∙ ap (λ (v : View). v.eyes.following) client ∙ sees.following;
+            is_node = ap (λ (o : Object). o.payload) (knows next (has_owned next old sees.owns))
+                ∙ sees.is_node;
           };
           owns = owns_pushed s old.view.core.owned new.view.core.owned item_owned;
           found = ap (λ (v : View). v.eyes.found) item_seen ∙ omega arith;
@@ -217,7 +251,7 @@ module _ (d : DomainState QueueLaw) (old new : SeatState View) (rest : IsAtRest 
   }
 
   pub item_ready : (front next : SlotId) → SeesNext front next old → IsAttached old.view.client
-      → IsReadyToLoad IsNodePayload d (Field next 1) ItemReady old
+      → IsReadyToLoad fits d (Field next 1) ItemReady old
   item_ready front next sees attached = record {
     look = λ w. item_at front next old (plain.Look (Field next 1)) sees attached (inl refl);
     check = λ s mid announces w.
@@ -227,6 +261,7 @@ module _ (d : DomainState QueueLaw) (old new : SeatState View) (rest : IsAtRest 
         (subst (λ l. 0 < times front l) (sym owned) sees.head.owns)
         (subst (λ l. 0 < times next l) (sym owned) sees.owns)
         (announces.knows front (has_owned front old sees.head.owns))
+        (announces.knows next (has_owned next old sees.owns))
         (ap (λ (v : View). v.eyes) announces.client))
         (record {
           here = ap (λ (v : View). v.here) announces.client ∙ attached.here;

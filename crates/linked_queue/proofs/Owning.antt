@@ -1,5 +1,7 @@
 -- What a seat owns after a call, and what it knows of the objects that it holds still.
-use Rattle.std.proofs.Common.{◌≡◌, ◌<◌, ◌≤◌, List, [], ◌∷◌, ◌++◌, refl, ap, sym, ◌∙◌, arith}
+use Rattle.protocol_pairs.specs.Spared.{HasOneOf}
+use Rattle.plain_state.specs.State.{no_payload}
+use Rattle.std.proofs.Common.{◌≡◌, ◌<◌, ◌≤◌, List, [], ◌∷◌, ◌++◌, refl, ap, sym, ◌∙◌, arith, subst}
 use Rattle.std.specs.Prelude.{Option, Some, None, if◌then◌else◌}
 use Rattle.plain_state.specs.declared.slot.SlotId.{SlotId}
 use Rattle.plain_state.specs.Lists.{times}
@@ -25,6 +27,13 @@ module _ {V : Type 0} (s : SlotId) (seat : SeatState V) where
 
     pub own_payload : payload_in (own_of seat.view) s.0 ≡ (object_in seat.view s).payload
     own_payload = ap (λ b. payload_of (if b then Some (object_in seat.view s) else None)) has
+
+  -- a node that it owns is the queue's, as far as it can tell
+  pub owned_node : 0 < times s seat.view.core.owned → (object_in seat.view s).payload ≡ no_payload
+      → HasOneOf (λ words. words ≡ no_payload) ((own_of seat.view).objects s)
+  owned_node owns is =
+      subst (λ b. HasOneOf (λ words. words ≡ no_payload)
+      (if b then Some (object_in seat.view s) else None)) (sym (has_owned owns)) is
 
 -- HOW OFTEN A SEAT OWNS A SLOT
 pub found_more : (found : Option SlotId) (x : SlotId) (xs : List SlotId) → 0 < times x xs

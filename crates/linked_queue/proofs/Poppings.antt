@@ -18,26 +18,25 @@ use Rattle.queue_law.specs.declared.view.View.{View}
 use Rattle.queue_law.specs.declared.view.Item.{Item}
 use Rattle.queue_law.specs.Lessons.{ItemTells, item_next}
 use Rattle.queue_protocol.specs.declared.law.QueueLaw.{QueueLaw}
-use Rattle.queue_protocol.specs.Nodes.{IsNodePayload}
 use Rattle.linked_queue.specs.Leaving.{Leaves, with_found}
-use Rattle.linked_queue.specs.Pops.{IsWhyUnpopped, Pops, item_in, popped_too, unpopped_by}
+use Rattle.linked_queue.specs.Pops.{IsWhyUnpopped, Pops, item_in, popped_in, popped_too, unpopped_by}
 use Rattle.linked_queue.specs.Queues.{deeds_in, ends_of}
 use Rattle.linked_queue.specs.Seeing.{IsWhyUnloaded, LooksAgain, Passed, SeesNext}
 use Rattle.linked_queue.proofs.Owning.{found_more, holds_more, through}
 
 -- WHY
-module _ (d : DomainState QueueLaw) where
+module _ (fits : List ℕ → Type 0) (d : DomainState QueueLaw) where
   -- a load that was refused refuses the pop
-  pub why_of : (n : ℕ) (error : LoadError) (old : SeatState View) → IsWhyUnloaded d error old
-      → IsWhyUnpopped d n (unpopped_by error) old
+  pub why_of : (n : ℕ) (error : LoadError) (old : SeatState View) → IsWhyUnloaded fits d error old
+      → IsWhyUnpopped fits d n (unpopped_by error) old
   why_of n unloaded.Spent old why = omega (arith, why)
   why_of n (unloaded.Moved seen now) old why = inl why
 
   -- a null item tells that the head has gone on
   pub passed : (front next : SlotId) (old mid new : SeatState View) (seen now : ℕ)
       → SeesNext front next old → seen ≡ front.0 + 1
-      → FindsNull IsNodePayload d (Field next 1) item_next (ItemTells (ends_of d)) old mid
-      → LooksAgain d now mid new → Passed d seen now
+      → FindsNull fits d (Field next 1) item_next (ItemTells (ends_of d)) old mid
+      → LooksAgain fits d now mid new → Passed fits d seen now
   passed front next old mid new seen now sees is null looks =
       let after = null.becomes.walks.0 in
       let found : after.view.client.eyes.found ≡ 0 =
@@ -131,3 +130,36 @@ module _ (s : SlotId) (a b c e : SeatState View)
             ∙ ap (λ (v : View). popped_too (item_in b s) v) same
             ∙ ap (λ (x : Item). popped_too x (deeds_in a.view.client)) (sym item);
       }
+
+-- TRIES that took nothing, and then one more
+found_again : (found : Option SlotId) (x : SlotId) (xs ys : List SlotId) → times x xs ≡ times x ys
+    → times x (with_found found xs) ≡ times x (with_found found ys)
+found_again None x xs ys same = same
+found_again (Some s) x xs ys same =
+    let a = times_push x s xs in let b = times_push x s ys in omega arith
+
+popped_again : (found : Option SlotId) (c : SeatState View) (v w : View) → v ≡ w
+    → popped_in found c v ≡ popped_in found c w
+popped_again found c v w same = ap (popped_in found c) same
+
+pub pops_then : (found : Option SlotId) (a b c : SeatState View) → Pops None a b → Pops found b c
+    → Pops found a c
+pops_then found a b c none pops = record {
+  leaves = record {
+    owns = λ x. pops.leaves.owns x
+        ∙ found_again found x b.view.core.owned a.view.core.owned (none.leaves.owns x);
+    same = pops.leaves.same ∙ none.leaves.same;
+    knows = λ x was is.
+        let first = none.leaves.owns x in
+        let mid = holds_more x a.view.core b.view.core (sym none.leaves.same) (omega arith) was in
+        pops.leaves.knows x mid is ∙ none.leaves.knows x was mid;
+  };
+  deeds = pops.deeds ∙ popped_again found c (deeds_in b.view.client) (deeds_in a.view.client)
+      none.deeds;
+}
+
+pub pops_none : (a : SeatState View) → Pops None a a
+pops_none a = record {
+  leaves = record { owns = λ x. refl; same = refl; knows = λ x was is. refl };
+  deeds = refl;
+}

@@ -1,5 +1,5 @@
 -- What a load with a deed that only notes what was found leaves of a seat, whatever it answers.
-use Rattle.std.proofs.Common.{◌≡◌, ℕ, suc, ◌+◌, ◌≤◌, ◌++◌, refl, ap, ◌∙◌, arith}
+use Rattle.std.proofs.Common.{◌≡◌, ℕ, suc, ◌+◌, ◌≤◌, ◌++◌, refl, ap, ◌∙◌, arith, List}
 use Rattle.std.specs.Prelude.{Err, IfErr, IfOk, Ok, Option, Result, Some, None}
 use Rattle.plain_state.specs.declared.act.PlainAct.{PlainAct}
 use Rattle.plain_state.specs.declared.act.PlainAct.TheVariants as plain
@@ -27,7 +27,6 @@ use Rattle.protected_loads.specs.References.{Loads, loaded_by, with_reference}
 use Rattle.protected_loads.proofs.Learning.{client_found, client_moved, client_null}
 use Rattle.queue_law.specs.declared.view.View.{View}
 use Rattle.queue_protocol.specs.declared.law.QueueLaw.{QueueLaw}
-use Rattle.queue_protocol.specs.Nodes.{IsNodePayload}
 use Rattle.linked_queue.specs.Leaving.{Leaves, found_by, with_found}
 use Rattle.linked_queue.specs.Queues.{beside_eyes}
 use Rattle.linked_queue.specs.Seeing.{IsWhyUnread}
@@ -38,21 +37,21 @@ kind_of (place.Cell i) = refl
 kind_of (place.Field s i) = refl
 
 -- what the seat has that gained a reference to s
-pub core_found : (d : DomainState QueueLaw) (q : Place)
+pub core_found : (fits : List ℕ → Type 0) (d : DomainState QueueLaw) (q : Place)
     {next : OwnPart → OwnPart → View → PlainAct → ℕ → View}
     {allows : Plain → Plain → ℕ → View → View → Type 0} (old new : SeatState View) (s : SlotId)
-    → Loads IsNodePayload d (strong_place q) next allows (Some s) old new
+    → Loads fits d (strong_place q) next allows (Some s) old new
     → new.view.core
     ≡ record (with_strong s old.view.core) {
       trail = old.view.core.trail ++ loaded_by (strong_place q) s;
     }
-core_found d q old new s r = r.core
+core_found fits d q old new s r = r.core
     ∙ ap (λ k. record (with_reference k s old.view.core) {
       trail = old.view.core.trail ++ loaded_by (strong_place q) s;
     })
     (kind_of q)
 
-module _ (d : DomainState QueueLaw) (q : Place)
+module _ (fits : List ℕ → Type 0) (d : DomainState QueueLaw) (q : Place)
     (next : OwnPart → OwnPart → View → PlainAct → ℕ → View)
     (allows : Plain → Plain → ℕ → View → View → Type 0)
     (notes : (own after : OwnPart) (v : View) (a : PlainAct) (w : ℕ)
@@ -67,7 +66,7 @@ module _ (d : DomainState QueueLaw) (q : Place)
         × Leaves (with_found found old.view.core.owned) old new
 
     loaded : (found : Option SlotId)
-        → Loads IsNodePayload d (strong_place q) next allows found old new → Sights found
+        → Loads fits d (strong_place q) next allows found old new → Sights found
     loaded None null = (
       (let adds = ap (λ (v : CoreView). v.adds) null.becomes.core in omega arith),
       ap beside_eyes (client_null d (strong_place q) old new null)
@@ -76,17 +75,17 @@ module _ (d : DomainState QueueLaw) (q : Place)
       leaves_all old new _ null.becomes.core knows,
     )
     loaded (Some s) r = (
-      (let adds = ap (λ (v : CoreView). v.adds) (core_found d q old new s r) in omega arith),
+      (let adds = ap (λ (v : CoreView). v.adds) (core_found fits d q old new s r) in omega arith),
       ap beside_eyes (client_found d (strong_place q) old new s rest r)
           ∙ notes (own_of r.protects.mid.view) (own_of r.protects.checks.walks.0.view)
           r.protects.mid.view.client (plain.Check 0 (strong_place q)) (suc s.0)
           ∙ ap beside_eyes r.protects.announces.client,
-      leaves_as old new (with_strong s old.view.core) old.view.core _ (core_found d q old new s r) refl knows
+      leaves_as old new (with_strong s old.view.core) old.view.core _ (core_found fits d q old new s r) refl knows
           (λ x was is. was),
     )
 
     missed : (seen now : Option SlotId)
-        → Misses IsNodePayload d 0 (strong_place q) next allows seen now old new → Sights None
+        → Misses fits d 0 (strong_place q) next allows seen now old new → Sights None
     missed seen now m = (
       (let adds = ap (λ (v : CoreView). v.adds) m.core in omega arith),
       ap beside_eyes (client_moved d (strong_place q) old new seen now m)
@@ -107,19 +106,19 @@ module _ (d : DomainState QueueLaw) (q : Place)
     module _ (r : Result (Option Handle) LoadError) (same : r ≡ Err unloaded.Spent → new ≡ old)
         (spent : r ≡ Err unloaded.Spent → IsSpent old.view.core)
         (loads : IfOk r (λ found.
-        Loads IsNodePayload d (strong_place q) next allows (named found) old new))
+        Loads fits d (strong_place q) next allows (named found) old new))
         (moved : (seen now : ℕ) → r ≡ Err (unloaded.Moved seen now)
-        → Misses IsNodePayload d 0 (strong_place q) next allows (slot_in seen) (slot_in now) old new)
+        → Misses fits d 0 (strong_place q) next allows (slot_in seen) (slot_in now) old new)
         (differs : ℕ → ℕ → Type 0)
         (told : (seen now : ℕ)
-        → Misses IsNodePayload d 0 (strong_place q) next allows (slot_in seen) (slot_in now) old new
+        → Misses fits d 0 (strong_place q) next allows (slot_in seen) (slot_in now) old new
         → differs seen now) where
       pub sights : Sights (found_by r) × IfErr r (λ error. IsWhyUnread differs error old)
       sights = go r refl loads
         where
           go : (o : Result (Option Handle) LoadError) → r ≡ o
               → IfOk o (λ found.
-              Loads IsNodePayload d (strong_place q) next allows (named found) old new)
+              Loads fits d (strong_place q) next allows (named found) old new)
               → Sights (found_by o) × IfErr o (λ error. IsWhyUnread differs error old)
           go (Ok found) is l = (loaded (named found) l, tt)
           go (Err unloaded.Spent) is l = (unspent (same is), spent is)

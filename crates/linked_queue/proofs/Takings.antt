@@ -1,5 +1,5 @@
 -- The exchange of the head cell: what its deed asks, and what it leaves.
-use Rattle.std.proofs.Common.{◌≡◌, ℕ, ◌+◌, ◌-◌, ◌<◌, Bool, true, false, [], ◌∷◌, ◌++◌, refl, ap, sym, ◌∙◌, subst, arith}
+use Rattle.std.proofs.Common.{◌≡◌, ℕ, ◌+◌, ◌-◌, ◌<◌, Bool, true, false, [], ◌∷◌, ◌++◌, refl, ap, sym, ◌∙◌, subst, arith, List}
 use Rattle.std.specs.Prelude.{◌==◌, Option, Some, None, cond, if◌then◌else◌}
 use Rattle.plain_state.specs.declared.act.EventPlace.TheVariants.{Cell}
 use Rattle.plain_state.specs.declared.act.PlainAct.TheVariants as plain
@@ -27,7 +27,6 @@ use Rattle.queue_law.specs.Lessons.{TellsNothing}
 use Rattle.queue_law.specs.Pops.{TakeReady, popped_item, popped_view, take_next}
 use Rattle.queue_law.specs.Words.{life_in, payload_in}
 use Rattle.queue_protocol.specs.declared.law.QueueLaw.{QueueLaw}
-use Rattle.queue_protocol.specs.Nodes.{IsNodePayload}
 use Rattle.linked_queue.specs.Leaving.{Leaves}
 use Rattle.linked_queue.specs.Pops.{HasEmptied, item_in, popped_too}
 use Rattle.linked_queue.specs.Queues.{IsAttached, deeds_in, ends_of}
@@ -42,9 +41,9 @@ pub is_done : (w n : ℕ) (o : Outcome) (b : Bool) → (w == n) ≡ b
 is_done w n o true test is = test
 is_done w n o false test is = absurd (cc (is))
 
-module _ (d : DomainState QueueLaw) (front next item : SlotId) (old copied : SeatState View)
+module _ (fits : List ℕ → Type 0) (d : DomainState QueueLaw) (front next item : SlotId) (old copied : SeatState View)
     (sees : SeesItem front next item old)
-    (copies : GainsStrong IsNodePayload d same_view IsSameView next old copied)
+    (copies : GainsStrong fits d same_view IsSameView next old copied)
     (client : copied.view.client ≡ old.view.client)
     (knows : KnowsStill old.view.core old copied) where
   owned : copied.view.core.owned ≡ old.view.core.owned ++ next ∷ []
@@ -57,6 +56,7 @@ module _ (d : DomainState QueueLaw) (front next item : SlotId) (old copied : Sea
   sees_copied = record {
     nodes = next_still front next old copied sees.nodes (more front sees.nodes.head.owns)
         (more next sees.nodes.owns) (knows front (has_owned front old sees.nodes.head.owns))
+        (knows next (has_owned next old sees.nodes.owns))
         (ap (λ (v : View). v.eyes) client);
     owns = more item sees.owns;
     found = ap (λ (v : View). v.eyes.found) client ∙ sees.found;
@@ -91,7 +91,7 @@ module _ (d : DomainState QueueLaw) (front next item : SlotId) (old copied : Sea
 
   -- WHAT IT LEAVES where it was won
   module _ (new : SeatState View)
-      (replaces : Replaces IsNodePayload d take_next TellsNothing (Cell d.protocol.head)
+      (replaces : Replaces fits d take_next TellsNothing (Cell d.protocol.head)
       (Some next) (Some front) copied new)
       (still : Leaves (without next copied.view.core.owned) copied new) where
     taken : new.view.client ≡ popped_view (own_of copied.view) copied.view.client
@@ -143,11 +143,14 @@ module _ (d : DomainState QueueLaw) (front next item : SlotId) (old copied : Sea
               ∙ ap (life_in (own_of copied.view)) at
               ∙ own_life next copied (has_owned next copied sees_copied.nodes.owns)
               ∙ ap (λ (o : Object). o.life) (knows next (has_owned next old sees.nodes.owns)));
+          is_node =
+              ap (λ (o : Object). o.payload) (taken_leaves.knows next (omega arith) (omega arith))
+              ∙ sees.nodes.is_node;
         }
 
   -- and where it was lost
   module _ (lost' new : SeatState View) (now : ℕ)
-      (loses : LosesTo IsNodePayload d take_next TellsNothing (Cell d.protocol.head) (Some next)
+      (loses : LosesTo fits d take_next TellsNothing (Cell d.protocol.head) (Some next)
       (Some front) now copied lost') where
     lost_leaves : Leaves copied.view.core.owned copied lost'
     lost_leaves =
@@ -156,20 +159,20 @@ module _ (d : DomainState QueueLaw) (front next item : SlotId) (old copied : Sea
         (λ s has. ap (λ (z : SeatState View). object_in z.view s) by.walks.2
         ∙ by.walks.1.told.objects s has)
 
-    pub unchanged : DropsStrong IsNodePayload d next lost' new
+    pub unchanged : DropsStrong fits d next lost' new
         → KnowsStill (without_strong next lost'.view.core) lost' new
         → Leaves old.view.core.owned old new
     unchanged drops still = through next None old copied lost' new
         (copy_leaves next old copied copies knows) lost_leaves
         (drop_leaves next lost' new drops still)
 
-    pub lost_to : (seen : ℕ) → seen ≡ front.0 + 1 → Lost d seen now
+    pub lost_to : (seen : ℕ) → seen ≡ front.0 + 1 → Lost fits d seen now
     lost_to seen is = (
       Some next,
       copied,
       lost',
       subst (λ (e : Option SlotId × Option SlotId).
-          Loses IsNodePayload d take_next TellsNothing (Cell d.protocol.head) (Some next) e.0 e.1
+          Loses fits d take_next TellsNothing (Cell d.protocol.head) (Some next) e.0 e.1
           copied lost')
           (λ i. (
             sym (ap slot_in is ∙ slot_word (Some front)) i,

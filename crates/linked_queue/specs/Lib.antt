@@ -9,3 +9,4 @@ pub mod Pops
 pub mod Pushes
 pub mod NotPushed
 pub mod Shuts
+pub mod Waits

@@ -1,5 +1,5 @@
 -- A node of the seat's own, and how a queue is laid with one.
-use Rattle.std.specs.Prelude.{ℕ, ◌≡◌, ◌⊎◌, ◌+◌, ◌<◌, ◌≤◌, true, [], Some}
+use Rattle.std.specs.Prelude.{ℕ, ◌≡◌, ◌⊎◌, ◌+◌, ◌<◌, ◌≤◌, true, [], Some, List}
 use Rattle.plain_state.specs.declared.act.EventPlace.TheVariants.{Cell}
 use Rattle.plain_state.specs.declared.slot.SlotId.{SlotId}
 use Rattle.plain_state.specs.Lists.{times}
@@ -22,7 +22,6 @@ use Rattle.queue_law.specs.Opening.{lay_head_next, lay_tail_next}
 use Rattle.queue_law.specs.declared.view.View.{View}
 use Rattle.queue_law.specs.Views.{no_load, sees_node}
 use Rattle.queue_protocol.specs.declared.law.QueueLaw.{QueueLaw}
-use Rattle.queue_protocol.specs.Nodes.{IsNodePayload}
 
 -- at most so many adds are left
 abbrev pub HasFewAdds : ℕ → CoreView → Type 0
@@ -56,7 +55,7 @@ pub record IsHalfLaid (s : SlotId) (seat : SeatState View) : Type 0 where
 abbrev pub laid_in : View → View
 laid_in v = record v { stand = record { laid = 2; left = [] }; attached = true }
 
-module _ (d : DomainState QueueLaw) where
+module _ (fits : List ℕ → Type 0) (d : DomainState QueueLaw) where
   -- The seat made the dummy, counted a second reference to it, and put one into the tail cell and the other into the
   -- head cell.
   pub record Lays (old new : SeatState View) : Type 0 where
@@ -64,27 +63,27 @@ module _ (d : DomainState QueueLaw) where
     pub made : SeatState View
     pub copied : SeatState View
     pub half : SeatState View
-    pub makes : Makes IsNodePayload d make_next TellsNothing no_payload dummy old made
-    pub copies : GainsStrong IsNodePayload d same_view IsSameView dummy made copied
+    pub makes : Makes fits d make_next TellsNothing no_payload dummy old made
+    pub copies : GainsStrong fits d same_view IsSameView dummy made copied
     pub tail :
-        Stores IsNodePayload d lay_tail_next TellsNothing (Cell d.protocol.tail) (Some dummy)
+        Stores fits d lay_tail_next TellsNothing (Cell d.protocol.tail) (Some dummy)
         copied half
     pub head :
-        Stores IsNodePayload d lay_head_next TellsNothing (Cell d.protocol.head) (Some dummy) half
+        Stores fits d lay_head_next TellsNothing (Cell d.protocol.head) (Some dummy) half
         new
 
   -- It made a node, found no add left for a second reference, and gave the node up.
   pub record GivesUp (old new : SeatState View) : Type 0 where
     pub dummy : SlotId
     pub made : SeatState View
-    pub makes : Makes IsNodePayload d make_next TellsNothing no_payload dummy old made
-    pub drops : DropsStrong IsNodePayload d dummy made new
+    pub makes : Makes fits d make_next TellsNothing no_payload dummy old made
+    pub drops : DropsStrong fits d dummy made new
 
   -- why no node was made
   abbrev pub IsWhyUnmade : MakeError → SeatState View → SeatState View → Type 0
   IsWhyUnmade refused.MakesSpent old new = HasNoMake old.view.core × (new ≡ old)
   IsWhyUnmade refused.AddsSpent old new = IsSpent old.view.core × (new ≡ old)
-  IsWhyUnmade refused.Full old new = Misses IsNodePayload d old new
+  IsWhyUnmade refused.Full old new = Misses fits d old new
 
   -- why nothing was laid: no node was made, or at most one add was left, which made the node
   abbrev pub IsWhyUnlaid : MakeError → SeatState View → SeatState View → Type 0

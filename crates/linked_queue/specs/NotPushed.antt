@@ -1,4 +1,5 @@
 -- Why the push of a copy pushed nothing.
+use Rattle.std.specs.Prelude.{ℕ, List}
 use Rattle.acquire_retire.specs.Domains.{DomainState}
 use Rattle.acquire_retire.specs.Seats.{SeatState}
 use Rattle.queue_law.specs.declared.view.View.{View}
@@ -7,6 +8,6 @@ use Rattle.linked_queue.specs.declared.pushing.NotPushed.{NotPushed}
 use Rattle.linked_queue.specs.declared.pushing.NotPushed.TheVariants as failed
 use Rattle.linked_queue.specs.Pushes.{IsWhyRefused, PushDiffers}
 
-abbrev pub IsWhyNotPushed : DomainState QueueLaw → NotPushed → SeatState View → Type 0
-IsWhyNotPushed d (failed.Again seen now) old = PushDiffers d seen now
-IsWhyNotPushed d (failed.Refused error) old = IsWhyRefused d 5 error old
+abbrev pub IsWhyNotPushed : (List ℕ → Type 0) → DomainState QueueLaw → NotPushed → SeatState View → Type 0
+IsWhyNotPushed fits d (failed.Again seen now) old = PushDiffers fits d seen now
+IsWhyNotPushed fits d (failed.Refused error) old = IsWhyRefused fits d 5 error old

@@ -1,5 +1,6 @@
 -- What a pop does, and what it leaves.
-use Rattle.std.specs.Prelude.{ℕ, ◌≡◌, ◌⊎◌, ◌+◌, ◌<◌, true, [], ◌∷◌, ◌++◌, Option, Some, None}
+use Rattle.plain_state.specs.State.{no_payload}
+use Rattle.std.specs.Prelude.{ℕ, ◌≡◌, ◌⊎◌, ◌+◌, ◌<◌, true, [], ◌∷◌, ◌++◌, Option, Some, None, List}
 use Rattle.plain_state.specs.declared.act.EventPlace.TheVariants.{Cell, Field}
 use Rattle.plain_state.specs.declared.slot.SlotId.{SlotId}
 use Rattle.plain_state.specs.Lists.{times}
@@ -17,7 +18,6 @@ use Rattle.queue_law.specs.Pops.{empty_next, take_next}
 use Rattle.queue_law.specs.declared.view.Item.{Item}
 use Rattle.queue_law.specs.declared.view.View.{View}
 use Rattle.queue_protocol.specs.declared.law.QueueLaw.{QueueLaw}
-use Rattle.queue_protocol.specs.Nodes.{IsNodePayload}
 use Rattle.linked_queue.specs.declared.queue.PopError.{PopError}
 use Rattle.linked_queue.specs.declared.queue.PopError.TheVariants as unpopped
 use Rattle.linked_queue.specs.Cells.{HeadTells}
@@ -55,19 +55,20 @@ pub record HasEmptied (s : SlotId) (seat : SeatState View) : Type 0 where
   pub owns : 0 < times s seat.view.core.owned
   pub dummy : seat.view.client.dummy ≡ s.0 + 1
   pub life : (object_in seat.view s).life ≡ seat.view.client.dummy_life
+  pub is_node : (object_in seat.view s).payload ≡ no_payload
 
 -- why a load gave nothing, as a pop tells it
 abbrev pub unpopped_by : LoadError → PopError
 unpopped_by unloaded.Spent = unpopped.Spent
 unpopped_by (unloaded.Moved seen now) = unpopped.Again seen now
 
-module _ (d : DomainState QueueLaw) where
+module _ (fits : List ℕ → Type 0) (d : DomainState QueueLaw) where
   -- The seat exchanged the head's node for the next one, of which it counted a reference before.
   pub record Takes (front next : SlotId) (old new : SeatState View) : Type 0 where
     pub copied : SeatState View
-    pub copies : GainsStrong IsNodePayload d same_view IsSameView next old copied
+    pub copies : GainsStrong fits d same_view IsSameView next old copied
     pub replaces :
-        Replaces IsNodePayload d take_next TellsNothing (Cell d.protocol.head) (Some next)
+        Replaces fits d take_next TellsNothing (Cell d.protocol.head) (Some next)
         (Some front) copied new
 
   -- It took a reference to the next node's item, exchanged the head's node, and cleared the item of the new dummy.
@@ -75,10 +76,10 @@ module _ (d : DomainState QueueLaw) where
     pub seen : SeatState View
     pub taken : SeatState View
     pub loads :
-        Refers IsNodePayload d (Field next 1) item_next (ItemTells (ends_of d)) item old seen
+        Refers fits d (Field next 1) item_next (ItemTells (ends_of d)) item old seen
     pub takes : Takes front next seen taken
     pub empties :
-        Stores IsNodePayload d (next_unless empty_next) TellsNothing (Field next 1) None taken new
+        Stores fits d (next_unless empty_next) TellsNothing (Field next 1) None taken new
 
   -- It did so with a reference to the next node, which it gave up again.
   pub record TakesNext (front item : SlotId) (old new : SeatState View) : Type 0 where
@@ -86,13 +87,13 @@ module _ (d : DomainState QueueLaw) where
     pub seen : SeatState View
     pub popped : SeatState View
     pub loads :
-        Refers IsNodePayload d (Field front 0) next_next (NextTells (ends_of d)) next old seen
+        Refers fits d (Field front 0) next_next (NextTells (ends_of d)) next old seen
     pub takes : TakesItem front next item seen popped
-    pub drops : DropsStrong IsNodePayload d next popped new
+    pub drops : DropsStrong fits d next popped new
 
   -- behind a node that the head cell held it found an item, or nothing
   abbrev pub PopsBehind : SlotId → Option SlotId → SeatState View → SeatState View → Type 0
-  PopsBehind front None old new = FindsLast d front old new
+  PopsBehind front None old new = FindsLast fits d front old new
   PopsBehind front (Some item) old new = TakesNext front item old new
 
   -- It did so with a reference to the head's node, which it gave up again.
@@ -101,12 +102,12 @@ module _ (d : DomainState QueueLaw) where
     pub seen : SeatState View
     pub popped : SeatState View
     pub loads :
-        Refers IsNodePayload d (Cell d.protocol.head) (learn_next true) (HeadTells (ends_of d)) front
+        Refers fits d (Cell d.protocol.head) (learn_next true) (HeadTells (ends_of d)) front
         old seen
     pub pops : PopsBehind front found seen popped
-    pub drops : DropsStrong IsNodePayload d front popped new
+    pub drops : DropsStrong fits d front popped new
 
   -- why nothing was popped: at most n adds were left, or another seat was quicker
   abbrev pub IsWhyUnpopped : ℕ → PopError → SeatState View → Type 0
   IsWhyUnpopped n unpopped.Spent old = HasFewAdds n old.view.core
-  IsWhyUnpopped n (unpopped.Again seen now) old = Differs d seen now ⊎ Passed d seen now
+  IsWhyUnpopped n (unpopped.Again seen now) old = Differs fits d seen now ⊎ Passed fits d seen now

@@ -1,5 +1,5 @@
 -- What a seat has on its way through a push, what a push does, and what it leaves.
-use Rattle.std.specs.Prelude.{ℕ, ◌≡◌, ◌⊎◌, ◌+◌, ◌<◌, true, false, [], ◌∷◌, ◌++◌, Option, Some, None}
+use Rattle.std.specs.Prelude.{ℕ, ◌≡◌, ◌⊎◌, ◌+◌, ◌<◌, true, false, [], ◌∷◌, ◌++◌, Option, Some, None, List}
 use Rattle.plain_state.specs.declared.act.EventPlace.TheVariants.{Cell, Field}
 use Rattle.plain_state.specs.declared.slot.SlotId.{SlotId}
 use Rattle.plain_state.specs.Lists.{times}
@@ -29,7 +29,6 @@ use Rattle.queue_law.specs.Lessons.{NextTells, TellsNothing, learn_next, next_ne
 use Rattle.queue_law.specs.Pushes.{advance_next, link_next}
 use Rattle.queue_law.specs.Views.{sees_node}
 use Rattle.queue_protocol.specs.declared.law.QueueLaw.{QueueLaw}
-use Rattle.queue_protocol.specs.Nodes.{IsNodePayload}
 use Rattle.linked_queue.specs.declared.queue.PushError.{PushError}
 use Rattle.linked_queue.specs.declared.queue.PushError.TheVariants as unpushed
 use Rattle.linked_queue.specs.Leaving.{Leaves}
@@ -53,6 +52,7 @@ pub record SeesTail (last : SlotId) (seat : SeatState View) : Type 0 where
   pub node : seat.view.client.eyes.node ≡ last.0 + 1
   pub life : (object_in seat.view last).life ≡ seat.view.client.eyes.life
   pub was_tail : seat.view.client.eyes.was_tail ≡ true
+  pub is_node : (object_in seat.view last).payload ≡ no_payload
   pub inside : last.0 < seat.view.core.shape.slots
 
 -- and the node that follows it
@@ -60,6 +60,7 @@ pub record SeesBehind (last next : SlotId) (seat : SeatState View) : Type 0 wher
   pub tail : SeesTail last seat
   pub owns : 0 < times next seat.view.core.owned
   pub following : seat.view.client.eyes.following ≡ next.0 + 1
+  pub is_node : (object_in seat.view next).payload ≡ no_payload
 
 -- a view once the tail cell has held this node, as the seat knows it
 abbrev pub advanced_in : SlotId → SeatState View → View → View
@@ -68,29 +69,29 @@ advanced_in s seat v = record v {
 }
 
 -- why no node could be made that carries the item: at most n adds were left, or `make` has refused
-abbrev pub IsWhyRefused : DomainState QueueLaw → ℕ → MakeError → SeatState View → Type 0
-IsWhyRefused d n refused.MakesSpent old = HasNoMake old.view.core
-IsWhyRefused d n refused.AddsSpent old = HasFewAdds n old.view.core
-IsWhyRefused d n refused.Full old = (mid : SeatState View) × MissesSlots IsNodePayload d old mid
+abbrev pub IsWhyRefused : (List ℕ → Type 0) → DomainState QueueLaw → ℕ → MakeError → SeatState View → Type 0
+IsWhyRefused fits d n refused.MakesSpent old = HasNoMake old.view.core
+IsWhyRefused fits d n refused.AddsSpent old = HasFewAdds n old.view.core
+IsWhyRefused fits d n refused.Full old = (mid : SeatState View) × MissesSlots fits d old mid
 
 -- a view that has pushed one item more
 abbrev pub pushed_too : Item → View → View
 pushed_too item v =
     record v { pushed = v.pushed ++ record { item = item; taker = v.number } ∷ [] }
 
-module _ (d : DomainState QueueLaw) where
+module _ (fits : List ℕ → Type 0) (d : DomainState QueueLaw) where
   -- an exchange of field 0 of a node that expected `seen` found `now`, which is another content
   abbrev pub LostLink : ℕ → ℕ → Type 0
   LostLink seen now =
       (x : SlotId) × (given : Option SlotId) × (old : SeatState View) × (new : SeatState View)
-      × Loses IsNodePayload d link_next TellsNothing (Field x 0) given (slot_in seen) (slot_in now)
+      × Loses fits d link_next TellsNothing (Field x 0) given (slot_in seen) (slot_in now)
       old new
 
   -- a place of the queue held `seen`, and then `now`, which is another content: the tail cell, or field 0 of a node
   abbrev pub PushDiffers : ℕ → ℕ → Type 0
   PushDiffers seen now =
-      Missed d (Cell d.protocol.tail) (learn_next false) (TailTells (ends_of d)) seen now
-      ⊎ ((x : SlotId) × Missed d (Field x 0) next_next (NextTells (ends_of d)) seen now)
+      Missed fits d (Cell d.protocol.tail) (learn_next false) (TailTells (ends_of d)) seen now
+      ⊎ ((x : SlotId) × Missed fits d (Field x 0) next_next (NextTells (ends_of d)) seen now)
       ⊎ LostLink seen now
 
   -- why a node wasn't linked: at most n adds were left, or another seat was quicker
@@ -101,34 +102,34 @@ module _ (d : DomainState QueueLaw) where
   -- The seat exchanged the tail cell for the next node, or found it advanced already, and gave the reference up.
   abbrev pub Advances : SlotId → SlotId → SeatState View → SeatState View → Type 0
   Advances last next old new =
-      Replaces IsNodePayload d advance_next TellsNothing (Cell d.protocol.tail) (Some next)
+      Replaces fits d advance_next TellsNothing (Cell d.protocol.tail) (Some next)
       (Some last) old new
       ⊎ ((now : ℕ) × (mid : SeatState View)
-      × LosesTo IsNodePayload d advance_next TellsNothing (Cell d.protocol.tail) (Some next)
+      × LosesTo fits d advance_next TellsNothing (Cell d.protocol.tail) (Some next)
       (Some last) now old mid
-      × DropsStrong IsNodePayload d next mid new)
+      × DropsStrong fits d next mid new)
 
   -- It counted a reference to its node, and exchanged the last node's field 0, which was null, for it.
   pub record Links (last node : SlotId) (old new : SeatState View) : Type 0 where
     pub copied : SeatState View
-    pub copies : GainsStrong IsNodePayload d same_view IsSameView node old copied
+    pub copies : GainsStrong fits d same_view IsSameView node old copied
     pub replaces :
-        Replaces IsNodePayload d link_next TellsNothing (Field last 0) (Some node) None copied new
+        Replaces fits d link_next TellsNothing (Field last 0) (Some node) None copied new
 
   -- It made a node, counted a reference to the item, and put that into field 1 of the node.
   pub record LoadsNode (item node : SlotId) (old new : SeatState View) : Type 0 where
     pub made : SeatState View
     pub copied : SeatState View
-    pub makes : Makes IsNodePayload d make_next TellsNothing no_payload node old made
-    pub copies : GainsStrong IsNodePayload d same_view IsSameView item made copied
+    pub makes : Makes fits d make_next TellsNothing no_payload node old made
+    pub copies : GainsStrong fits d same_view IsSameView item made copied
     pub stores :
-        Stores IsNodePayload d (next_unless carry_next) TellsNothing (Field node 1) (Some item)
+        Stores fits d (next_unless carry_next) TellsNothing (Field node 1) (Some item)
         copied new
 
   -- It counted a reference to the next node, with which it advanced the tail cell, or found it advanced already.
   pub record Helps (last next : SlotId) (old new : SeatState View) : Type 0 where
     pub copied : SeatState View
-    pub copies : GainsStrong IsNodePayload d same_view IsSameView next old copied
+    pub copies : GainsStrong fits d same_view IsSameView next old copied
     pub advances : Advances last next copied new
 
   -- Behind a node of the tail cell it found another, to which it helped the tail cell on.
@@ -136,22 +137,22 @@ module _ (d : DomainState QueueLaw) where
     pub seen : SeatState View
     pub helped : SeatState View
     pub loads :
-        Refers IsNodePayload d (Field first 0) next_next (NextTells (ends_of d)) last old seen
+        Refers fits d (Field first 0) next_next (NextTells (ends_of d)) last old seen
     pub helps : Helps first last seen helped
-    pub drops : DropsStrong IsNodePayload d first helped new
+    pub drops : DropsStrong fits d first helped new
 
   -- behind it there was none
   abbrev pub Stays : SlotId → SlotId → SeatState View → SeatState View → Type 0
   Stays first last old new =
       (last ≡ first)
-      × FindsNull IsNodePayload d (Field first 0) next_next (NextTells (ends_of d)) old new
+      × FindsNull fits d (Field first 0) next_next (NextTells (ends_of d)) old new
 
   -- It found the last node by the tail cell.
   pub record FindsEnd (last : SlotId) (old new : SeatState View) : Type 0 where
     pub first : SlotId
     pub seen : SeatState View
     pub loads :
-        Refers IsNodePayload d (Cell d.protocol.tail) (learn_next false) (TailTells (ends_of d))
+        Refers fits d (Cell d.protocol.tail) (learn_next false) (TailTells (ends_of d))
         first old seen
     pub which : Stays first last seen new ⊎ GoesOn first last seen new
 
@@ -164,7 +165,7 @@ module _ (d : DomainState QueueLaw) where
     pub finds : FindsEnd last old found
     pub links : Links last node found linked
     pub advances : Advances last node linked late
-    pub drops : DropsStrong IsNodePayload d last late new
+    pub drops : DropsStrong fits d last late new
 
   -- It did so with a node that carries a reference of its own to the item.
   pub record PushesCopy (item : SlotId) (old new : SeatState View) : Type 0 where
@@ -177,7 +178,7 @@ module _ (d : DomainState QueueLaw) where
   pub record PushesBy (item : SlotId) (old new : SeatState View) : Type 0 where
     pub pushed : SeatState View
     pub copy : PushesCopy item old pushed
-    pub drops : DropsStrong IsNodePayload d item pushed new
+    pub drops : DropsStrong fits d item pushed new
 
 -- The seat has given its reference to the item, and has pushed it, as it knows it.
 pub record Pushes (item : SlotId) (old new : SeatState View) : Type 0 where
@@ -191,9 +192,9 @@ pub record PushesNothing (old new : SeatState View) : Type 0 where
   pub deeds : deeds_in new.view.client ≡ deeds_in old.view.client
 
 -- why nothing was pushed, and the item that is handed back
-abbrev pub IsWhyUnpushed : DomainState QueueLaw → PushError → SeatState View → Type 0
-IsWhyUnpushed d (unpushed.Again seen now back) old = PushDiffers d seen now
-IsWhyUnpushed d (unpushed.Refused r) old = IsWhyRefused d 5 r.why old
+abbrev pub IsWhyUnpushed : (List ℕ → Type 0) → DomainState QueueLaw → PushError → SeatState View → Type 0
+IsWhyUnpushed fits d (unpushed.Again seen now back) old = PushDiffers fits d seen now
+IsWhyUnpushed fits d (unpushed.Refused r) old = IsWhyRefused fits d 5 r.why old
 
 abbrev pub back_of : PushError → Handle
 back_of (unpushed.Again seen now back) = back

@@ -1,11 +1,11 @@
 -- What a seat sees of a queue, and how it finds that another seat was quicker.
-use Rattle.std.specs.Prelude.{ℕ, ◌≡◌, ◌≢◌, ◌⊎◌, ◌+◌, ◌<◌, true, Option, None}
+use Rattle.std.specs.Prelude.{ℕ, ◌≡◌, ◌≢◌, ◌⊎◌, ◌+◌, ◌<◌, true, Option, None, List}
 use Rattle.plain_state.specs.declared.act.EventPlace.{EventPlace}
 use Rattle.plain_state.specs.declared.act.EventPlace.TheVariants.{Cell, Field}
 use Rattle.plain_state.specs.declared.act.PlainAct.{PlainAct}
 use Rattle.plain_state.specs.declared.slot.SlotId.{SlotId}
 use Rattle.plain_state.specs.Lists.{times}
-use Rattle.plain_state.specs.State.{Plain}
+use Rattle.plain_state.specs.State.{Plain, no_payload}
 use Rattle.plain_protocol.specs.Owns.{OwnPart}
 use Rattle.core_events.specs.declared.act.Act.TheVariants as act
 use Rattle.core_events.specs.declared.outcome.Outcome.TheVariants as outcome
@@ -25,7 +25,6 @@ use Rattle.queue_law.specs.Pops.{take_next}
 use Rattle.queue_law.specs.declared.view.View.{View}
 use Rattle.queue_law.specs.Words.{cell_at}
 use Rattle.queue_protocol.specs.declared.law.QueueLaw.{QueueLaw}
-use Rattle.queue_protocol.specs.Nodes.{IsNodePayload}
 use Rattle.linked_queue.specs.Cells.{HeadTells}
 use Rattle.linked_queue.specs.Queues.{ends_of}
 
@@ -41,6 +40,7 @@ pub record SeesNext (front next : SlotId) (seat : SeatState View) : Type 0 where
   pub head : SeesHead front seat
   pub owns : 0 < times next seat.view.core.owned
   pub following : seat.view.client.eyes.following ≡ next.0 + 1
+  pub is_node : (object_in seat.view next).payload ≡ no_payload
 
 -- and that one's item
 pub record SeesItem (front next item : SlotId) (seat : SeatState View) : Type 0 where
@@ -53,19 +53,19 @@ abbrev pub IsWhyUnread : (ℕ → ℕ → Type 0) → LoadError → SeatState Vi
 IsWhyUnread differs unloaded.Spent old = IsSpent old.view.core
 IsWhyUnread differs (unloaded.Moved seen now) old = differs seen now
 
-module _ (d : DomainState QueueLaw) where
+module _ (fits : List ℕ → Type 0) (d : DomainState QueueLaw) where
   -- a check of a place, with this deed, found `now` where a look had found `seen`, which is another content
   abbrev pub Missed : EventPlace → (OwnPart → OwnPart → View → PlainAct → ℕ → View)
       → (Plain → Plain → ℕ → View → View → Type 0) → ℕ → ℕ → Type 0
   Missed place next allows seen now =
       (old : SeatState View) × (new : SeatState View)
-      × Misses IsNodePayload d 0 place next allows (slot_in seen) (slot_in now) old new
+      × Misses fits d 0 place next allows (slot_in seen) (slot_in now) old new
 
   -- an exchange of the head cell that expected `seen` found `now`, which is another content
   abbrev pub Lost : ℕ → ℕ → Type 0
   Lost seen now =
       (given : Option SlotId) × (old : SeatState View) × (new : SeatState View)
-      × Loses IsNodePayload d take_next TellsNothing (Cell d.protocol.head) given (slot_in seen)
+      × Loses fits d take_next TellsNothing (Cell d.protocol.head) given (slot_in seen)
       (slot_in now) old new
 
   -- A place of the queue held `seen`, and then `now`, which is another content: the head cell, field 0 or field 1 of a
@@ -80,7 +80,7 @@ module _ (d : DomainState QueueLaw) where
   -- a look at the head cell found this word
   abbrev pub LooksAgain : ℕ → SeatState View → SeatState View → Type 0
   LooksAgain now old new =
-      Steps IsNodePayload d same_view IsSameView (act.Look (Cell d.protocol.head)) old new
+      Steps fits d same_view IsSameView (act.Look (Cell d.protocol.head)) old new
       (outcome.Found (slot_in now))
 
   -- A node that the head cell held is `seen`. The seat's look at the item of the next node found null, and the head
@@ -93,7 +93,7 @@ module _ (d : DomainState QueueLaw) where
     pub was_head : old.view.client.eyes.was_head ≡ true
     pub node : old.view.client.eyes.node ≡ seen
     pub null :
-        FindsNull IsNodePayload d (Field next 1) item_next (ItemTells (ends_of d)) old mid
+        FindsNull fits d (Field next 1) item_next (ItemTells (ends_of d)) old mid
     pub gone :
         cell_at (shown_after {m = move (act.Look (Field next 1)) (outcome.Found None)} null.becomes.walks.1)
         d.protocol.head ≢ seen
@@ -107,7 +107,7 @@ module _ (d : DomainState QueueLaw) where
   -- head's node then.
   pub record FindsLast (front : SlotId) (old new : SeatState View) : Type 0 where
     pub null :
-        FindsNull IsNodePayload d (Field front 0) next_next (NextTells (ends_of d)) old new
+        FindsNull fits d (Field front 0) next_next (NextTells (ends_of d)) old new
     pub nothing :
         NothingLinked (ends_of d)
         (shown_after {m = move (act.Look (Field front 0)) (outcome.Found None)} null.becomes.walks.1)

@@ -1,5 +1,5 @@
 -- How a queue is shut.
-use Rattle.std.specs.Prelude.{◌≡◌, true, false, length, None}
+use Rattle.std.specs.Prelude.{◌≡◌, true, false, length, None, ℕ, List}
 use Rattle.plain_state.specs.declared.act.EventPlace.TheVariants.{Cell}
 use Rattle.domain_rule.specs.Views.{own_of}
 use Rattle.acquire_retire.specs.Domains.{DomainState}
@@ -11,7 +11,6 @@ use Rattle.queue_law.specs.Lessons.{TellsNothing}
 use Rattle.queue_law.specs.Opening.{shut_head_next, shut_tail_next, waiting_in}
 use Rattle.queue_law.specs.Words.{whole_of}
 use Rattle.queue_protocol.specs.declared.law.QueueLaw.{QueueLaw}
-use Rattle.queue_protocol.specs.Nodes.{IsNodePayload}
 use Rattle.linked_queue.specs.Queues.{ends_of}
 
 -- the queue is laid, and the seat attached
@@ -40,10 +39,10 @@ shut_in u seat v = record v {
 }
 
 -- The seat put null into the head cell, and then into the tail cell.
-pub record Shuts (d : DomainState QueueLaw) (old new : SeatState View) : Type 0 where
+pub record Shuts (fits : List ℕ → Type 0) (d : DomainState QueueLaw) (old new : SeatState View) : Type 0 where
   pub half : SeatState View
   pub head :
-      Stores IsNodePayload d (shut_head_next (ends_of d)) TellsNothing (Cell d.protocol.head) None
+      Stores fits d (shut_head_next (ends_of d)) TellsNothing (Cell d.protocol.head) None
       old half
   pub tail :
-      Stores IsNodePayload d shut_tail_next TellsNothing (Cell d.protocol.tail) None half new
+      Stores fits d shut_tail_next TellsNothing (Cell d.protocol.tail) None half new

@@ -32,10 +32,13 @@ mod taking;
 #[cfg(test)]
 mod tests;
 #[cfg(test)]
+mod tests_pair;
+#[cfg(test)]
 mod tests_threads;
 mod unless_ripe;
+mod waiting;
 
-pub use counted_handles::Strong;
+pub use counted_handles::{Spent, Strong};
 pub use deeds::{SeeHead, SeeTail};
 pub use queue::{LinkedQueue, PopError, PushError, PushRefused};
 pub use slot_store::MakeError;

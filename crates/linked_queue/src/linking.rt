@@ -7,9 +7,10 @@ ghost use Rattle.atomic_shared.specs.Places.{named};
 ghost use Rattle.control_word.specs.Resting.{IsAtRest};
 ghost use Rattle.protected_loads.specs.References.{Loads};
 ghost use Rattle.queue_law.specs.declared.view.Form.TheVariants.{Linked};
-ghost use Rattle.queue_law.specs.Pushes.{linked_view};
+ghost use Rattle.queue_law.specs.Pushes.{carried_item, linked_view};
 ghost use Rattle.queue_law.specs.Lessons.{NextTells, learn_next, next_next};
-ghost use Rattle.queue_protocol.specs.Nodes.{IsNodePayload};
+ghost use Rattle.part_calls.specs.Parts.{HasBeside, as_part, seen_by};
+ghost use Rattle.queue_law.specs.Views.{first_view};
 ghost use Rattle.linked_queue.specs.Cells.{TailTells};
 ghost use Rattle.linked_queue.specs.Leaving.{Leaves, found_by, handle_by, with_found};
 ghost use Rattle.linked_queue.specs.Pushes.{Advances, FindsEnd, HasLoad, Helps, IsWhyUnlinked, Links, PushDiffers, SeesBehind, SeesTail, advanced_in};
@@ -18,32 +19,32 @@ ghost use Rattle.linked_queue.specs.Seeing.{IsWhyUnread};
 
 use crate::deeds::SeeTail;
 use acquire_retire::{Domain, Seat, SlotId};
-use atomic_shared::{LoadError, Place, try_load, try_replace};
-use control_word::{copy_strong, drop_strong};
 use core_functions::held_as;
 use counted_handles::Strong;
-use queue_protocol::{AdvanceTail, LearnNext, LinkNode, QueueLaw};
+use part_calls::{LoadError, Place, copy_strong, drop_strong, try_load, try_replace};
+use queue_protocol::{AdvanceTail, HasQueue, LearnNext, LinkNode, QueueLaw};
 
 /// A reference to the last node that is linked, as far as the seat can tell: the one in the tail cell or, where a node
 /// follows that one, this node, to which the seat advances the tail cell.
-pub(crate) fn find_last(
-    domain: &Domain<QueueLaw>,
-    seat: &mut Seat<QueueLaw>,
+pub(crate) fn find_last<S, P: HasQueue<S>>(
+    domain: &Domain<P>,
+    seat: &mut Seat<P>,
     tail: u32,
 ) -> Result<Strong, LoadError>
     requires rest { IsAtRest domain.now seat.old }
     requires room { HasRoom seat.old.view.core }
-    requires tail { tail ≡ domain.now.protocol.tail }
+    requires tail { tail ≡ (P.part domain.now.protocol).tail }
     requires there { tail < domain.now.shape.cells }
-    requires queue { domain.now.protocol.form ≡ Linked }
-    requires attached { IsAttached seat.old.view.client }
-    ensures events { IfOk result (λ last. FindsEnd domain.now last.slot seat.old seat.new) }
-    ensures sees { IfOk result (λ last. SeesTail last.slot seat.new) }
+    requires queue { (P.part domain.now.protocol).form ≡ Linked }
+    requires attached { IsAttached (P.seen seat.old.view.client) }
+    ensures events { IfOk result (λ last. FindsEnd P.Kind.fits (as_part P.part domain.now) last.slot (seen_by P.seen seat.old) (seen_by P.seen seat.new)) }
+    ensures sees { IfOk result (λ last. SeesTail last.slot (seen_by P.seen seat.new)) }
     ensures adds { seat.new.view.core.adds ≤ seat.old.view.core.adds + 3 }
-    ensures beside { beside_eyes seat.new.view.client ≡ beside_eyes seat.old.view.client }
+    ensures beside { beside_eyes (P.seen seat.new.view.client) ≡ beside_eyes (P.seen seat.old.view.client) }
     ensures leaves { Leaves (with_found (handle_by result) seat.old.view.core.owned)
-        seat.old seat.new }
-    ensures why { IfErr result (λ error. IsWhyUnlinked domain.now 2 error seat.old) }
+        (seen_by P.seen seat.old) (seen_by P.seen seat.new) }
+    ensures why { IfErr result (λ error. IsWhyUnlinked P.Kind.fits (as_part P.part domain.now) 2 error (seen_by P.seen seat.old)) }
+    ensures beside_part { HasBeside P.with_seen first_view seat.old seat.new }
     ensures room { HasRoom seat.new.view.core }
     ensures rest { IsAtRest domain.now seat.new }
 {
@@ -56,98 +57,101 @@ pub(crate) fn find_last(
         Ok(Some(next)) => next,
         Ok(None) => return Ok(old),
         Err(error) => {
-            drop_strong(domain, seat, old);
+            drop_strong::<QueueLaw, S, P>(domain, seat, old);
             return Err(error);
         }
     };
     let helped = help(domain, seat, tail, old.slot(), &next);
-    drop_strong(domain, seat, old);
+    drop_strong::<QueueLaw, S, P>(domain, seat, old);
     match helped {
         Ok(()) => Ok(next),
         Err(error) => {
-            drop_strong(domain, seat, next);
+            drop_strong::<QueueLaw, S, P>(domain, seat, next);
             Err(error)
         }
     }
 }
 
 /// A reference to what the tail cell holds.
-fn load_tail(
-    domain: &Domain<QueueLaw>,
-    seat: &mut Seat<QueueLaw>,
+fn load_tail<S, P: HasQueue<S>>(
+    domain: &Domain<P>,
+    seat: &mut Seat<P>,
     tail: u32,
 ) -> Result<Option<Strong>, LoadError>
     requires rest { IsAtRest domain.now seat.old }
     requires room { HasRoom seat.old.view.core }
-    requires tail { tail ≡ domain.now.protocol.tail }
+    requires tail { tail ≡ (P.part domain.now.protocol).tail }
     requires there { tail < domain.now.shape.cells }
-    requires attached { IsAttached seat.old.view.client }
-    ensures loads { IfOk result (λ found. Loads IsNodePayload domain.now
-        (Cell domain.now.protocol.tail) (learn_next false) (TailTells (ends_of domain.now))
-        (named found) seat.old seat.new) }
+    requires attached { IsAttached (P.seen seat.old.view.client) }
+    ensures loads { IfOk result (λ found. Loads P.Kind.fits (as_part P.part domain.now)
+        (Cell (P.part domain.now.protocol).tail) (learn_next false) (TailTells (ends_of (as_part P.part domain.now)))
+        (named found) (seen_by P.seen seat.old) (seen_by P.seen seat.new)) }
     ensures there { IfOk result (λ found. named found ≢ None) }
-    ensures sees { IfOk result (λ found. IfSome found (λ node. SeesTail node.slot seat.new)) }
+    ensures sees { IfOk result (λ found. IfSome found (λ node. SeesTail node.slot (seen_by P.seen seat.new))) }
     ensures adds { seat.new.view.core.adds ≤ seat.old.view.core.adds + 1 }
-    ensures beside { beside_eyes seat.new.view.client ≡ beside_eyes seat.old.view.client }
+    ensures beside { beside_eyes (P.seen seat.new.view.client) ≡ beside_eyes (P.seen seat.old.view.client) }
     ensures leaves { Leaves (with_found (found_by result) seat.old.view.core.owned)
-        seat.old seat.new }
-    ensures why { IfErr result (λ error. IsWhyUnread (PushDiffers domain.now) error seat.old) }
+        (seen_by P.seen seat.old) (seen_by P.seen seat.new) }
+    ensures why { IfErr result (λ error. IsWhyUnread (PushDiffers P.Kind.fits (as_part P.part domain.now)) error (seen_by P.seen seat.old)) }
+    ensures beside_part { HasBeside P.with_seen first_view seat.old seat.new }
     ensures room { HasRoom seat.new.view.core }
     ensures rest { IsAtRest domain.now seat.new }
 {
-    try_load(domain, seat, Place::Cell(tail), SeeTail)
+    try_load::<QueueLaw, S, P, _>(domain, seat, Place::Cell(tail), SeeTail)
 }
 
 /// A reference to the node after one that the tail cell held.
-fn see_behind(
-    domain: &Domain<QueueLaw>,
-    seat: &mut Seat<QueueLaw>,
+fn see_behind<S, P: HasQueue<S>>(
+    domain: &Domain<P>,
+    seat: &mut Seat<P>,
     old: SlotId,
 ) -> Result<Option<Strong>, LoadError>
     requires rest { IsAtRest domain.now seat.old }
     requires room { HasRoom seat.old.view.core }
-    requires tail { SeesTail old seat.old }
-    ensures loads { IfOk result (λ found. Loads IsNodePayload domain.now (Field old 0) next_next
-        (NextTells (ends_of domain.now)) (named found) seat.old seat.new) }
+    requires tail { SeesTail old (seen_by P.seen seat.old) }
+    ensures loads { IfOk result (λ found. Loads P.Kind.fits (as_part P.part domain.now) (Field old 0) next_next
+        (NextTells (ends_of (as_part P.part domain.now))) (named found) (seen_by P.seen seat.old) (seen_by P.seen seat.new)) }
     ensures sees { IfOk result (λ found. IfSome found (λ node.
-        SeesBehind old node.slot seat.new)) }
-    ensures last { IfOk result (λ found. SeesTail old seat.new) }
+        SeesBehind old node.slot (seen_by P.seen seat.new))) }
+    ensures last { IfOk result (λ found. SeesTail old (seen_by P.seen seat.new)) }
     ensures adds { seat.new.view.core.adds ≤ seat.old.view.core.adds + 1 }
-    ensures beside { beside_eyes seat.new.view.client ≡ beside_eyes seat.old.view.client }
+    ensures beside { beside_eyes (P.seen seat.new.view.client) ≡ beside_eyes (P.seen seat.old.view.client) }
     ensures leaves { Leaves (with_found (found_by result) seat.old.view.core.owned)
-        seat.old seat.new }
-    ensures why { IfErr result (λ error. IsWhyUnread (PushDiffers domain.now) error seat.old) }
+        (seen_by P.seen seat.old) (seen_by P.seen seat.new) }
+    ensures why { IfErr result (λ error. IsWhyUnread (PushDiffers P.Kind.fits (as_part P.part domain.now)) error (seen_by P.seen seat.old)) }
+    ensures beside_part { HasBeside P.with_seen first_view seat.old seat.new }
     ensures room { HasRoom seat.new.view.core }
     ensures rest { IsAtRest domain.now seat.new }
 {
-    try_load(domain, seat, Place::Field(old, 0), LearnNext)
+    try_load::<QueueLaw, S, P, _>(domain, seat, Place::Field(old, 0), LearnNext)
 }
 
 /// Advances the tail cell to a node, with a reference of its own.
-fn help(
-    domain: &Domain<QueueLaw>,
-    seat: &mut Seat<QueueLaw>,
+fn help<S, P: HasQueue<S>>(
+    domain: &Domain<P>,
+    seat: &mut Seat<P>,
     tail: u32,
     old: SlotId,
     next: &Strong,
 ) -> Result<(), LoadError>
     requires rest { IsAtRest domain.now seat.old }
     requires room { HasRoom seat.old.view.core }
-    requires tail { tail ≡ domain.now.protocol.tail }
+    requires tail { tail ≡ (P.part domain.now.protocol).tail }
     requires there { tail < domain.now.shape.cells }
-    requires queue { domain.now.protocol.form ≡ Linked }
-    requires attached { IsAttached seat.old.view.client }
-    requires behind { SeesBehind old next.now.slot seat.old }
-    ensures helps { IfOk result (λ done. Helps domain.now old next.now.slot seat.old seat.new) }
-    ensures sees { IfOk result (λ done. SeesTail next.now.slot seat.new) }
+    requires queue { (P.part domain.now.protocol).form ≡ Linked }
+    requires attached { IsAttached (P.seen seat.old.view.client) }
+    requires behind { SeesBehind old next.now.slot (seen_by P.seen seat.old) }
+    ensures helps { IfOk result (λ done. Helps P.Kind.fits (as_part P.part domain.now) old next.now.slot (seen_by P.seen seat.old) (seen_by P.seen seat.new)) }
+    ensures sees { IfOk result (λ done. SeesTail next.now.slot (seen_by P.seen seat.new)) }
     ensures adds { seat.new.view.core.adds ≤ seat.old.view.core.adds + 1 }
-    ensures beside { beside_eyes seat.new.view.client ≡ beside_eyes seat.old.view.client }
-    ensures leaves { Leaves seat.old.view.core.owned seat.old seat.new }
-    ensures why { IfErr result (λ error. IsWhyUnlinked domain.now 0 error seat.old) }
+    ensures beside { beside_eyes (P.seen seat.new.view.client) ≡ beside_eyes (P.seen seat.old.view.client) }
+    ensures leaves { Leaves seat.old.view.core.owned (seen_by P.seen seat.old) (seen_by P.seen seat.new) }
+    ensures why { IfErr result (λ error. IsWhyUnlinked P.Kind.fits (as_part P.part domain.now) 0 error (seen_by P.seen seat.old)) }
+    ensures beside_part { HasBeside P.with_seen first_view seat.old seat.new }
     ensures room { HasRoom seat.new.view.core }
     ensures rest { IsAtRest domain.now seat.new }
 {
-    let Ok(given) = copy_strong(domain, seat, next) else {
+    let Ok(given) = copy_strong::<QueueLaw, S, P>(domain, seat, next) else {
         return Err(LoadError::Spent);
     };
     advance(domain, seat, tail, old, given);
@@ -155,29 +159,30 @@ fn help(
 }
 
 /// The tail cell gets the next node in place of the one that it held, unless another seat has advanced it already.
-pub(crate) fn advance(
-    domain: &Domain<QueueLaw>,
-    seat: &mut Seat<QueueLaw>,
+pub(crate) fn advance<S, P: HasQueue<S>>(
+    domain: &Domain<P>,
+    seat: &mut Seat<P>,
     tail: u32,
     old: SlotId,
     next: Strong,
 )
     requires rest { IsAtRest domain.now seat.old }
     requires room { HasRoom seat.old.view.core }
-    requires tail { tail ≡ domain.now.protocol.tail }
+    requires tail { tail ≡ (P.part domain.now.protocol).tail }
     requires there { tail < domain.now.shape.cells }
-    requires queue { domain.now.protocol.form ≡ Linked }
-    requires attached { IsAttached seat.old.view.client }
-    requires behind { SeesBehind old next.slot seat.old }
-    ensures advances { Advances domain.now old next.slot seat.old seat.new }
-    ensures client { seat.new.view.client
-        ≡ advanced_in next.slot seat.old seat.old.view.client }
+    requires queue { (P.part domain.now.protocol).form ≡ Linked }
+    requires attached { IsAttached (P.seen seat.old.view.client) }
+    requires behind { SeesBehind old next.slot (seen_by P.seen seat.old) }
+    ensures advances { Advances P.Kind.fits (as_part P.part domain.now) old next.slot (seen_by P.seen seat.old) (seen_by P.seen seat.new) }
+    ensures client { (P.seen seat.new.view.client)
+        ≡ advanced_in next.slot (seen_by P.seen seat.old) (P.seen seat.old.view.client) }
     ensures adds { seat.new.view.core.adds ≡ seat.old.view.core.adds }
-    ensures leaves { Leaves (without next.slot seat.old.view.core.owned) seat.old seat.new }
+    ensures leaves { Leaves (without next.slot seat.old.view.core.owned) (seen_by P.seen seat.old) (seen_by P.seen seat.new) }
+    ensures beside_part { HasBeside P.with_seen first_view seat.old seat.new }
     ensures room { HasRoom seat.new.view.core }
     ensures rest { IsAtRest domain.now seat.new }
 {
-    if let Err(lost) = try_replace(
+    if let Err(lost) = try_replace::<QueueLaw, S, P, _>(
         domain,
         seat,
         Place::Cell(tail),
@@ -187,37 +192,40 @@ pub(crate) fn advance(
     ) {
         let back = lost.back;
         let Some(next) = back else { unreachable!() };
-        drop_strong(domain, seat, next);
+        drop_strong::<QueueLaw, S, P>(domain, seat, next);
     }
 }
 
 /// Field 0 of the last node gets the seat's own node, which has its item pushed then.
-pub(crate) fn link(
-    domain: &Domain<QueueLaw>,
-    seat: &mut Seat<QueueLaw>,
+pub(crate) fn link<S, P: HasQueue<S>>(
+    domain: &Domain<P>,
+    seat: &mut Seat<P>,
     last: SlotId,
     node: SlotId,
 ) -> Result<(), LoadError>
     requires rest { IsAtRest domain.now seat.old }
     requires room { HasRoom seat.old.view.core }
-    requires queue { domain.now.protocol.form ≡ Linked }
-    requires attached { IsAttached seat.old.view.client }
-    requires tail { SeesTail last seat.old }
-    requires load { HasLoad node seat.old }
-    ensures links { IfOk result (λ done. Links domain.now last node seat.old seat.new) }
-    ensures linked { IfOk result (λ done. seat.new.view.client
-        ≡ linked_view seat.old.view.client) }
-    ensures behind { IfOk result (λ done. SeesBehind last node seat.new) }
-    ensures refused { OnErr result (seat.new.view.client ≡ seat.old.view.client) }
-    ensures leaves { Leaves seat.old.view.core.owned seat.old seat.new }
-    ensures why { IfErr result (λ error. IsWhyUnlinked domain.now 0 error seat.old) }
+    requires queue { (P.part domain.now.protocol).form ≡ Linked }
+    requires attached { IsAttached (P.seen seat.old.view.client) }
+    requires tail { SeesTail last (seen_by P.seen seat.old) }
+    requires load { HasLoad node (seen_by P.seen seat.old) }
+    requires may { P.may_push domain.now.protocol seat.old.view.client
+        (carried_item (P.seen seat.old.view.client)) }
+    ensures links { IfOk result (λ done. Links P.Kind.fits (as_part P.part domain.now) last node (seen_by P.seen seat.old) (seen_by P.seen seat.new)) }
+    ensures linked { IfOk result (λ done. (P.seen seat.new.view.client)
+        ≡ linked_view (P.seen seat.old.view.client)) }
+    ensures behind { IfOk result (λ done. SeesBehind last node (seen_by P.seen seat.new)) }
+    ensures refused { OnErr result ((P.seen seat.new.view.client) ≡ (P.seen seat.old.view.client)) }
+    ensures leaves { Leaves seat.old.view.core.owned (seen_by P.seen seat.old) (seen_by P.seen seat.new) }
+    ensures why { IfErr result (λ error. IsWhyUnlinked P.Kind.fits (as_part P.part domain.now) 0 error (seen_by P.seen seat.old)) }
+    ensures beside_part { HasBeside P.with_seen first_view seat.old seat.new }
     ensures room { HasRoom seat.new.view.core }
     ensures rest { IsAtRest domain.now seat.new }
 {
-    let Ok(given) = copy_strong(domain, seat, &Strong::of(node)) else {
+    let Ok(given) = copy_strong::<QueueLaw, S, P>(domain, seat, &Strong::of(node)) else {
         return Err(LoadError::Spent);
     };
-    let lost = match try_replace(
+    let lost = match try_replace::<QueueLaw, S, P, _>(
         domain,
         seat,
         Place::Field(last, 0),
@@ -230,7 +238,7 @@ pub(crate) fn link(
     };
     let back = lost.back;
     let Some(given) = back else { unreachable!() };
-    drop_strong(domain, seat, given);
+    drop_strong::<QueueLaw, S, P>(domain, seat, given);
     Err(LoadError::Moved {
         seen: held_as(None),
         now: lost.now,

@@ -11,6 +11,8 @@ ghost use Rattle.core_events.specs.Views.{without};
 ghost use Rattle.control_word.specs.Resting.{IsAtRest};
 ghost use Rattle.queue_law.specs.declared.view.Form.TheVariants.{Linked};
 ghost use Rattle.queue_law.specs.Pushes.{carried_item};
+ghost use Rattle.part_calls.specs.Parts.{HasBeside, StaysBeside, as_part, seen_by};
+ghost use Rattle.queue_law.specs.Views.{first_view};
 ghost use Rattle.linked_queue.specs.Leaving.{Leaves, handle_by, with_found};
 ghost use Rattle.linked_queue.specs.Pops.{item_in};
 ghost use Rattle.linked_queue.specs.Pushes.{HasLoad, LoadsNode, PushesBy, PushesCopy, PushesNode, IsWhyRefused, IsWhyUnlinked, IsWhyUnpushed, Pushes, PushesNothing, back_of, pushed_too};
@@ -23,9 +25,9 @@ use crate::linking::{advance, find_last, link};
 use crate::queue::{LinkedQueue, PushError, PushRefused};
 use acquire_retire::{Domain, Seat};
 use atomic_shared::LoadError;
-use control_word::{copy_strong, drop_strong};
 use counted_handles::Strong;
-use queue_protocol::QueueLaw;
+use part_calls::{copy_strong, drop_strong};
+use queue_protocol::{HasQueue, QueueLaw};
 use slot_store::MakeError;
 
 impl LinkedQueue {
@@ -33,25 +35,28 @@ impl LinkedQueue {
     /// quicker, and `Refused` with the causes of `make`; `AddsSpent` may come of a later increment of the call, and at
     /// most five adds were left. Then nothing is pushed, and the item is handed back; a node that was made is given
     /// up. At most 50 steps more than there are slots, and four collects.
-    pub fn try_push(
+    pub fn try_push<S, P: HasQueue<S>>(
         &self,
-        domain: &Domain<QueueLaw>,
-        seat: &mut Seat<QueueLaw>,
+        domain: &Domain<P>,
+        seat: &mut Seat<P>,
         item: Strong,
     ) -> Result<(), PushError>
         requires rest { IsAtRest domain.now seat.old }
         requires room { HasRoom seat.old.view.core }
-        requires queue { IsQueueOf self.now.head self.now.tail domain.now }
-        requires attached { IsAttached seat.old.view.client }
+        requires queue { IsQueueOf self.now.head self.now.tail (as_part P.part domain.now) }
+        requires attached { IsAttached (P.seen seat.old.view.client) }
         requires item { 0 < times item.slot seat.old.view.core.owned }
-        ensures events { IfOk result (λ done. PushesBy domain.now item.slot seat.old seat.new) }
-        ensures pushed { IfOk result (λ done. Pushes item.slot seat.old seat.new) }
-        ensures refused { OnErr result (PushesNothing seat.old seat.new) }
+        requires may { P.may_push domain.now.protocol seat.old.view.client
+            (item_in (seen_by P.seen seat.old) item.slot) }
+        ensures events { IfOk result (λ done. PushesBy P.Kind.fits (as_part P.part domain.now) item.slot (seen_by P.seen seat.old) (seen_by P.seen seat.new)) }
+        ensures pushed { IfOk result (λ done. Pushes item.slot (seen_by P.seen seat.old) (seen_by P.seen seat.new)) }
+        ensures refused { OnErr result (PushesNothing (seen_by P.seen seat.old) (seen_by P.seen seat.new)) }
         ensures back { IfErr result (λ error. back_of error ≡ item) }
         ensures owned { IfErr result (λ error.
             0 < times (back_of error).slot seat.new.view.core.owned) }
-        ensures why { IfErr result (λ error. IsWhyUnpushed domain.now error seat.old) }
-        ensures attached { IsAttached seat.new.view.client }
+        ensures why { IfErr result (λ error. IsWhyUnpushed P.Kind.fits (as_part P.part domain.now) error (seen_by P.seen seat.old)) }
+        ensures attached { IsAttached (P.seen seat.new.view.client) }
+        ensures beside { StaysBeside P.seen P.with_seen seat.old seat.new }
         ensures room { HasRoom seat.new.view.core }
         ensures rest { IsAtRest domain.now seat.new }
     {
@@ -60,30 +65,33 @@ impl LinkedQueue {
 }
 
 /// Appends an item to the queue whose tail cell this is.
-fn push_item(
-    domain: &Domain<QueueLaw>,
-    seat: &mut Seat<QueueLaw>,
+fn push_item<S, P: HasQueue<S>>(
+    domain: &Domain<P>,
+    seat: &mut Seat<P>,
     tail: u32,
     item: Strong,
 ) -> Result<(), PushError>
     requires rest { IsAtRest domain.now seat.old }
     requires room { HasRoom seat.old.view.core }
-    requires queue { domain.now.protocol.form ≡ Linked }
-    requires tail { tail ≡ domain.now.protocol.tail }
+    requires queue { (P.part domain.now.protocol).form ≡ Linked }
+    requires tail { tail ≡ (P.part domain.now.protocol).tail }
     requires there { tail < domain.now.shape.cells }
-    requires attached { IsAttached seat.old.view.client }
+    requires attached { IsAttached (P.seen seat.old.view.client) }
     requires item { 0 < times item.slot seat.old.view.core.owned }
-    ensures events { IfOk result (λ done. PushesBy domain.now item.slot seat.old seat.new) }
-    ensures pushed { IfOk result (λ done. Pushes item.slot seat.old seat.new) }
-    ensures refused { OnErr result (PushesNothing seat.old seat.new) }
+    requires may { P.may_push domain.now.protocol seat.old.view.client
+        (item_in (seen_by P.seen seat.old) item.slot) }
+    ensures events { IfOk result (λ done. PushesBy P.Kind.fits (as_part P.part domain.now) item.slot (seen_by P.seen seat.old) (seen_by P.seen seat.new)) }
+    ensures pushed { IfOk result (λ done. Pushes item.slot (seen_by P.seen seat.old) (seen_by P.seen seat.new)) }
+    ensures refused { OnErr result (PushesNothing (seen_by P.seen seat.old) (seen_by P.seen seat.new)) }
     ensures back { IfErr result (λ error. back_of error ≡ item) }
-    ensures why { IfErr result (λ error. IsWhyUnpushed domain.now error seat.old) }
+    ensures why { IfErr result (λ error. IsWhyUnpushed P.Kind.fits (as_part P.part domain.now) error (seen_by P.seen seat.old)) }
+    ensures beside_part { HasBeside P.with_seen first_view seat.old seat.new }
     ensures room { HasRoom seat.new.view.core }
     ensures rest { IsAtRest domain.now seat.new }
 {
     match push_copy(domain, seat, tail, &item) {
         Ok(()) => {
-            drop_strong(domain, seat, item);
+            drop_strong::<QueueLaw, S, P>(domain, seat, item);
             Ok(())
         }
         Err(NotPushed::Again { seen, now }) => Err(PushError::Again {
@@ -102,27 +110,30 @@ enum NotPushed {
 }
 
 /// Pushes a reference of its own to the item.
-fn push_copy(
-    domain: &Domain<QueueLaw>,
-    seat: &mut Seat<QueueLaw>,
+fn push_copy<S, P: HasQueue<S>>(
+    domain: &Domain<P>,
+    seat: &mut Seat<P>,
     tail: u32,
     item: &Strong,
 ) -> Result<(), NotPushed>
     requires rest { IsAtRest domain.now seat.old }
     requires room { HasRoom seat.old.view.core }
-    requires queue { domain.now.protocol.form ≡ Linked }
-    requires tail { tail ≡ domain.now.protocol.tail }
+    requires queue { (P.part domain.now.protocol).form ≡ Linked }
+    requires tail { tail ≡ (P.part domain.now.protocol).tail }
     requires there { tail < domain.now.shape.cells }
-    requires attached { IsAttached seat.old.view.client }
+    requires attached { IsAttached (P.seen seat.old.view.client) }
     requires item { 0 < times item.now.slot seat.old.view.core.owned }
-    ensures events { IfOk result (λ done. PushesCopy domain.now item.now.slot
-        seat.old seat.new) }
-    ensures pushed { IfOk result (λ done. deeds_in seat.new.view.client
-        ≡ pushed_too (item_in seat.old item.now.slot) (deeds_in seat.old.view.client)) }
-    ensures refused { OnErr result (deeds_in seat.new.view.client
-        ≡ deeds_in seat.old.view.client) }
-    ensures leaves { Leaves seat.old.view.core.owned seat.old seat.new }
-    ensures why { IfErr result (λ not. IsWhyNotPushed domain.now not seat.old) }
+    requires may { P.may_push domain.now.protocol seat.old.view.client
+        (item_in (seen_by P.seen seat.old) item.now.slot) }
+    ensures events { IfOk result (λ done. PushesCopy P.Kind.fits (as_part P.part domain.now) item.now.slot
+        (seen_by P.seen seat.old) (seen_by P.seen seat.new)) }
+    ensures pushed { IfOk result (λ done. deeds_in (P.seen seat.new.view.client)
+        ≡ pushed_too (item_in (seen_by P.seen seat.old) item.now.slot) (deeds_in (P.seen seat.old.view.client))) }
+    ensures refused { OnErr result (deeds_in (P.seen seat.new.view.client)
+        ≡ deeds_in (P.seen seat.old.view.client)) }
+    ensures leaves { Leaves seat.old.view.core.owned (seen_by P.seen seat.old) (seen_by P.seen seat.new) }
+    ensures why { IfErr result (λ not. IsWhyNotPushed P.Kind.fits (as_part P.part domain.now) not (seen_by P.seen seat.old)) }
+    ensures beside_part { HasBeside P.with_seen first_view seat.old seat.new }
     ensures room { HasRoom seat.new.view.core }
     ensures rest { IsAtRest domain.now seat.new }
 {
@@ -138,30 +149,31 @@ fn push_copy(
 }
 
 /// Makes a node with a reference of its own to the item.
-fn load_node(
-    domain: &Domain<QueueLaw>,
-    seat: &mut Seat<QueueLaw>,
+fn load_node<S, P: HasQueue<S>>(
+    domain: &Domain<P>,
+    seat: &mut Seat<P>,
     item: &Strong,
 ) -> Result<Strong, MakeError>
     requires rest { IsAtRest domain.now seat.old }
     requires room { HasRoom seat.old.view.core }
     requires item { 0 < times item.now.slot seat.old.view.core.owned }
-    ensures events { IfOk result (λ node. LoadsNode domain.now item.now.slot node.slot
-        seat.old seat.new) }
-    ensures load { IfOk result (λ node. HasLoad node.slot seat.new) }
-    ensures carried { IfOk result (λ node. carried_item seat.new.view.client
-        ≡ item_in seat.old item.now.slot) }
+    ensures events { IfOk result (λ node. LoadsNode P.Kind.fits (as_part P.part domain.now) item.now.slot node.slot
+        (seen_by P.seen seat.old) (seen_by P.seen seat.new)) }
+    ensures load { IfOk result (λ node. HasLoad node.slot (seen_by P.seen seat.new)) }
+    ensures carried { IfOk result (λ node. carried_item (P.seen seat.new.view.client)
+        ≡ item_in (seen_by P.seen seat.old) item.now.slot) }
     ensures adds { seat.new.view.core.adds ≤ seat.old.view.core.adds + 2 }
-    ensures deeds { deeds_in seat.new.view.client ≡ deeds_in seat.old.view.client }
+    ensures deeds { deeds_in (P.seen seat.new.view.client) ≡ deeds_in (P.seen seat.old.view.client) }
     ensures leaves { Leaves (with_found (handle_by result) seat.old.view.core.owned)
-        seat.old seat.new }
-    ensures why { IfErr result (λ error. IsWhyRefused domain.now 1 error seat.old) }
+        (seen_by P.seen seat.old) (seen_by P.seen seat.new) }
+    ensures why { IfErr result (λ error. IsWhyRefused P.Kind.fits (as_part P.part domain.now) 1 error (seen_by P.seen seat.old)) }
+    ensures beside_part { HasBeside P.with_seen first_view seat.old seat.new }
     ensures room { HasRoom seat.new.view.core }
     ensures rest { IsAtRest domain.now seat.new }
 {
     let node = make_node(domain, seat)?;
-    let Ok(copy) = copy_strong(domain, seat, item) else {
-        drop_strong(domain, seat, node);
+    let Ok(copy) = copy_strong::<QueueLaw, S, P>(domain, seat, item) else {
+        drop_strong::<QueueLaw, S, P>(domain, seat, node);
         return Err(MakeError::AddsSpent);
     };
     carry(domain, seat, node.slot(), copy);
@@ -169,42 +181,45 @@ fn load_node(
 }
 
 /// Links a node that carries its item behind the last one, or gives it up.
-fn push_node(
-    domain: &Domain<QueueLaw>,
-    seat: &mut Seat<QueueLaw>,
+fn push_node<S, P: HasQueue<S>>(
+    domain: &Domain<P>,
+    seat: &mut Seat<P>,
     tail: u32,
     node: Strong,
 ) -> Result<(), LoadError>
     requires rest { IsAtRest domain.now seat.old }
     requires room { HasRoom seat.old.view.core }
-    requires queue { domain.now.protocol.form ≡ Linked }
-    requires tail { tail ≡ domain.now.protocol.tail }
+    requires queue { (P.part domain.now.protocol).form ≡ Linked }
+    requires tail { tail ≡ (P.part domain.now.protocol).tail }
     requires there { tail < domain.now.shape.cells }
-    requires attached { IsAttached seat.old.view.client }
-    requires load { HasLoad node.slot seat.old }
-    ensures events { IfOk result (λ done. PushesNode domain.now node.slot seat.old seat.new) }
-    ensures pushed { IfOk result (λ done. deeds_in seat.new.view.client
-        ≡ pushed_too (carried_item seat.old.view.client) (deeds_in seat.old.view.client)) }
-    ensures refused { OnErr result (deeds_in seat.new.view.client
-        ≡ deeds_in seat.old.view.client) }
-    ensures leaves { Leaves (without node.slot seat.old.view.core.owned) seat.old seat.new }
-    ensures why { IfErr result (λ error. IsWhyUnlinked domain.now 3 error seat.old) }
+    requires attached { IsAttached (P.seen seat.old.view.client) }
+    requires load { HasLoad node.slot (seen_by P.seen seat.old) }
+    requires may { P.may_push domain.now.protocol seat.old.view.client
+        (carried_item (P.seen seat.old.view.client)) }
+    ensures events { IfOk result (λ done. PushesNode P.Kind.fits (as_part P.part domain.now) node.slot (seen_by P.seen seat.old) (seen_by P.seen seat.new)) }
+    ensures pushed { IfOk result (λ done. deeds_in (P.seen seat.new.view.client)
+        ≡ pushed_too (carried_item (P.seen seat.old.view.client)) (deeds_in (P.seen seat.old.view.client))) }
+    ensures refused { OnErr result (deeds_in (P.seen seat.new.view.client)
+        ≡ deeds_in (P.seen seat.old.view.client)) }
+    ensures leaves { Leaves (without node.slot seat.old.view.core.owned) (seen_by P.seen seat.old) (seen_by P.seen seat.new) }
+    ensures why { IfErr result (λ error. IsWhyUnlinked P.Kind.fits (as_part P.part domain.now) 3 error (seen_by P.seen seat.old)) }
+    ensures beside_part { HasBeside P.with_seen first_view seat.old seat.new }
     ensures room { HasRoom seat.new.view.core }
     ensures rest { IsAtRest domain.now seat.new }
 {
     let last = match find_last(domain, seat, tail) {
         Ok(last) => last,
         Err(error) => {
-            drop_strong(domain, seat, node);
+            drop_strong::<QueueLaw, S, P>(domain, seat, node);
             return Err(error);
         }
     };
     if let Err(error) = link(domain, seat, last.slot(), node.slot()) {
-        drop_strong(domain, seat, node);
-        drop_strong(domain, seat, last);
+        drop_strong::<QueueLaw, S, P>(domain, seat, node);
+        drop_strong::<QueueLaw, S, P>(domain, seat, last);
         return Err(error);
     }
     advance(domain, seat, tail, last.slot(), node);
-    drop_strong(domain, seat, last);
+    drop_strong::<QueueLaw, S, P>(domain, seat, last);
     Ok(())
 }

@@ -6,7 +6,8 @@ ghost use Rattle.control_word.specs.Resting.{IsAtRest};
 ghost use Rattle.retiring_stores.specs.Exchanging.{Stores};
 ghost use Rattle.queue_law.specs.Lessons.{TellsNothing};
 ghost use Rattle.queue_law.specs.Pops.{empty_next};
-ghost use Rattle.queue_protocol.specs.Nodes.{IsNodePayload};
+ghost use Rattle.part_calls.specs.Parts.{HasBeside, as_part, seen_by};
+ghost use Rattle.queue_law.specs.Views.{first_view};
 ghost use Rattle.linked_queue.specs.Leaving.{Leaves};
 ghost use Rattle.linked_queue.specs.Pops.{HasEmptied, IsWhyUnpopped, Takes, item_in, popped_too};
 ghost use Rattle.linked_queue.specs.Queues.{IsAttached, deeds_in};
@@ -16,12 +17,11 @@ ghost use Rattle.linked_queue.specs.UnlessRipe.{next_unless};
 use crate::queue::PopError;
 use crate::unless_ripe::UnlessRipe;
 use acquire_retire::{Domain, EventPlace, Outcome, Seat, SlotId};
-use atomic_shared::{Place, store, try_replace};
-use control_word::{copy_strong, drop_strong};
 use core_functions::held_as;
 use counted_handles::Strong;
 use plain_protocol::Still;
-use queue_protocol::{EmptyDummy, QueueLaw, TakeItem};
+use part_calls::{Place, copy_strong, drop_strong, look, store, try_replace};
+use queue_protocol::{EmptyDummy, HasQueue, QueueLaw, TakeItem};
 
 /// What a seat saw at the head of a queue: the slots of a node that the head cell held, of the next one, and of that
 /// one's item.
@@ -33,41 +33,42 @@ pub(crate) struct Sight {
 }
 
 /// The head cell gets the next node in place of the one that it held. Then the item is popped.
-pub(crate) fn take(
-    domain: &Domain<QueueLaw>,
-    seat: &mut Seat<QueueLaw>,
+pub(crate) fn take<S, P: HasQueue<S>>(
+    domain: &Domain<P>,
+    seat: &mut Seat<P>,
     head: u32,
     sight: Sight,
 ) -> Result<(), PopError>
     requires rest { IsAtRest domain.now seat.old }
     requires room { HasRoom seat.old.view.core }
-    requires head { head ≡ domain.now.protocol.head }
+    requires head { head ≡ (P.part domain.now.protocol).head }
     requires there { head < domain.now.shape.cells }
-    requires attached { IsAttached seat.old.view.client }
-    requires sees { SeesItem sight.front sight.next sight.item seat.old }
-    ensures takes { IfOk result (λ done. Takes domain.now sight.front sight.next
-        seat.old seat.new) }
-    ensures popped { IfOk result (λ done. deeds_in seat.new.view.client
-        ≡ popped_too (item_in seat.old sight.item) (deeds_in seat.old.view.client)) }
-    ensures dummy { IfOk result (λ done. HasEmptied sight.next seat.new) }
-    ensures refused { OnErr result (deeds_in seat.new.view.client
-        ≡ deeds_in seat.old.view.client) }
-    ensures why { IfErr result (λ error. IsWhyUnpopped domain.now 0 error seat.old) }
-    ensures leaves { Leaves seat.old.view.core.owned seat.old seat.new }
+    requires attached { IsAttached (P.seen seat.old.view.client) }
+    requires sees { SeesItem sight.front sight.next sight.item (seen_by P.seen seat.old) }
+    ensures takes { IfOk result (λ done. Takes P.Kind.fits (as_part P.part domain.now) sight.front sight.next
+        (seen_by P.seen seat.old) (seen_by P.seen seat.new)) }
+    ensures popped { IfOk result (λ done. deeds_in (P.seen seat.new.view.client)
+        ≡ popped_too (item_in (seen_by P.seen seat.old) sight.item) (deeds_in (P.seen seat.old.view.client))) }
+    ensures dummy { IfOk result (λ done. HasEmptied sight.next (seen_by P.seen seat.new)) }
+    ensures refused { OnErr result (deeds_in (P.seen seat.new.view.client)
+        ≡ deeds_in (P.seen seat.old.view.client)) }
+    ensures why { IfErr result (λ error. IsWhyUnpopped P.Kind.fits (as_part P.part domain.now) 0 error (seen_by P.seen seat.old)) }
+    ensures leaves { Leaves seat.old.view.core.owned (seen_by P.seen seat.old) (seen_by P.seen seat.new) }
+    ensures beside_part { HasBeside P.with_seen first_view seat.old seat.new }
     ensures room { HasRoom seat.new.view.core }
     ensures rest { IsAtRest domain.now seat.new }
 {
-    let Ok(given) = copy_strong(domain, seat, &Strong::of(sight.next)) else {
+    let Ok(given) = copy_strong::<QueueLaw, S, P>(domain, seat, &Strong::of(sight.next)) else {
         return Err(PopError::Spent);
     };
     let cell = Place::Cell(head);
-    let lost = match try_replace(domain, seat, cell, Some(sight.front), Some(given), TakeItem) {
+    let lost = match try_replace::<QueueLaw, S, P, _>(domain, seat, cell, Some(sight.front), Some(given), TakeItem) {
         Ok(()) => return Ok(()),
         Err(lost) => lost,
     };
     let back = lost.back;
     let Some(given) = back else { unreachable!() };
-    drop_strong(domain, seat, given);
+    drop_strong::<QueueLaw, S, P>(domain, seat, given);
     Err(PopError::Again {
         seen: held_as(Some(sight.front)),
         now: lost.now,
@@ -75,18 +76,19 @@ pub(crate) fn take(
 }
 
 /// Clears the item of a node that the seat made the dummy.
-pub(crate) fn empty(domain: &Domain<QueueLaw>, seat: &mut Seat<QueueLaw>, dummy: SlotId)
+pub(crate) fn empty<S, P: HasQueue<S>>(domain: &Domain<P>, seat: &mut Seat<P>, dummy: SlotId)
     requires rest { IsAtRest domain.now seat.old }
     requires room { HasRoom seat.old.view.core }
-    requires dummy { HasEmptied dummy seat.old }
-    ensures stores { Stores IsNodePayload domain.now (next_unless empty_next) TellsNothing
-        (Field dummy 1) None seat.old seat.new }
-    ensures client { seat.new.view.client ≡ seat.old.view.client }
-    ensures leaves { Leaves seat.old.view.core.owned seat.old seat.new }
+    requires dummy { HasEmptied dummy (seen_by P.seen seat.old) }
+    ensures stores { Stores P.Kind.fits (as_part P.part domain.now) (next_unless empty_next) TellsNothing
+        (Field dummy 1) None (seen_by P.seen seat.old) (seen_by P.seen seat.new) }
+    ensures client { (P.seen seat.new.view.client) ≡ (P.seen seat.old.view.client) }
+    ensures leaves { Leaves seat.old.view.core.owned (seen_by P.seen seat.old) (seen_by P.seen seat.new) }
+    ensures beside_part { HasBeside P.with_seen first_view seat.old seat.new }
     ensures room { HasRoom seat.new.view.core }
     ensures rest { IsAtRest domain.now seat.new }
 {
-    store(
+    store::<QueueLaw, S, P, _>(
         domain,
         seat,
         Place::Field(dummy, 1),
@@ -96,18 +98,19 @@ pub(crate) fn empty(domain: &Domain<QueueLaw>, seat: &mut Seat<QueueLaw>, dummy:
 }
 
 /// What the head cell holds.
-pub(crate) fn look_again(domain: &Domain<QueueLaw>, seat: &mut Seat<QueueLaw>, head: u32) -> u64
+pub(crate) fn look_again<S, P: HasQueue<S>>(domain: &Domain<P>, seat: &mut Seat<P>, head: u32) -> u64
     requires rest { IsAtRest domain.now seat.old }
     requires room { HasRoom seat.old.view.core }
-    requires head { head ≡ domain.now.protocol.head }
+    requires head { head ≡ (P.part domain.now.protocol).head }
     requires there { head < domain.now.shape.cells }
-    ensures looks { LooksAgain domain.now result seat.old seat.new }
-    ensures client { seat.new.view.client ≡ seat.old.view.client }
-    ensures leaves { Leaves seat.old.view.core.owned seat.old seat.new }
+    ensures looks { LooksAgain P.Kind.fits (as_part P.part domain.now) result (seen_by P.seen seat.old) (seen_by P.seen seat.new) }
+    ensures client { (P.seen seat.new.view.client) ≡ (P.seen seat.old.view.client) }
+    ensures leaves { Leaves seat.old.view.core.owned (seen_by P.seen seat.old) (seen_by P.seen seat.new) }
+    ensures beside_part { HasBeside P.with_seen first_view seat.old seat.new }
     ensures room { HasRoom seat.new.view.core }
     ensures rest { IsAtRest domain.now seat.new }
 {
-    match domain.look(seat, EventPlace::Cell(head), Still) {
+    match look::<QueueLaw, S, P, _>(domain, seat, EventPlace::Cell(head), Still) {
         Outcome::Found(found) => held_as(found),
         _ => 0,
     }

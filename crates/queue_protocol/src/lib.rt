@@ -5,6 +5,9 @@
 //! made with one deed. A deed is ready by what the seat itself has and by its view; it says what the view is
 //! afterwards, and keeps the law. So the law holds between any two steps of all seats.
 //!
+//! A protocol that has a queue as one of its parts is a `HasQueue`: it says which items may be pushed, and calls on a
+//! queue go over each of them.
+//!
 //! Nothing here runs, and no step is promised to come. A deed doesn't say that the step that it goes with succeeds.
 //!
 //! ```text
@@ -13,6 +16,7 @@
 //! ```
 #![tactic(auto)]
 
+mod has_queue;
 mod helps;
 mod law;
 mod lessons;
@@ -24,6 +28,7 @@ mod pushes;
 #[cfg(test)]
 mod tests;
 
+pub use has_queue::HasQueue;
 pub use helps::{FindEnded, FindSet, LearnBefore};
 pub use law::QueueLaw;
 pub use lessons::{AttachSeat, LearnHead, LearnItem, LearnNext, LearnTail, LookAhead};

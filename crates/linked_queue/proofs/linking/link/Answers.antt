@@ -1,3 +1,7 @@
+use Rattle.plain_protocol.specs.Owns.{Object}
+use Rattle.linked_queue.proofs.Owning.{has_owned, owned_node}
+use Rattle.linked_queue.proofs.Accepting.{link_all}
+use Rattle.part_calls.specs.Parts.{as_part, seen_by}
 use Rattle.std.proofs.Common.{rules, ◌≡◌, inr, refl, ap, sym, ◌∙◌, subst, arith}
 use Rattle.std.specs.Prelude.{None, Some}
 use Rattle.plain_state.specs.declared.act.EventPlace.TheVariants.{Field}
@@ -9,77 +13,77 @@ use Rattle.control_word.specs.Calls.{DropsStrong, GainsStrong, without_strong}
 use Rattle.control_word.specs.Moves.{KnowsStill}
 use Rattle.retiring_stores.specs.Exchanging.{LosesTo, Replaces}
 use Rattle.queue_law.specs.Lessons.{TellsNothing}
-use Rattle.queue_law.specs.Pushes.{link_next}
-use Rattle.queue_protocol.specs.Nodes.{IsNodePayload}
+use Rattle.queue_law.specs.Pushes.{link_next, carried_item}
 use Rattle.linked_queue.specs.Leaving.{Leaves}
 use Rattle.linked_queue.proofs.Leavings.{exchange_leaves}
 use Rattle.linked_queue.proofs.Linkings.{link_leaves, link_ready, linked_behind, linked_client, lost_link, more, unlinked}
 use Rattle.linked_queue.proofs.linking.link.Goals as goal
 
 pub try_replace-requires-clause-open : goal.try_replace-requires-clause-open
-try_replace-requires-clause-open c =
-    let copies = subst (λ (s : SlotId). GainsStrong IsNodePayload c.args.domain.now same_view
-    IsSameView s c.args.seat.now c.copy_strong.new.seat)
+try_replace-requires-clause-open g c =
+    let copies = subst (λ (s : SlotId). GainsStrong g.P.Kind.PayloadKind.fits (as_part g.P.Part.part c.args.domain.now) same_view
+    IsSameView s (seen_by g.P.Part.seen c.args.seat.now) (seen_by g.P.Part.seen c.copy_strong.new.seat))
     c.of.ensures c.in-Ok.ensures.copied.1 in
     let same = c.in-Ok.ensures.copied.0 ∙ c.of.ensures in
-    let some' = more c.args.domain.now c.args.last c.args.node c.args.seat.now c.copy_strong.new.seat
-    c.requires.tail c.requires.load copies c.copy_strong.ensures.client
+    let some' = more g.P.Kind.PayloadKind.fits (as_part g.P.Part.part c.args.domain.now) c.args.last c.args.node (seen_by g.P.Part.seen c.args.seat.now) (seen_by g.P.Part.seen c.copy_strong.new.seat)
+    c.requires.tail c.requires.load copies c.copy_strong.ensures.seen
     c.copy_strong.ensures.objects c.args.last c.requires.tail.owns in
     (omega arith, omega arith)
 
 pub try_replace-requires-clause-deed : goal.try_replace-requires-clause-deed
-try_replace-requires-clause-deed c =
-    let copies = subst (λ (s : SlotId). GainsStrong IsNodePayload c.args.domain.now same_view
-    IsSameView s c.args.seat.now c.copy_strong.new.seat)
+try_replace-requires-clause-deed g c =
+    let copies = subst (λ (s : SlotId). GainsStrong g.P.Kind.PayloadKind.fits (as_part g.P.Part.part c.args.domain.now) same_view
+    IsSameView s (seen_by g.P.Part.seen c.args.seat.now) (seen_by g.P.Part.seen c.copy_strong.new.seat))
     c.of.ensures c.in-Ok.ensures.copied.1 in
     let same = c.in-Ok.ensures.copied.0 ∙ c.of.ensures in
-    link_ready c.args.domain.now c.args.last c.args.node c.args.seat.now c.copy_strong.new.seat
-    c.requires.tail c.requires.load copies c.copy_strong.ensures.client
+    link_ready g.P.Kind.PayloadKind.fits (as_part g.P.Part.part c.args.domain.now) c.args.last c.args.node (seen_by g.P.Part.seen c.args.seat.now) (seen_by g.P.Part.seen c.copy_strong.new.seat)
+    c.requires.tail c.requires.load copies c.copy_strong.ensures.seen
     c.copy_strong.ensures.objects c.in-Ok.given.slot same c.requires.queue c.requires.attached
 
 pub returns-in-Ok-try_replace : goal.returns-in-Ok-try_replace
-returns-in-Ok-try_replace c =
-    let copies = subst (λ (s : SlotId). GainsStrong IsNodePayload c.args.domain.now same_view
-    IsSameView s c.args.seat.now c.copy_strong.new.seat)
+returns-in-Ok-try_replace g c =
+    let copies = subst (λ (s : SlotId). GainsStrong g.P.Kind.PayloadKind.fits (as_part g.P.Part.part c.args.domain.now) same_view
+    IsSameView s (seen_by g.P.Part.seen c.args.seat.now) (seen_by g.P.Part.seen c.copy_strong.new.seat))
     c.of.ensures c.in-Ok.ensures.copied.1 in
     let same = c.in-Ok.ensures.copied.0 ∙ c.of.ensures in
-    let replaces = subst (λ (s : SlotId). Replaces IsNodePayload c.args.domain.now link_next
-    TellsNothing (Field c.args.last 0) (Some s) None c.copy_strong.new.seat
-    c.try_replace.new.seat) same c.in-Ok-try_replace.ensures.replaced.0 in
+    let replaces = subst (λ (s : SlotId). Replaces g.P.Kind.PayloadKind.fits (as_part g.P.Part.part c.args.domain.now) link_next
+    TellsNothing (Field c.args.last 0) (Some s) None (seen_by g.P.Part.seen c.copy_strong.new.seat)
+    (seen_by g.P.Part.seen c.try_replace.new.seat)) same c.in-Ok-try_replace.ensures.replaced.0 in
     let still = subst (λ (s : SlotId). Leaves (without s c.copy_strong.new.seat.view.core.owned)
-    c.copy_strong.new.seat c.try_replace.new.seat) same
-    (exchange_leaves (Field c.args.last 0) _ (Some c.in-Ok.given.slot) _ c.copy_strong.new.seat
-    c.try_replace.new.seat refl c.in-Ok-try_replace.ensures.replaced.0
+    (seen_by g.P.Part.seen c.copy_strong.new.seat) (seen_by g.P.Part.seen c.try_replace.new.seat)) same
+    (exchange_leaves (Field c.args.last 0) _ (Some c.in-Ok.given.slot) _ (seen_by g.P.Part.seen c.copy_strong.new.seat)
+    (seen_by g.P.Part.seen c.try_replace.new.seat) refl c.in-Ok-try_replace.ensures.replaced.0
     c.try_replace.ensures.objects) in
-    let client = linked_client c.args.domain.now c.args.last c.args.node c.args.seat.now c.copy_strong.new.seat
-    c.requires.tail c.requires.load copies c.copy_strong.ensures.client
-    c.copy_strong.ensures.objects c.try_replace.new.seat still
+    let client = linked_client g.P.Kind.PayloadKind.fits (as_part g.P.Part.part c.args.domain.now) c.args.last c.args.node (seen_by g.P.Part.seen c.args.seat.now) (seen_by g.P.Part.seen c.copy_strong.new.seat)
+    c.requires.tail c.requires.load copies c.copy_strong.ensures.seen
+    c.copy_strong.ensures.objects (seen_by g.P.Part.seen c.try_replace.new.seat) still
     replaces in
     record {
-      links = record { copied = c.copy_strong.new.seat; copies = copies; replaces = replaces };
+      links = record { copied = (seen_by g.P.Part.seen c.copy_strong.new.seat); copies = copies; replaces = replaces };
       linked = client;
-      behind = linked_behind c.args.domain.now c.args.last c.args.node c.args.seat.now c.copy_strong.new.seat
-          c.requires.tail c.requires.load copies c.copy_strong.ensures.client
-          c.copy_strong.ensures.objects c.try_replace.new.seat still
+      behind = linked_behind g.P.Kind.PayloadKind.fits (as_part g.P.Part.part c.args.domain.now) c.args.last c.args.node (seen_by g.P.Part.seen c.args.seat.now) (seen_by g.P.Part.seen c.copy_strong.new.seat)
+          c.requires.tail c.requires.load copies c.copy_strong.ensures.seen
+          c.copy_strong.ensures.objects (seen_by g.P.Part.seen c.try_replace.new.seat) still
           client;
       refused = tt;
-      leaves = link_leaves c.args.domain.now c.args.last c.args.node c.args.seat.now c.copy_strong.new.seat
-          c.requires.tail c.requires.load copies c.copy_strong.ensures.client
-          c.copy_strong.ensures.objects c.try_replace.new.seat still;
+      leaves = link_leaves g.P.Kind.PayloadKind.fits (as_part g.P.Part.part c.args.domain.now) c.args.last c.args.node (seen_by g.P.Part.seen c.args.seat.now) (seen_by g.P.Part.seen c.copy_strong.new.seat)
+          c.requires.tail c.requires.load copies c.copy_strong.ensures.seen
+          c.copy_strong.ensures.objects (seen_by g.P.Part.seen c.try_replace.new.seat) still;
       why = tt;
       room = c.try_replace.ensures.room;
+      beside_part = c.try_replace.ensures.beside ∙ c.copy_strong.ensures.beside;
       rest = c.try_replace.ensures.rest;
     }
 
 pub returns : goal.returns
-returns c =
-    let copies = subst (λ (s : SlotId). GainsStrong IsNodePayload c.args.domain.now same_view
-    IsSameView s c.args.seat.now c.copy_strong.new.seat)
+returns g c =
+    let copies = subst (λ (s : SlotId). GainsStrong g.P.Kind.PayloadKind.fits (as_part g.P.Part.part c.args.domain.now) same_view
+    IsSameView s (seen_by g.P.Part.seen c.args.seat.now) (seen_by g.P.Part.seen c.copy_strong.new.seat))
     c.of.ensures c.in-Ok.ensures.copied.1 in
     let same = c.in-Ok.ensures.copied.0 ∙ c.of.ensures in
-    let loses = subst (λ (s : SlotId). LosesTo IsNodePayload c.args.domain.now link_next
+    let loses = subst (λ (s : SlotId). LosesTo g.P.Kind.PayloadKind.fits (as_part g.P.Part.part c.args.domain.now) link_next
     TellsNothing (Field c.args.last 0) (Some s) None c.in-Err.lost.now
-    c.copy_strong.new.seat c.try_replace.new.seat) same c.in-Err.ensures.lost in
+    (seen_by g.P.Part.seen c.copy_strong.new.seat) (seen_by g.P.Part.seen c.try_replace.new.seat)) same c.in-Err.ensures.lost in
     let both : Some c.in-Some.given ≡ Some c.in-Ok.given =
     sym c.in-Some.is ∙ c.in-Err.ensures.back in
     let handles : c.in-Some.given ≡ c.in-Ok.given = cc (both) in
@@ -89,17 +93,42 @@ returns c =
       linked = tt;
       behind = tt;
       refused = search rules;
-      leaves = unlinked c.args.domain.now c.args.last c.args.node c.args.seat.now c.copy_strong.new.seat
-          c.requires.tail c.requires.load copies c.copy_strong.ensures.client
-          c.copy_strong.ensures.objects c.try_replace.new.seat c.drop_strong.new.seat c.in-Err.lost.now loses
-          (subst (λ (s : SlotId). DropsStrong IsNodePayload c.args.domain.now s c.try_replace.new.seat
-          c.drop_strong.new.seat) back c.drop_strong.ensures.dropped)
+      leaves = unlinked g.P.Kind.PayloadKind.fits (as_part g.P.Part.part c.args.domain.now) c.args.last c.args.node (seen_by g.P.Part.seen c.args.seat.now) (seen_by g.P.Part.seen c.copy_strong.new.seat)
+          c.requires.tail c.requires.load copies c.copy_strong.ensures.seen
+          c.copy_strong.ensures.objects (seen_by g.P.Part.seen c.try_replace.new.seat) (seen_by g.P.Part.seen c.drop_strong.new.seat) c.in-Err.lost.now loses
+          (subst (λ (s : SlotId). DropsStrong g.P.Kind.PayloadKind.fits (as_part g.P.Part.part c.args.domain.now) s (seen_by g.P.Part.seen c.try_replace.new.seat)
+          (seen_by g.P.Part.seen c.drop_strong.new.seat)) back c.drop_strong.ensures.dropped)
           (subst (λ (s : SlotId). KnowsStill (without_strong s c.try_replace.new.seat.view.core)
-          c.try_replace.new.seat c.drop_strong.new.seat) back c.drop_strong.ensures.objects);
-      why = inr (inr (lost_link c.args.domain.now c.args.last c.args.node c.args.seat.now c.copy_strong.new.seat
-          c.requires.tail c.requires.load copies c.copy_strong.ensures.client
-          c.copy_strong.ensures.objects c.try_replace.new.seat c.drop_strong.new.seat
+          (seen_by g.P.Part.seen c.try_replace.new.seat) (seen_by g.P.Part.seen c.drop_strong.new.seat)) back c.drop_strong.ensures.objects);
+      why = inr (inr (lost_link g.P.Kind.PayloadKind.fits (as_part g.P.Part.part c.args.domain.now) c.args.last c.args.node (seen_by g.P.Part.seen c.args.seat.now) (seen_by g.P.Part.seen c.copy_strong.new.seat)
+          c.requires.tail c.requires.load copies c.copy_strong.ensures.seen
+          c.copy_strong.ensures.objects (seen_by g.P.Part.seen c.try_replace.new.seat) (seen_by g.P.Part.seen c.drop_strong.new.seat)
           c.in-Err.lost.now loses c.held_as.result c.held_as.ensures));
       room = c.drop_strong.ensures.room c.try_replace.ensures.room;
+      beside_part = c.drop_strong.ensures.beside ∙ c.try_replace.ensures.beside
+          ∙ c.copy_strong.ensures.beside;
       rest = c.drop_strong.ensures.rest;
     }
+
+pub try_replace-requires-clause-accepted : goal.try_replace-requires-clause-accepted
+try_replace-requires-clause-accepted g c =
+    link_all g.P.Part.seen g.P.Part.suits g.met.P.HasQueue.accepts
+    c.args.domain.now.protocol c.copy_strong.new.seat.view.client g.P.HasQueue.may_push
+    g.met.P.HasQueue.accepts_push
+    (subst (λ v. g.P.HasQueue.may_push c.args.domain.now.protocol v
+    (carried_item (g.P.Part.seen v))) (sym c.copy_strong.ensures.client) c.requires.may)
+
+pub try_replace-requires-clause-within : goal.try_replace-requires-clause-within
+try_replace-requires-clause-within g c =
+    let copies = subst (λ (s : SlotId). GainsStrong g.P.Kind.PayloadKind.fits
+    (as_part g.P.Part.part c.args.domain.now) same_view IsSameView s
+    (seen_by g.P.Part.seen c.args.seat.now) (seen_by g.P.Part.seen c.copy_strong.new.seat))
+    c.of.ensures c.in-Ok.ensures.copied.1 in
+    let known = c.copy_strong.ensures.objects c.args.last
+    (has_owned c.args.last c.args.seat.now c.requires.tail.owns) in
+    owned_node c.args.last c.copy_strong.new.seat
+    (more g.P.Kind.PayloadKind.fits (as_part g.P.Part.part c.args.domain.now) c.args.last c.args.node
+    (seen_by g.P.Part.seen c.args.seat.now) (seen_by g.P.Part.seen c.copy_strong.new.seat)
+    c.requires.tail c.requires.load copies c.copy_strong.ensures.seen c.copy_strong.ensures.objects
+    c.args.last c.requires.tail.owns)
+    (ap (λ (o : Object). o.payload) known ∙ c.requires.tail.is_node)

@@ -1,11 +1,13 @@
-use Rattle.std.proofs.Common.{inl, inr, refl}
+use Rattle.linked_queue.proofs.Accepting.{kept_all}
+use Rattle.part_calls.proofs.Seen.{rest_seen}
+use Rattle.part_calls.specs.Parts.{as_part, seen_by}
+use Rattle.std.proofs.Common.{inl, inr, refl, ap}
 use Rattle.plain_state.specs.declared.act.EventPlace.TheVariants.{Field}
 use Rattle.acquire_retire.proofs.Wholes.{then_ok}
 use Rattle.atomic_shared.specs.Places.{named}
 use Rattle.counted_handles.specs.declared.place.Place.TheVariants as place
 use Rattle.protected_loads.specs.References.{Loads}
 use Rattle.queue_law.specs.Lessons.{NextTells, next_next}
-use Rattle.queue_protocol.specs.Nodes.{IsNodePayload}
 use Rattle.linked_queue.specs.Queues.{ends_of}
 use Rattle.linked_queue.specs.Pushes.{PushDiffers, SeesBehind, SeesTail}
 use Rattle.linked_queue.proofs.CellLoads.{found_sees}
@@ -14,27 +16,27 @@ use Rattle.linked_queue.proofs.Sights.{sights}
 use Rattle.linked_queue.proofs.linking.see_behind.Goals as goal
 
 pub returns : goal.returns
-returns c =
-    let all = sights c.args.domain.now (place.Field c.args.old 0) next_next
-    (NextTells (ends_of c.args.domain.now)) (λ own after v a w. refl) c.args.seat.now
-    c.try_load.new.seat c.requires.rest c.try_load.ensures.objects c.try_load.result
-    c.try_load.ensures.refused c.try_load.ensures.spent.0 c.try_load.ensures.loaded
-    c.try_load.ensures.moved (PushDiffers c.args.domain.now)
-    (λ seen now m. inr (inl (c.args.old, (c.args.seat.now, c.try_load.new.seat, m)))) in
+returns g c =
+    let all = sights g.P.Kind.PayloadKind.fits (as_part g.P.Part.part c.args.domain.now) (place.Field c.args.old 0) next_next
+    (NextTells (ends_of (as_part g.P.Part.part c.args.domain.now))) (λ own after v a w. refl) (seen_by g.P.Part.seen c.args.seat.now)
+    (seen_by g.P.Part.seen c.try_load.new.seat) (rest_seen g.P.Part.part g.P.Part.seen c.args.domain.now c.args.seat.now c.requires.rest) c.try_load.ensures.objects c.try_load.result
+    (λ e. ap (seen_by g.P.Part.seen) (c.try_load.ensures.refused e)) c.try_load.ensures.spent.0 c.try_load.ensures.loaded
+    c.try_load.ensures.moved (PushDiffers g.P.Kind.PayloadKind.fits (as_part g.P.Part.part c.args.domain.now))
+    (λ seen now m. inr (inl (c.args.old, ((seen_by g.P.Part.seen c.args.seat.now), (seen_by g.P.Part.seen c.try_load.new.seat), m)))) in
     record {
       loads = c.try_load.ensures.loaded;
       sees =
-          found_sees (λ found. Loads IsNodePayload c.args.domain.now (Field c.args.old 0) next_next
-          (NextTells (ends_of c.args.domain.now)) found c.args.seat.now c.try_load.new.seat)
-          (λ s. SeesBehind c.args.old s c.try_load.new.seat) c.try_load.result
-          (λ s. sees_behind c.args.domain.now c.args.seat.now c.try_load.new.seat c.requires.rest
+          found_sees (λ found. Loads g.P.Kind.PayloadKind.fits (as_part g.P.Part.part c.args.domain.now) (Field c.args.old 0) next_next
+          (NextTells (ends_of (as_part g.P.Part.part c.args.domain.now))) found (seen_by g.P.Part.seen c.args.seat.now) (seen_by g.P.Part.seen c.try_load.new.seat))
+          (λ s. SeesBehind c.args.old s (seen_by g.P.Part.seen c.try_load.new.seat)) c.try_load.result
+          (λ s. sees_behind g.P.Kind.PayloadKind.fits (as_part g.P.Part.part c.args.domain.now) (seen_by g.P.Part.seen c.args.seat.now) (seen_by g.P.Part.seen c.try_load.new.seat) (rest_seen g.P.Part.part g.P.Part.seen c.args.domain.now c.args.seat.now c.requires.rest)
           c.args.old s c.requires.tail c.try_load.ensures.objects)
           c.try_load.ensures.loaded;
       last =
-          then_ok (λ found. Loads IsNodePayload c.args.domain.now (Field c.args.old 0) next_next
-          (NextTells (ends_of c.args.domain.now)) (named found) c.args.seat.now c.try_load.new.seat)
-          (λ found. SeesTail c.args.old c.try_load.new.seat) c.try_load.result
-          (λ found l. still_tail c.args.domain.now c.args.seat.now c.try_load.new.seat c.requires.rest
+          then_ok (λ found. Loads g.P.Kind.PayloadKind.fits (as_part g.P.Part.part c.args.domain.now) (Field c.args.old 0) next_next
+          (NextTells (ends_of (as_part g.P.Part.part c.args.domain.now))) (named found) (seen_by g.P.Part.seen c.args.seat.now) (seen_by g.P.Part.seen c.try_load.new.seat))
+          (λ found. SeesTail c.args.old (seen_by g.P.Part.seen c.try_load.new.seat)) c.try_load.result
+          (λ found l. still_tail g.P.Kind.PayloadKind.fits (as_part g.P.Part.part c.args.domain.now) (seen_by g.P.Part.seen c.args.seat.now) (seen_by g.P.Part.seen c.try_load.new.seat) (rest_seen g.P.Part.part g.P.Part.seen c.args.domain.now c.args.seat.now c.requires.rest)
           c.args.old (named found) c.requires.tail c.try_load.ensures.objects l)
           c.try_load.ensures.loaded;
       adds = all.0.0;
@@ -42,5 +44,12 @@ returns c =
       leaves = all.0.2;
       why = all.1;
       room = c.try_load.ensures.room c.requires.room;
+      beside_part = c.try_load.ensures.beside;
       rest = c.try_load.ensures.rest;
     }
+
+pub try_load-requires-clause-accepted : goal.try_load-requires-clause-accepted
+try_load-requires-clause-accepted g c =
+    kept_all g.P.Part.seen g.P.Part.suits g.met.P.HasQueue.accepts
+    c.args.domain.now.protocol c.args.seat.now.view.client next_next
+    (λ own after v a w. refl)

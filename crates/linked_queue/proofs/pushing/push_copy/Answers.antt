@@ -1,31 +1,43 @@
-use Rattle.std.proofs.Common.{refl}
+use Rattle.linked_queue.specs.Pops.{item_in}
+use Rattle.queue_law.specs.Pushes.{carried_item}
+use Rattle.linked_queue.proofs.Accepting.{may_still}
+use Rattle.part_calls.specs.Parts.{seen_by}
+use Rattle.std.proofs.Common.{refl, sym}
 use Rattle.std.specs.Prelude.{None}
 use Rattle.linked_queue.proofs.Leavings.{leaves_same}
 use Rattle.linked_queue.proofs.Owning.{through}
 use Rattle.linked_queue.proofs.pushing.push_copy.Goals as goal
 
 pub returns-in-Ok-push_node-clause-leaves : goal.returns-in-Ok-push_node-clause-leaves
-returns-in-Ok-push_node-clause-leaves c =
-    through c.in-Ok.node.slot None c.args.seat.now c.load_node.new.seat c.load_node.new.seat
-    c.push_node.new.seat c.in-Ok.ensures.leaves
-    (leaves_same c.load_node.new.seat c.load_node.new.seat refl) c.push_node.ensures.leaves
+returns-in-Ok-push_node-clause-leaves g c =
+    through c.in-Ok.node.slot None (seen_by g.P.Part.seen c.args.seat.now) (seen_by g.P.Part.seen c.load_node.new.seat) (seen_by g.P.Part.seen c.load_node.new.seat)
+    (seen_by g.P.Part.seen c.push_node.new.seat) c.in-Ok.ensures.leaves
+    (leaves_same (seen_by g.P.Part.seen c.load_node.new.seat) (seen_by g.P.Part.seen c.load_node.new.seat) refl) c.push_node.ensures.leaves
 
 pub returns-in-Err-Moved-clause-leaves : goal.returns-in-Err-Moved-clause-leaves
-returns-in-Err-Moved-clause-leaves c =
-    through c.in-Ok.node.slot None c.args.seat.now c.load_node.new.seat c.load_node.new.seat
-    c.push_node.new.seat c.in-Ok.ensures.leaves
-    (leaves_same c.load_node.new.seat c.load_node.new.seat refl) c.push_node.ensures.leaves
+returns-in-Err-Moved-clause-leaves g c =
+    through c.in-Ok.node.slot None (seen_by g.P.Part.seen c.args.seat.now) (seen_by g.P.Part.seen c.load_node.new.seat) (seen_by g.P.Part.seen c.load_node.new.seat)
+    (seen_by g.P.Part.seen c.push_node.new.seat) c.in-Ok.ensures.leaves
+    (leaves_same (seen_by g.P.Part.seen c.load_node.new.seat) (seen_by g.P.Part.seen c.load_node.new.seat) refl) c.push_node.ensures.leaves
 
 pub returns-in-Err-Spent-clause-leaves : goal.returns-in-Err-Spent-clause-leaves
-returns-in-Err-Spent-clause-leaves c =
-    through c.in-Ok.node.slot None c.args.seat.now c.load_node.new.seat c.load_node.new.seat
-    c.push_node.new.seat c.in-Ok.ensures.leaves
-    (leaves_same c.load_node.new.seat c.load_node.new.seat refl) c.push_node.ensures.leaves
+returns-in-Err-Spent-clause-leaves g c =
+    through c.in-Ok.node.slot None (seen_by g.P.Part.seen c.args.seat.now) (seen_by g.P.Part.seen c.load_node.new.seat) (seen_by g.P.Part.seen c.load_node.new.seat)
+    (seen_by g.P.Part.seen c.push_node.new.seat) c.in-Ok.ensures.leaves
+    (leaves_same (seen_by g.P.Part.seen c.load_node.new.seat) (seen_by g.P.Part.seen c.load_node.new.seat) refl) c.push_node.ensures.leaves
 
 pub returns-in-Ok-push_node-clause-events : goal.returns-in-Ok-push_node-clause-events
-returns-in-Ok-push_node-clause-events c = record {
+returns-in-Ok-push_node-clause-events g c = record {
   node = c.in-Ok.node.slot;
-  loaded = c.load_node.new.seat;
+  loaded = (seen_by g.P.Part.seen c.load_node.new.seat);
   loads = c.in-Ok.ensures.events;
   pushes = c.in-Ok-push_node.ensures.events;
 }
+
+pub push_node-requires-clause-may : goal.push_node-requires-clause-may
+push_node-requires-clause-may g c =
+    may_still g.P.Part.seen g.P.Part.with_seen g.P.Part.puts_back g.P.Part.puts_over
+    g.P.HasQueue.may_push g.met.P.HasQueue.stays c.args.domain.now.protocol c.args.seat.now
+    c.load_node.new.seat (item_in (seen_by g.P.Part.seen c.args.seat.now) c.args.item.now.slot)
+    (carried_item (g.P.Part.seen c.load_node.new.seat.view.client)) c.load_node.ensures.beside_part
+    (sym c.in-Ok.ensures.carried) c.requires.may

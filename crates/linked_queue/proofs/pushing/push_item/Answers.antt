@@ -1,3 +1,4 @@
+use Rattle.part_calls.specs.Parts.{seen_by}
 use Rattle.std.proofs.Common.{ap, ◌∙◌}
 use Rattle.linked_queue.specs.Queues.{deeds_in}
 use Rattle.linked_queue.proofs.Leavings.{drop_leaves}
@@ -5,17 +6,17 @@ use Rattle.linked_queue.proofs.Linkings.{then_gives}
 use Rattle.linked_queue.proofs.pushing.push_item.Goals as goal
 
 pub returns-in-Ok-clause-pushed : goal.returns-in-Ok-clause-pushed
-returns-in-Ok-clause-pushed c = record {
-  leaves = then_gives c.args.item.slot c.args.seat.now c.push_copy.new.seat
-      c.drop_strong.new.seat c.requires.item c.push_copy.ensures.leaves
-      (drop_leaves c.args.item.slot c.push_copy.new.seat c.drop_strong.new.seat
+returns-in-Ok-clause-pushed g c = record {
+  leaves = then_gives c.args.item.slot (seen_by g.P.Part.seen c.args.seat.now) (seen_by g.P.Part.seen c.push_copy.new.seat)
+      (seen_by g.P.Part.seen c.drop_strong.new.seat) c.requires.item c.push_copy.ensures.leaves
+      (drop_leaves c.args.item.slot (seen_by g.P.Part.seen c.push_copy.new.seat) (seen_by g.P.Part.seen c.drop_strong.new.seat)
       c.drop_strong.ensures.dropped c.drop_strong.ensures.objects);
-  deeds = ap deeds_in c.drop_strong.ensures.client ∙ c.in-Ok.ensures.pushed;
+  deeds = ap deeds_in c.drop_strong.ensures.seen ∙ c.in-Ok.ensures.pushed;
 }
 
 pub returns-in-Ok-clause-events : goal.returns-in-Ok-clause-events
-returns-in-Ok-clause-events c = record {
-  pushed = c.push_copy.new.seat;
+returns-in-Ok-clause-events g c = record {
+  pushed = (seen_by g.P.Part.seen c.push_copy.new.seat);
   copy = c.in-Ok.ensures.events;
   drops = c.drop_strong.ensures.dropped;
 }

@@ -1,0 +1,4 @@
+pub mod Seen
+pub mod SeenCalls
+pub mod Beside
+pub mod Readiness
