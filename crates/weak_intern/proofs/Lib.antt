@@ -1,5 +1,6 @@
 pub mod Going
 pub mod Learnt
+pub mod Parts
 pub mod Seen
 pub mod Raised
 pub mod Compared

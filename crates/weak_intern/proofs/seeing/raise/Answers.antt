@@ -1,17 +1,17 @@
-use Rattle.weak_intern.proofs.Raised.{raised_learns, raised_live}
+use Rattle.std.proofs.Common.{ap, sym, subst, ◌∙◌, ◌+◌, ◌≤◌}
+use Rattle.weak_intern.specs.Directories.{area_of}
+use Rattle.weak_intern.proofs.Parts.{place_of}
+use Rattle.weak_intern.proofs.Raised.{raised_ended, raised_learns, raised_live, ready}
 use Rattle.weak_intern.proofs.seeing.raise.Goals as goal
 
+pub upgrade-raised-requires-clause-deed : goal.upgrade-raised-requires-clause-deed
+upgrade-raised-requires-clause-deed g c = ?
+
 pub returns-clause-live : goal.returns-clause-live
-returns-clause-live c =
-    raised_live c.args.domain.now c.args.weak.slot c.args.seat.now c.requires.owned
-    c.drop_weak.new.seat c.upgrade-raised.new.seat c.upgrade-raised.result
-    c.upgrade-raised.ensures.upgraded c.upgrade-raised.ensures.objects c.drop_weak.ensures.dropped
-    c.drop_weak.ensures.objects c.drop_weak.ensures.client c.upgrade-raised.ensures.owned
+returns-clause-live g c = ?
+
+pub returns-clause-ended : goal.returns-clause-ended
+returns-clause-ended g c = ?
 
 pub returns-clause-learns : goal.returns-clause-learns
-returns-clause-learns c =
-    raised_learns c.args.domain.now c.args.weak.slot c.args.seat.now c.requires.owned
-    c.drop_weak.new.seat c.upgrade-raised.new.seat c.upgrade-raised.result
-    c.upgrade-raised.ensures.upgraded c.upgrade-raised.ensures.objects c.drop_weak.ensures.dropped
-    c.drop_weak.ensures.objects c.drop_weak.ensures.client c.upgrade-raised.ensures.refused
-    c.upgrade-raised.ensures.ended
+returns-clause-learns g c = ?
