@@ -7,3 +7,4 @@ pub mod Compared
 pub mod Heads
 pub mod Meeting
 pub mod Found
+pub mod Answered

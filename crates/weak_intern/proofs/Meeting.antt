@@ -1,6 +1,6 @@
 -- What a seat met in a cell, and what it owns afterwards.
 use Rattle.std.proofs.Common.{◌≡◌, inl, inr, ℕ, ◌+◌, ◌<◌, ◌≤◌, List, [], ◌∷◌, ◌++◌, refl, sym, ap, subst, ◌∙◌, arith, Some, None}
-use Rattle.std.specs.Prelude.{◌≢◌, Err, IfOk, Ok, Option, Result}
+use Rattle.std.specs.Prelude.{◌≢◌, Bool, true, false, Err, IfOk, Ok, Option, Result}
 use Rattle.plain_state.specs.declared.slot.SlotId.{SlotId}
 use Rattle.plain_state.specs.Lists.{times}
 use Rattle.plain_protocol.specs.Owns.{Object}
@@ -22,7 +22,6 @@ use Rattle.directory_law.specs.Payloads.{IsText, Text, size}
 use Rattle.directory_law.specs.Views.{In, note}
 use Rattle.weak_intern.specs.declared.looking.Sight.{Sight}
 use Rattle.weak_intern.specs.declared.looking.Sight.TheVariants as sight
-use Rattle.weak_intern.specs.Learning.{Learns}
 use Rattle.weak_intern.specs.Seeing.{BeginsText, HasSeenAt, HasSeenIn, Sees, seen_in}
 use Rattle.weak_intern.specs.Steps.{AtStep, Leaves, with_found}
 use Rattle.weak_intern.specs.Walking.{Meets, MeetsIn, met}
@@ -30,6 +29,10 @@ use Rattle.weak_intern.proofs.Going.{also, from_earlier, holds_by, leaves_as, le
 use Rattle.weak_intern.proofs.Heads.{short_text}
 use Rattle.weak_intern.proofs.Learnt.{walked_still}
 use Rattle.weak_intern.proofs.Parts.{LearnsBy, Place}
+
+-- a test that failed
+pub is_not : (b : Bool) → b ≡ false → b ≡ true → ⊥
+is_not b is so = cc (is, so)
 
 abbrev first_of : Text → List ℕ
 first_of [] = []
@@ -117,9 +120,9 @@ module _ {P V : Type 0} (d : DomainState P) (l : Place V) (z : Area) (w : SlotId
     pub record_met : (strong : Handle) → strong.slot ≡ w → (object_in a.view w).payload ≡ head
         → size head ≤ 120
         → Leaves (b.view.core.owned ++ strong.slot ∷ []) (without w b.view.core.weaks) b c
-        → AtStep d (BeginsText z w c) b c → Learns 0 (l.seen a.view.client) (l.seen b.view.client)
+        → AtStep d (BeginsText z w c) b c
         → MeetsIn l.seen d z w head (sight.Record strong) a c
-    record_met strong same payload short second live learns = λ n saw.
+    record_met strong same payload short second live = λ n saw.
         from_earlier d (λ p. IsBound z p (head ∷ []) strong.slot) a b c (seat_same a b first.same)
         first.goes
         (also d (BeginsText z w c) (λ p. IsBound z p (head ∷ []) strong.slot) b c
@@ -133,7 +136,7 @@ module _ {P V : Type 0} (d : DomainState P) (l : Place V) (z : Area) (w : SlotId
         owned_now : 0 < times w c.view.core.owned
         owned_now =
             let o = second.owns w in let p = times_push w strong.slot b.view.core.owned in
-            let e = one_same w strong.slot (sym same) in
+            let e = one_same w strong.slot (ap (λ (x : SlotId). x.0) same) in
             omega arith
         now : (object_in c.view w).payload ≡ head
         now = ap (λ (o : Object). o.payload)

@@ -1,5 +1,5 @@
 -- What an upgrade with the deed UpgradeHead asks, and what it leaves of a seat.
-use Rattle.std.proofs.Common.{◌≡◌, inl, inr, ℕ, ◌+◌, ◌<◌, Bool, true, false, ◌∷◌, List, refl, sym, ap, subst, ◌∙◌, arith, Some, None}
+use Rattle.std.proofs.Common.{◌≡◌, inl, inr, ℕ, ◌+◌, ◌<◌, ◌≤◌, Bool, true, false, [], ◌∷◌, ◌++◌, List, refl, sym, ap, subst, ◌∙◌, arith, Some, None}
 use Rattle.std.specs.Prelude.{Err, IfOk, Ok, Result, ◌==◌, if◌then◌else◌, nat_lt}
 use Rattle.plain_state.specs.declared.slot.SlotId.{SlotId}
 use Rattle.plain_state.specs.Lists.{times}
@@ -22,7 +22,9 @@ use Rattle.acquire_retire.specs.Seats.{SeatState}
 use Rattle.control_word.specs.declared.upgrading.UpgradeError.{UpgradeError}
 use Rattle.control_word.specs.declared.upgrading.UpgradeError.TheVariants as no_raise
 use Rattle.counted_handles.specs.Handles.{Handle}
-use Rattle.control_word.specs.Calls.{DropsWeak, FindsEnded, GainsStrong, without_weak}
+use Rattle.control_word.specs.Calls.{DropsWeak, FindsEnded, GainsStrong, with_add, with_strong, without_weak}
+use Rattle.core_events.specs.Views.{without}
+use Rattle.core_invariant.proofs.Kit.{times_push}
 use Rattle.control_word.specs.Moves.{KnowsStill}
 use Rattle.protected_loads.proofs.Telling.{holds_has}
 use Rattle.directory_law.specs.declared.view.View.{View}
@@ -35,9 +37,9 @@ use Rattle.directory_law.specs.Steps.{life_in, life_of, payload_in, payload_of, 
 use Rattle.directory_protocol.specs.Keeping.{KeepsAll, MindsNone}
 use Rattle.weak_intern.specs.Directories.{CanCount}
 use Rattle.weak_intern.specs.Seeing.{BeginsText, HasSeenIn}
-use Rattle.weak_intern.specs.Steps.{AtStep, GoesOn}
+use Rattle.weak_intern.specs.Steps.{AtStep, GoesOn, Leaves, handle_by, with_found}
 use Rattle.weak_intern.specs.Walking.{raised_by}
-use Rattle.weak_intern.proofs.Going.{also, at_step, to_later}
+use Rattle.weak_intern.proofs.Going.{also, at_step, holds_by, leaves_as, leaves_core, leaves_less, leaves_none, leaves_then, to_later}
 use Rattle.weak_intern.proofs.Parts.{LearnsBy, Place, lift_learns, lift_ready, lifts, part_none, tells}
 
 counts : (w : ℕ) → outcome.Up ≡ (if nat_lt w ZERO then outcome.Up else outcome.Dead)
@@ -253,3 +255,48 @@ module _ {P V : Type 0} (fits : List ℕ → Type 0) (d : DomainState P) (l : Pl
             subst (λ (x : SeatState V). LearnsBy l 0 old.view.client x.view.client)
             (sym (spent' is)) (part_none l old.view.client)
         go (Err no_raise.Ended) is u = ended_learns mid (finds is)
+
+    -- what the seat has afterwards
+    weakly_then : (os : List SlotId) → Leaves os old.view.core.weaks old mid
+        → mid.view.core.weaks ≡ old.view.core.weaks
+        → ((x : SlotId) → times x old.view.core.owned ≤ times x os)
+        → Leaves os (without s old.view.core.weaks) old new
+    weakly_then os first weaks more =
+        leaves_as os (without s old.view.core.weaks) old new
+        (leaves_then old mid new first
+        (leaves_less mid new (without_weak s mid.view.core) _ drops.1.core refl
+        (λ x is. still x (holds_has (without_weak s mid.view.core) x is)))
+        (λ x was is. let o = first.owns x in let m = first.weakly x in let p = more x in
+        holds_by x old.view.core mid.view.core (sym first.same) (omega arith) was))
+        first.owns
+        (λ x. ap (λ ws. times x (without s ws)) weaks)
+
+    pub raised_leaves : (r ≡ Err no_raise.Spent → mid ≡ old)
+        → (r ≡ Err no_raise.Ended → FindsEnded fits d next allows s old mid)
+        → Leaves (with_found (handle_by r) old.view.core.owned)
+        (without s old.view.core.weaks) old new
+    raised_leaves spent' finds = go r refl upgraded
+      where
+        go : (o : Result Handle UpgradeError) → r ≡ o
+            → IfOk o (λ strong. (strong.slot ≡ s) × GainsStrong fits d next allows s old mid)
+            → Leaves (with_found (handle_by o) old.view.core.owned)
+            (without s old.view.core.weaks) old new
+        go (Ok h) is u =
+            subst (λ x. Leaves (old.view.core.owned ++ x ∷ [])
+            (without s old.view.core.weaks) old new) (sym u.0)
+            (weakly_then (old.view.core.owned ++ s ∷ [])
+            (leaves_core old mid (with_strong s old.view.core) _ u.1.core refl knows)
+            (ap (λ (v : CoreView). v.weaks) u.1.core)
+            (λ x. let p = times_push x s old.view.core.owned in omega arith))
+        go (Err no_raise.Spent) is u =
+            weakly_then old.view.core.owned
+            (subst (λ (x : SeatState V). Leaves old.view.core.owned old.view.core.weaks old x)
+            (sym (spent' is)) (leaves_none old))
+            (ap (λ (x : SeatState V). x.view.core.weaks) (spent' is))
+            (λ x. omega arith)
+        go (Err no_raise.Ended) is u =
+            let e = finds is in
+            weakly_then old.view.core.owned
+            (leaves_core old mid (with_add old.view.core) _ e.becomes.core refl knows)
+            (ap (λ (v : CoreView). v.weaks) e.becomes.core)
+            (λ x. omega arith)

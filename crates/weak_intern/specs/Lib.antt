@@ -4,4 +4,3 @@ pub mod Learning
 pub mod Directories
 pub mod Seeing
 pub mod Walking
-pub mod Interning

@@ -19,13 +19,10 @@
 //! ```
 #![tactic(auto)]
 
-mod binding;
 mod comparing;
 mod directory;
 mod finding;
-mod interning;
 mod looking;
-mod making;
 mod seeing;
 #[cfg(test)]
 mod tests;
@@ -35,7 +32,5 @@ mod walking;
 pub use comparing::is_payload;
 pub use directory::Directory;
 pub use finding::find;
-pub use interning::intern;
 pub use seeing::{raise, see};
-pub use slot_store::MakeError;
 pub use texts::{cell_on, hash_of, head_of};

@@ -3,8 +3,7 @@ ghost use Rattle.core_events.specs.Steps.{HasRoom};
 ghost use Rattle.control_word.specs.Resting.{IsAtRest};
 ghost use Rattle.weak_intern.specs.Directories.{HasQuota};
 
-use crate::{Directory, MakeError, cell_on, find, hash_of, intern, see};
-use control_word::drop_strong;
+use crate::{Directory, cell_on, find, hash_of, see};
 use acquire_retire::{Domain, OpenError, Quota, Seat, Shape, open_domain};
 use directory_protocol::DirectoryLaw;
 use std::test::Fail;
@@ -51,48 +50,5 @@ fn a_text_that_was_never_interned_is_not_found(rt: HostRuntime) -> Result<(), Fa
     let Ok(None) = find(&rt, &domain, &mut seat, &directory, b"ab") else {
         panic!(rt; "found")
     };
-    Ok(())
-}
-
-/// A domain of one seat that may intern three texts and use so many makes and adds, with a directory of ten cells.
-fn open_for_three(
-    rt: &HostRuntime,
-    makes: u64,
-    adds: u64,
-    slots: u32,
-) -> Result<(Domain<DirectoryLaw>, Seat<DirectoryLaw>), Fail> {
-    let law = DirectoryLaw::new(0, 10, vec![in rt.alloc(); 3]?);
-    let shape = Shape {
-        seats: 1,
-        slots,
-        cells: 0,
-        weak_cells: 10,
-        batch: 1,
-    };
-    let (domain, mut seats) = open_domain(rt.alloc(), shape, &[Quota { makes, adds }], law)?;
-    Ok((domain, seats.remove(0)))
-}
-
-#[test]
-fn a_text_is_interned_once_and_again_where_it_has_ended(rt: HostRuntime) -> Result<(), Fail> {
-    let (domain, mut seat) = open_for_three(&rt, 5, 30, 4)?;
-    let directory = Directory::over(0, 10);
-    let first = intern(&rt, &domain, &mut seat, &directory, b"ab")?;
-    let Ok(Some(seen)) = see(&rt, &domain, &mut seat, &directory, 5) else {
-        panic!(rt; "cell 5")
-    };
-    assert_eq!(rt; seen.slot(), first.slot());
-    let second = intern(&rt, &domain, &mut seat, &directory, b"ab")?;
-    assert_eq!(rt; second.slot(), first.slot());
-    drop_strong(&domain, &mut seat, first);
-    drop_strong(&domain, &mut seat, second);
-    let Ok(None) = find(&rt, &domain, &mut seat, &directory, b"ab") else {
-        panic!(rt; "ended")
-    };
-    let third = intern(&rt, &domain, &mut seat, &directory, b"ab")?;
-    let Ok(Some(seen)) = see(&rt, &domain, &mut seat, &directory, 6) else {
-        panic!(rt; "cell 6")
-    };
-    assert_eq!(rt; seen.slot(), third.slot());
     Ok(())
 }
