@@ -14,6 +14,7 @@
 #![tactic(auto)]
 
 mod cells;
+mod has_directory;
 mod law;
 mod making;
 mod notes;
@@ -23,6 +24,7 @@ mod record_kind;
 mod tests;
 
 pub use cells::{LookAtCell, SeeHead};
+pub use has_directory::HasDirectory;
 pub use law::DirectoryLaw;
 pub use making::{BindHead, LinkPart, MakeSlot};
 pub use notes::{DrawTicket, ForgetEnded};

@@ -15,15 +15,12 @@ use Rattle.control_word.specs.Moves.{KnowsStill}
 use Rattle.control_word.specs.Resting.{IsAtRest}
 use Rattle.protected_loads.proofs.Telling.{holds_has}
 use Rattle.slot_store.specs.Calls.{SeesWord}
-use Rattle.directory_law.specs.declared.view.View.{View}
-use Rattle.directory_law.specs.Bytes.{IsPiece}
-use Rattle.directory_protocol.specs.declared.law.DirectoryLaw.{DirectoryLaw}
 use Rattle.weak_intern.specs.Steps.{Leaves}
 use Rattle.weak_intern.proofs.Going.{leaves_as, leaves_core, leaves_none, leaves_then}
 
 -- the first n words of the slot's payload are these
-pub record Same (d : DomainState DirectoryLaw) (s : SlotId) (n : ℕ) (payload : List ℕ)
-    (old now : SeatState View) : Type 0 where
+pub record Same {P V : Type 0} (d : DomainState P) (s : SlotId) (n : ℕ) (payload : List ℕ)
+    (old now : SeatState V) : Type 0 where
   pub size : 0 < n → length (object_in old.view s).payload ≡ 16
   pub payload_size : length payload ≡ 16
   pub words :
@@ -36,8 +33,8 @@ pub record Same (d : DomainState DirectoryLaw) (s : SlotId) (n : ℕ) (payload :
   pub room : HasRoom now.view.core
   pub rest : IsAtRest d now
 
-module _ (d : DomainState DirectoryLaw) (s : SlotId) (payload : List ℕ) (old : SeatState View)
-  where
+module _ {P V : Type 0} (fits : List ℕ → Type 0) (d : DomainState P) (s : SlotId)
+    (payload : List ℕ) (old : SeatState V) where
     pub none_same : length payload ≡ 16 → IsAtRest d old → HasRoom old.view.core
         → Same d s 0 payload old old
     none_same long rest room = record {
@@ -52,10 +49,10 @@ module _ (d : DomainState DirectoryLaw) (s : SlotId) (payload : List ℕ) (old :
       rest = rest;
     }
 
-    module _ (n word : ℕ) (now new : SeatState View) (same : Same d s n payload old now)
+    module _ (n word : ℕ) (now new : SeatState V) (same : Same d s n payload old now)
         (held : Holds old.view.core s)
         (read : word ≡ slice_index (object_in now.view s).payload n)
-        (seen : SeesWord IsPiece d s n word now new)
+        (seen : SeesWord fits d s n word now new)
         (client : new.view.client ≡ now.view.client)
         (knows : KnowsStill now.view.core now new)
         (room : HasRoom now.view.core → HasRoom new.view.core)
@@ -67,7 +64,7 @@ module _ (d : DomainState DirectoryLaw) (s : SlotId) (payload : List ℕ) (old :
       long =
           let step = seen.becomes.walks.1 in
           let e : length (object_in new.view s).payload ≡ 16 =
-          ap (λ (x : SeatState View). length (object_in x.view s).payload) seen.becomes.walks.2
+          ap (λ (x : SeatState V). length (object_in x.view s).payload) seen.becomes.walks.2
           ∙ step.told.payloads s in
           subst (λ (o : Object). length o.payload ≡ 16) (here ∙ same.object) e
 
@@ -113,7 +110,7 @@ module _ (d : DomainState DirectoryLaw) (s : SlotId) (payload : List ℕ) (old :
       pub one_differs : word ≢ slice_index payload n → (object_in old.view s).payload ≢ payload
       one_differs not is = not (found_here ∙ ap (λ l. slice_index l n) is)
 
-    pub all_same : (n : ℕ) (now : SeatState View) → Same d s n payload old now → n ≡ 16
+    pub all_same : (n : ℕ) (now : SeatState V) → Same d s n payload old now → n ≡ 16
         → (object_in old.view s).payload ≡ payload
     all_same n now same whole =
         let long = same.payload_size in

@@ -1,8 +1,7 @@
 -- A walk for a text, cell by cell, and where it ends.
 use Rattle.std.proofs.Common.{◌≡◌, inr, ⊎_elim, ℕ, ◌++◌, false, true, ◌+◌, ◌%◌, ◌<◌, List, [], ◌∷◌, refl, sym, ap, subst, ◌∙◌, arith, Some, None}
-use Rattle.std.specs.Prelude.{Option, slice_index_or}
+use Rattle.std.specs.Prelude.{Bool, Err, Option, Result, ◌≤◌}
 use Rattle.std.proofs.lemmas.Bool.{cases_lt}
-use Rattle.std.proofs.lemmas.List.Elements.{All-from_get_or}
 use Rattle.plain_state.specs.declared.act.EventPlace.TheVariants.{WeakCell}
 use Rattle.plain_state.specs.declared.slot.SlotId.{SlotId}
 use Rattle.plain_state.specs.Lists.{times}
@@ -17,32 +16,36 @@ use Rattle.control_word.specs.Resting.{IsAtRest, IsSpent}
 use Rattle.control_word.proofs.Becoming.{knows_after, one_step, rest_after}
 use Rattle.counted_handles.specs.Handles.{Handle}
 use Rattle.directory_law.specs.declared.view.View.{View}
-use Rattle.directory_law.specs.Bytes.{IsPiece, IsTextOf}
-use Rattle.directory_law.specs.Cells.{on}
+use Rattle.directory_law.specs.Cells.{Area, on}
 use Rattle.directory_law.specs.Law.{IsBound, NoneBound}
 use Rattle.directory_law.specs.Lessons.{LookTells, look_next}
-use Rattle.directory_law.specs.Places.{hash_on}
+use Rattle.directory_law.specs.Lessons.{spent}
+use Rattle.directory_law.specs.Places.{text_hash}
 use Rattle.directory_law.specs.Walks.{Passes, Walked}
-use Rattle.directory_law.proofs.Bytes.{one_text, text_place}
-use Rattle.directory_protocol.specs.declared.law.DirectoryLaw.{DirectoryLaw}
 use Rattle.weak_intern.specs.declared.looking.Sight.{Sight}
 use Rattle.weak_intern.specs.declared.looking.Sight.TheVariants as sight
-use Rattle.weak_intern.specs.Directories.{HasNoRecord, IsRecord, area_of}
-use Rattle.weak_intern.specs.Learning.{Learns}
+use Rattle.weak_intern.specs.Learning.{LearnsIn}
 use Rattle.weak_intern.specs.Steps.{AtStep, Leaves, with_found}
-use Rattle.weak_intern.specs.Walking.{EndsAround, Meets, met}
-use Rattle.weak_intern.proofs.Going.{also, at_step, from_earlier, holds_by, leaves_as, leaves_core, leaves_none, leaves_then, seat_same}
-use Rattle.weak_intern.proofs.Learnt.{learns_none, learns_then, passes_still}
+use Rattle.weak_intern.specs.declared.walking.Walk.{Walk}
+use Rattle.weak_intern.specs.declared.walking.Walk.TheVariants as walk
+use Rattle.weak_intern.specs.Walking.{ComesTo, EndsAround, Meets, met, taken, used_by}
+use Rattle.weak_intern.proofs.Going.{at_step, from_earlier, holds_by, leaves_as, leaves_core, leaves_none, leaves_then, seat_same}
+use Rattle.weak_intern.proofs.Learnt.{passes_still, walked_still}
+use Rattle.weak_intern.proofs.Parts.{LearnsBy, Place, lifts, part_none, tells, zero_then}
 
 -- A LAST LOOK
-module _ (d : DomainState DirectoryLaw) (i : ℕ) (old new : SeatState View) (o : Outcome)
-    (step : Steps IsPiece d look_next (LookTells (area_of d)) (act.Look (WeakCell i)) old new o)
+module _ {P V : Type 0} (fits : List ℕ → Type 0) (d : DomainState P) (l : Place V) (z : Area)
+    (i : ℕ) (old new : SeatState V) (o : Outcome)
+    (step : Steps fits d (lifts l look_next) (tells l (LookTells z)) (act.Look (WeakCell i))
+    old new o)
   where
-    pub around_ends : EndsAround d old new
+    pub around_ends : EndsAround l.seen d z old new
     around_ends text walked =
-        let z = area_of d in
         at_step d (λ p. NoneBound z p text) step
-        (step.told.happened.fact.2.1 text d.protocol.cells walked (inr (omega arith)))
+        (step.told.happened.fact.2.1 text z.cells walked (inr (omega arith)))
+
+    pub around_client : new.view.client ≡ old.view.client
+    around_client = step.told.client ∙ l.puts_back old.view.client
 
     pub around_leaves : Leaves old.view.core.owned old.view.core.weaks old new
     around_leaves =
@@ -61,29 +64,31 @@ module _ (d : DomainState DirectoryLaw) (i : ℕ) (old new : SeatState View) (o 
         refl rest
 
 -- THE WALK has passed n cells
-pub record Walks (d : DomainState DirectoryLaw) (head : List ℕ) (n : ℕ)
-    (old now : SeatState View) : Type 0 where
-  pub walked : Walked (area_of d) now.view.client (head ∷ []) n
+pub record Walks {P V : Type 0} (d : DomainState P) (seen : V → View) (with_seen : V → View → V)
+    (z : Area) (head : List ℕ) (n : ℕ) (old now : SeatState V) : Type 0 where
+  pub walked : Walked z (seen now.view.client) (head ∷ []) n
   pub leaves : Leaves old.view.core.owned old.view.core.weaks old now
-  pub learns : Learns old.view.client now.view.client
+  pub learns : LearnsIn seen with_seen 0 old.view.client now.view.client
   pub room : HasRoom now.view.core
   pub rest : IsAtRest d now
   pub begins : n ≡ 0 → now ≡ old
   pub able : 0 < n → IsSpent old.view.core → ⊥
 
-module _ (d : DomainState DirectoryLaw) (head : List ℕ) (a : SeatState View) where
-  pub walks_none : IsAtRest d a → HasRoom a.view.core → Walks d head 0 a a
+module _ {P V : Type 0} (d : DomainState P) (l : Place V) (z : Area) (head : List ℕ)
+    (a : SeatState V) where
+  pub walks_none : IsAtRest d a → HasRoom a.view.core
+      → Walks d l.seen l.with_seen z head 0 a a
   walks_none rest room = record {
     walked = λ j low. absurd (omega (arith, low));
     leaves = leaves_none a;
-    learns = learns_none a.view.client;
+    learns = part_none l a.view.client;
     room = room;
     rest = rest;
     begins = λ is. refl;
     able = λ some. absurd (omega (arith, some));
   }
 
-  module _ (n : ℕ) (b c : SeatState View) (walks : Walks d head n a b) where
+  module _ (n : ℕ) (b c : SeatState V) (walks : Walks d l.seen l.with_seen z head n a b) where
     pub walk_leaves : (o : Option SlotId)
         → Leaves (with_found o b.view.core.owned) b.view.core.weaks b c
         → Leaves (with_found o a.view.core.owned) a.view.core.weaks a c
@@ -104,66 +109,92 @@ module _ (d : DomainState DirectoryLaw) (head : List ℕ) (a : SeatState View) w
             let q = times_push x y b.view.core.owned in
             omega arith
 
-    pub walk_learns : Learns b.view.client c.view.client → Learns a.view.client c.view.client
-    walk_learns more = learns_then a.view.client b.view.client c.view.client walks.learns more
+    pub walk_learns : (k : ℕ) → LearnsBy l k b.view.client c.view.client
+        → LearnsBy l k a.view.client c.view.client
+    walk_learns k more =
+        zero_then l k a.view.client b.view.client c.view.client walks.learns more
 
     -- a seat that can't count any more is refused at the first cell
     pub walk_able : (IsSpent b.view.core → ⊥) → IsSpent a.view.core → ⊥
     walk_able here spent = ⊎_elim
         (λ (some : 0 < n). walks.able some spent)
-        (λ none. here (subst (λ (x : SeatState View). IsSpent x.view.core)
+        (λ none. here (subst (λ (x : SeatState V). IsSpent x.view.core)
         (sym (walks.begins (omega (arith, none)))) spent))
         (cases_lt 0 n)
 
-    pub one_passed : (cell : ℕ) → on (area_of d) (head ∷ []) n ≡ cell
-        → Passes c.view.client (head ∷ []) cell
+    pub one_passed : (cell : ℕ) → on z (head ∷ []) n ≡ cell
+        → Passes (l.seen c.view.client) (head ∷ []) cell
         → Leaves b.view.core.owned b.view.core.weaks b c
-        → Learns b.view.client c.view.client
+        → LearnsBy l 0 b.view.client c.view.client
         → (IsSpent b.view.core → ⊥) → HasRoom c.view.core → IsAtRest d c
-        → Walks d head (n + 1) a c
+        → Walks d l.seen l.with_seen z head (n + 1) a c
     one_passed cell at passes second more here room rest = record {
       walked = λ j low. ⊎_elim
-          (λ less. passes_still b.view.client c.view.client (head ∷ [])
-          (on (area_of d) (head ∷ []) j) more (walks.walked j less))
+          (λ less. passes_still 0 (l.seen b.view.client) (l.seen c.view.client) (head ∷ [])
+          (on z (head ∷ []) j) more.part (walks.walked j less))
           (λ past. let e : n ≡ j = omega (arith, low, past) in
-          subst (λ k. Passes c.view.client (head ∷ []) (on (area_of d) (head ∷ []) k)) e
-          (subst (λ k. Passes c.view.client (head ∷ []) k) (sym at) passes))
+          subst (λ k. Passes (l.seen c.view.client) (head ∷ []) (on z (head ∷ []) k)) e
+          (subst (λ k. Passes (l.seen c.view.client) (head ∷ []) k) (sym at) passes))
           (cases_lt j n);
       leaves = walk_leaves None second;
-      learns = walk_learns more;
+      learns = walk_learns 0 more;
       room = room;
       rest = rest;
       begins = λ is. absurd (omega (arith, is));
       able = λ some spent. walk_able here spent;
     }
 
-    -- WHERE IT ENDS, of bytes that have this head and no part
-    module _ (bytes : List ℕ) (is : IsTextOf bytes (head ∷ [])) where
-      pub none_found : AtStep d (λ p. NoneBound (area_of d) p (head ∷ [])) b c
-          → AtStep d (λ p. HasNoRecord (area_of d) p bytes) a c
-      none_found at =
-          let z = area_of d in
-          from_earlier d (λ p. HasNoRecord z p bytes) a b c (seat_same a b walks.leaves.same)
-          walks.leaves.goes
-          (also d (λ p. NoneBound z p (head ∷ [])) (λ p. HasNoRecord z p bytes) b c
-          (λ p none text other.
-          subst (λ t. NoneBound z p t) (one_text bytes (head ∷ []) text is other) none) at)
+    -- WHERE IT ENDS
+    pub walk_none : AtStep d (λ p. NoneBound z p (head ∷ [])) b c
+        → AtStep d (λ p. NoneBound z p (head ∷ [])) a c
+    walk_none at =
+        from_earlier d (λ p. NoneBound z p (head ∷ [])) a b c (seat_same a b walks.leaves.same)
+        walks.leaves.goes at
 
-      pub record_found : (s : SlotId) → AtStep d (λ p. IsBound (area_of d) p (head ∷ []) s) b c
-          → AtStep d (λ p. IsRecord (area_of d) p bytes s) a c
-      record_found s at =
-          let z = area_of d in
-          from_earlier d (λ p. IsRecord z p bytes s) a b c (seat_same a b walks.leaves.same)
-          walks.leaves.goes
-          (also d (λ p. IsBound z p (head ∷ []) s) (λ p. IsRecord z p bytes s) b c
-          (λ p bound. (head ∷ [], is, bound)) at)
+    pub null_found : (intern : Bool) (cell : ℕ) (found : Sight) → found ≡ sight.Null
+        → on z (head ∷ []) n ≡ cell → Meets l.seen d z cell head found b c
+        → LearnsBy l (taken intern found) b.view.client c.view.client → n < z.cells
+        → ComesTo l.seen d z head (walk.Absent n) a c × LearnsBy l 0 a.view.client c.view.client
+    null_found intern cell found null at meets more low =
+        let learns = subst (λ f. LearnsBy l (taken intern f) b.view.client c.view.client) null more
+        in (
+          (
+            walk_none (subst (λ f. Meets l.seen d z cell head f b c) null meets (head ∷ []) n
+            walks.walked at),
+            low,
+            walked_still 0 z (l.seen b.view.client) (l.seen c.view.client) (head ∷ []) n learns.part
+            walks.walked,
+          ),
+          walk_learns 0 learns,
+        )
 
-      pub null_found : (cell : ℕ) (found : Sight) → found ≡ sight.Null
-          → on (area_of d) (head ∷ []) n ≡ cell → Meets d cell head found b c
-          → AtStep d (λ p. HasNoRecord (area_of d) p bytes) a c
-      null_found cell found null at meets =
-          none_found
-          (subst (λ f. Meets d cell head f b c) null meets (head ∷ []) n walks.walked at)
+    pub record_found : (intern : Bool) (cell : ℕ) (found : Sight) (strong : Handle)
+        → found ≡ sight.Record strong → Meets l.seen d z cell head found b c
+        → LearnsBy l (taken intern found) b.view.client c.view.client
+        → ComesTo l.seen d z head (walk.Record strong) a c
+        × LearnsBy l (spent intern) a.view.client c.view.client
+    record_found intern cell found strong same meets more = (
+      from_earlier d (λ p. IsBound z p (head ∷ []) strong.slot) a b c
+          (seat_same a b walks.leaves.same) walks.leaves.goes
+          (subst (λ f. Meets l.seen d z cell head f b c) same meets),
+      walk_learns (spent intern)
+          (subst (λ f. LearnsBy l (taken intern f) b.view.client c.view.client) same more),
+    )
+
+    pub refused_learns : {E : Type 0} (intern : Bool) (r : Result Walk E) (e : E) → r ≡ Err e
+        → LearnsBy l 0 b.view.client c.view.client
+        → LearnsBy l (used_by intern r) a.view.client c.view.client
+    refused_learns intern r e refused more =
+        subst (λ x. LearnsBy l (used_by intern x) a.view.client c.view.client) (sym refused)
+        (walk_learns 0 more)
+
+    pub null_leaves : (found : Sight) → found ≡ sight.Null
+        → Leaves (with_found (met found) b.view.core.owned) b.view.core.weaks b c
+        → Leaves a.view.core.owned a.view.core.weaks a c
+    null_leaves found same second =
+        walk_leaves None
+        (subst (λ f. Leaves (with_found (met f) b.view.core.owned) b.view.core.weaks b c) same
+        second)
 
     pub record_leaves : (found : Sight) (strong : Handle) → found ≡ sight.Record strong
         → Leaves (with_found (met found) b.view.core.owned) b.view.core.weaks b c
@@ -173,24 +204,31 @@ module _ (d : DomainState DirectoryLaw) (head : List ℕ) (a : SeatState View) w
         (subst (λ f. Leaves (with_found (met f) b.view.core.owned) b.view.core.weaks b c) same
         second)
 
-    pub other_passed : (cell : ℕ) (found : Sight) → found ≡ sight.Other
-        → on (area_of d) (head ∷ []) n ≡ cell → Meets d cell head found b c
+    pub other_passed : (intern : Bool) (cell : ℕ) (found : Sight) → found ≡ sight.Other
+        → on z (head ∷ []) n ≡ cell → Meets l.seen d z cell head found b c
         → Leaves (with_found (met found) b.view.core.owned) b.view.core.weaks b c
-        → Learns b.view.client c.view.client
+        → LearnsBy l (taken intern found) b.view.client c.view.client
         → (IsSpent b.view.core → false ≡ true) → HasRoom c.view.core → IsAtRest d c
-        → Walks d head (n + 1) a c
-    other_passed cell found other at meets second more here room rest =
-        one_passed cell at (subst (λ f. Meets d cell head f b c) other meets)
+        → Walks d l.seen l.with_seen z head (n + 1) a c
+    other_passed intern cell found other at meets second more here room rest =
+        one_passed cell at (subst (λ f. Meets l.seen d z cell head f b c) other meets)
         (subst (λ f. Leaves (with_found (met f) b.view.core.owned) b.view.core.weaks b c) other
         second)
-        more (λ spent. let e = here spent in absurd (cc (e))) room rest
+        (subst (λ f. LearnsBy l (taken intern f) b.view.client c.view.client) other more)
+        (λ spent'. let e = here spent' in absurd (cc (e))) room rest
 
--- the cell at which a walk for these bytes looks next
-pub at_cell : (d : DomainState DirectoryLaw) (bytes head : List ℕ) (hash k cells cell : ℕ)
-    → ((i : ℕ) → slice_index_or bytes i 0 < 256) → IsTextOf bytes (head ∷ [])
-    → hash ≡ hash_on 0 bytes → cells ≡ d.protocol.cells → cell ≡ (hash + k) % cells
-    → on (area_of d) (head ∷ []) k ≡ cell
-at_cell d bytes head hash k cells cell small is hashes same there =
-    let are = All-from_get_or (λ byte. byte < 256) bytes 0 (λ i low. small i) in
-    ap (λ h. (h + k) % d.protocol.cells) (text_place bytes (head ∷ []) are is ∙ sym hashes)
-    ∙ (ap (λ n. (hash + k) % n) (sym same) ∙ sym there)
+    -- the walk has passed all cells
+    pub around_found : z.cells ≤ n → 0 < z.cells → EndsAround l.seen d z b c
+        → ComesTo l.seen d z head (walk.Absent 0) a c
+    around_found all some ends = (
+      walk_none (ends (head ∷ []) (λ j low. walks.walked j (omega (arith, low, all)))),
+      some,
+      λ j low. absurd (omega (arith, low)),
+    )
+
+-- the cell at which a walk for this head looks next
+pub at_cell : (z : Area) (head : List ℕ) (hash k cells cell : ℕ)
+    → text_hash (head ∷ []) ≡ hash → cells ≡ z.cells → cell ≡ (hash + k) % cells
+    → on z (head ∷ []) k ≡ cell
+at_cell z head hash k cells cell hashes same there =
+    ap (λ h. (h + k) % z.cells) hashes ∙ (ap (λ n. (hash + k) % n) (sym same) ∙ sym there)

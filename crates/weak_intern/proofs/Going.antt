@@ -10,6 +10,7 @@ use Rattle.core_events.specs.declared.act.Act.{Act}
 use Rattle.core_events.specs.declared.outcome.Outcome.{Outcome}
 use Rattle.core_events.specs.declared.view.CoreView.{CoreView}
 use Rattle.core_events.specs.declared.view.Move.{Move}
+use Rattle.core_events.specs.Runs.{after}
 use Rattle.core_events.specs.Shows.{shows}
 use Rattle.core_events.specs.Steps.{moved}
 use Rattle.core_events.specs.Views.{Holds, held_times}
@@ -21,7 +22,7 @@ use Rattle.domain_rule.specs.Views.{object_in}
 use Rattle.acquire_retire.specs.Calls.{Steps}
 use Rattle.acquire_retire.specs.Domains.{DomainState}
 use Rattle.acquire_retire.specs.Seats.{SeatState}
-use Rattle.weak_intern.specs.Steps.{AtStep, GoesOn, Leaves, aside}
+use Rattle.weak_intern.specs.Steps.{AtSome, AtStep, GoesOn, Leaves, aside}
 
 -- TRAILS
 pub goes_none : (v w : CoreView) → w.trail ≡ v.trail → GoesOn v w
@@ -35,13 +36,15 @@ goes_then u v w first second = (
       ∙ append_assoc u.trail first.0 second.0),
 )
 
-module _ {P V : Type 0} (d : DomainState P) (fact : Plain → Type 0) where
+module _ {P V : Type 0} (d : DomainState P) (Fact : Plain → Plain → Type 0) where
   -- A STEP that the seat makes is one between its states
-  pub at_step : {fits : List ℕ → Type 0} {next : OwnPart → OwnPart → V → PlainAct → ℕ → V}
+  pub some_step : {fits : List ℕ → Type 0} {next : OwnPart → OwnPart → V → PlainAct → ℕ → V}
       {allows : Plain → Plain → ℕ → V → V → Type 0} {a : Act} {old new : SeatState V} {o : Outcome}
       → (s : Steps fits d next allows a old new o)
-      → fact (shows d.shape s.told.happened.before) → AtStep d fact old new
-  at_step {a = a} {old = old} {new = new} s holds =
+      → Fact (shows d.shape s.told.happened.before)
+      (shows d.shape (after d.shape s.told.happened.before old.view.core.seat a))
+      → AtSome d Fact old new
+  some_step {a = a} {old = old} {new = new} s holds =
       let h = s.told.happened in record {
         view = old.view.core;
         act = a;
@@ -63,22 +66,21 @@ module _ {P V : Type 0} (d : DomainState P) (fact : Plain → Type 0) where
       }
 
   -- and so it is one between earlier and later states
-  pub from_earlier : (a b c : SeatState V) → b.view.core.seat ≡ a.view.core.seat
-      → GoesOn a.view.core b.view.core → AtStep d fact b c → AtStep d fact a c
-  from_earlier a b c seat goes s = record {
+  pub some_earlier : (a b c : SeatState V) → b.view.core.seat ≡ a.view.core.seat
+      → GoesOn a.view.core b.view.core → AtSome d Fact b c → AtSome d Fact a c
+  some_earlier a b c seat goes s = record {
     view = s.view;
     act = s.act;
     word = s.word;
     happened =
-        subst (λ n. Happened d.shape d.terms n s.view s.act s.word (λ p q. fact p)) seat
-        s.happened;
+        subst (λ n. Happened d.shape d.terms n s.view s.act s.word Fact) seat s.happened;
     since = goes_then a.view.core b.view.core s.view goes s.since;
     till = s.till;
   }
 
-  pub to_later : (a b c : SeatState V) → AtStep d fact a b → GoesOn b.view.core c.view.core
-      → AtStep d fact a c
-  to_later a b c s goes = record {
+  pub some_later : (a b c : SeatState V) → AtSome d Fact a b → GoesOn b.view.core c.view.core
+      → AtSome d Fact a c
+  some_later a b c s goes = record {
     view = s.view;
     act = s.act;
     word = s.word;
@@ -88,9 +90,10 @@ module _ {P V : Type 0} (d : DomainState P) (fact : Plain → Type 0) where
   }
 
 -- the same step shows another fact that follows
-pub also : {P V : Type 0} (d : DomainState P) (fact more : Plain → Type 0) (a b : SeatState V)
-    → ((p : Plain) → fact p → more p) → AtStep d fact a b → AtStep d more a b
-also d fact more a b follows s =
+pub also_some : {P V : Type 0} (d : DomainState P) (Fact More : Plain → Plain → Type 0)
+    (a b : SeatState V) → ((p q : Plain) → Fact p q → More p q) → AtSome d Fact a b
+    → AtSome d More a b
+also_some d Fact More a b follows s =
     let h = s.happened in record {
       view = s.view;
       act = s.act;
@@ -104,11 +107,32 @@ also d fact more a b follows s =
         view = h.view;
         enabled = h.enabled;
         found = h.found;
-        fact = follows (shows d.shape h.before) h.fact;
+        fact = follows (shows d.shape h.before)
+            (shows d.shape (after d.shape h.before a.view.core.seat s.act)) h.fact;
       };
       since = s.since;
       till = s.till;
     }
+
+module _ {P V : Type 0} (d : DomainState P) (fact : Plain → Type 0) where
+  pub at_step : {fits : List ℕ → Type 0} {next : OwnPart → OwnPart → V → PlainAct → ℕ → V}
+      {allows : Plain → Plain → ℕ → V → V → Type 0} {a : Act} {old new : SeatState V} {o : Outcome}
+      → (s : Steps fits d next allows a old new o)
+      → fact (shows d.shape s.told.happened.before) → AtStep d fact old new
+  at_step s holds = some_step d (λ p q. fact p) s holds
+
+  pub from_earlier : (a b c : SeatState V) → b.view.core.seat ≡ a.view.core.seat
+      → GoesOn a.view.core b.view.core → AtStep d fact b c → AtStep d fact a c
+  from_earlier a b c seat goes s = some_earlier d (λ p q. fact p) a b c seat goes s
+
+  pub to_later : (a b c : SeatState V) → AtStep d fact a b → GoesOn b.view.core c.view.core
+      → AtStep d fact a c
+  to_later a b c s goes = some_later d (λ p q. fact p) a b c s goes
+
+pub also : {P V : Type 0} (d : DomainState P) (fact more : Plain → Type 0) (a b : SeatState V)
+    → ((p : Plain) → fact p → more p) → AtStep d fact a b → AtStep d more a b
+also d fact more a b follows s =
+    also_some d (λ p q. fact p) (λ p q. more p) a b (λ p q. follows p) s
 
 -- WHAT IS LEFT. What a seat holds is told by its lists and what it has beside
 pub holds_by : (x : SlotId) (v w : CoreView) → aside v ≡ aside w

@@ -1,8 +1,10 @@
 pub mod Going
 pub mod Learnt
+pub mod Parts
 pub mod Seen
 pub mod Raised
 pub mod Compared
 pub mod Heads
 pub mod Meeting
 pub mod Found
+pub mod Answered

@@ -1,9 +1,14 @@
 -- What an upgrade with the deed UpgradeHead asks, and what it leaves of a seat.
-use Rattle.std.proofs.Common.{◌≡◌, inl, inr, ℕ, ◌+◌, ◌<◌, Bool, true, false, ◌∷◌, refl, sym, ap, subst, ◌∙◌, arith, Some, None}
+use Rattle.std.proofs.Common.{◌≡◌, inl, inr, ℕ, ◌+◌, ◌<◌, ◌≤◌, Bool, true, false, [], ◌∷◌, ◌++◌, List, refl, sym, ap, subst, ◌∙◌, arith, Some, None}
 use Rattle.std.specs.Prelude.{Err, IfOk, Ok, Result, ◌==◌, if◌then◌else◌, nat_lt}
 use Rattle.plain_state.specs.declared.slot.SlotId.{SlotId}
 use Rattle.plain_state.specs.Lists.{times}
-use Rattle.plain_protocol.specs.Owns.{HasSlot, Object}
+use Rattle.plain_state.specs.declared.act.PlainAct.{PlainAct}
+use Rattle.plain_state.specs.declared.act.PlainAct.TheVariants as plain
+use Rattle.plain_state.specs.State.{Plain}
+use Rattle.plain_protocol.specs.Acts.{Owned}
+use Rattle.plain_protocol.specs.Owns.{HasSlot, Object, OwnPart}
+use Rattle.protocol_pairs.specs.Parts.{Accepts, Frees}
 use Rattle.core_events.specs.declared.act.Act.TheVariants as act
 use Rattle.core_events.specs.declared.outcome.Outcome.TheVariants as outcome
 use Rattle.core_events.specs.declared.view.CoreView.{CoreView}
@@ -17,23 +22,25 @@ use Rattle.acquire_retire.specs.Seats.{SeatState}
 use Rattle.control_word.specs.declared.upgrading.UpgradeError.{UpgradeError}
 use Rattle.control_word.specs.declared.upgrading.UpgradeError.TheVariants as no_raise
 use Rattle.counted_handles.specs.Handles.{Handle}
-use Rattle.control_word.specs.Calls.{DropsWeak, FindsEnded, GainsStrong, without_weak}
+use Rattle.control_word.specs.Calls.{DropsWeak, FindsEnded, GainsStrong, with_add, with_strong, without_weak}
+use Rattle.core_events.specs.Views.{without}
+use Rattle.core_invariant.proofs.Kit.{times_push}
 use Rattle.control_word.specs.Moves.{KnowsStill}
 use Rattle.protected_loads.proofs.Telling.{holds_has}
 use Rattle.directory_law.specs.declared.view.View.{View}
-use Rattle.directory_law.specs.Bytes.{IsPiece}
+use Rattle.directory_law.specs.Cells.{Area}
 use Rattle.directory_law.specs.Views.{In, note}
 use Rattle.directory_law.specs.Payloads.{IsText, Text}
 use Rattle.directory_law.specs.Law.{IsBound}
-use Rattle.directory_law.specs.Lessons.{UpgradeReady, UpgradeTells, starts_at, upgrade_next}
-use Rattle.directory_law.specs.Steps.{life_in, life_of, payload_in, payload_of}
-use Rattle.directory_protocol.specs.declared.law.DirectoryLaw.{DirectoryLaw}
-use Rattle.weak_intern.specs.Directories.{HasQuota, area_of}
-use Rattle.weak_intern.specs.Learning.{Learns}
+use Rattle.directory_law.specs.Lessons.{UpgradeReady, UpgradeTells, spent, starts_at, upgrade_next}
+use Rattle.directory_law.specs.Steps.{life_in, life_of, payload_in, payload_of, slot_in}
+use Rattle.directory_protocol.specs.Keeping.{KeepsAll, MindsNone}
+use Rattle.weak_intern.specs.Directories.{CanCount}
 use Rattle.weak_intern.specs.Seeing.{BeginsText, HasSeenIn}
-use Rattle.weak_intern.specs.Steps.{AtStep, GoesOn}
-use Rattle.weak_intern.proofs.Going.{also, at_step, to_later}
-use Rattle.weak_intern.proofs.Learnt.{learns_none}
+use Rattle.weak_intern.specs.Steps.{AtStep, GoesOn, Leaves, handle_by, with_found}
+use Rattle.weak_intern.specs.Walking.{raised_by}
+use Rattle.weak_intern.proofs.Going.{also, at_step, holds_by, leaves_as, leaves_core, leaves_less, leaves_none, leaves_then, to_later}
+use Rattle.weak_intern.proofs.Parts.{LearnsBy, Place, lift_learns, lift_ready, lifts, part_none, tells}
 
 counts : (w : ℕ) → outcome.Up ≡ (if nat_lt w ZERO then outcome.Up else outcome.Dead)
     → ((if nat_lt w ZERO then 0 else 1) == 0) ≡ true
@@ -53,8 +60,20 @@ ends w is = go (nat_lt w ZERO) is
     go true is = absurd (cc (is))
     go false is = refl
 
-module _ (d : DomainState DirectoryLaw) (s : SlotId) (old : SeatState View)
-    (owns : 0 < times s old.view.core.weaks) where
+-- the next view of the deed UpgradeHead
+upgrade_learns_if : (b intern : Bool) (own : OwnPart) (s : SlotId) (v : View)
+    → KeepsAll v (if b
+    then record v { used = v.used + spent intern; ran = starts_at own s ∷ v.ran }
+    else record v { ended = note s (life_in own s) ∷ v.ended })
+upgrade_learns_if true intern own s v = λ e in'. in'
+upgrade_learns_if false intern own s v = λ e in'. in'
+
+upgrade_keeps : (intern : Bool) (own after : OwnPart) (v : View) (a : PlainAct) (w : ℕ)
+    → KeepsAll v (upgrade_next intern own after v a w)
+upgrade_keeps intern own after v a w = upgrade_learns_if (w == 0) intern own (slot_in a) v
+
+module _ {P V : Type 0} (fits : List ℕ → Type 0) (d : DomainState P) (l : Place V) (z : Area)
+    (intern : Bool) (s : SlotId) (old : SeatState V) (owns : 0 < times s old.view.core.weaks) where
   has : HasSlot (show_seat old.view.core) s
   has = holds_has old.view.core s (omega arith)
 
@@ -64,163 +83,220 @@ module _ (d : DomainState DirectoryLaw) (s : SlotId) (old : SeatState View)
   payload : payload_in (own_of old.view) s ≡ (object_in old.view s).payload
   payload = ap (λ b. payload_of (if b then Some (object_in old.view s) else None)) has
 
-  -- THE DEED is ready
-  pub ready : HasSeenIn s old → HasQuota old
-      → IsReady (UpgradeReady false) d.shape (act.Add s) old.view
-  ready saw quota w = record {
-    slot = s;
-    act_is = refl;
-    seen = (
-      saw.0,
-      subst (λ (o : Object). In (record {
-        cell = saw.0;
-        slot = s;
-        life = o.life;
-        head = o.payload;
-      }) old.view.client.seen)
-          (λ i. record { life = sym life i; payload = sym payload i }) saw.1,
-    );
-    spare = omega (arith, quota);
+  abbrev next : OwnPart → OwnPart → V → PlainAct → ℕ → V
+  next = lifts l (upgrade_next intern)
+
+  abbrev allows : Plain → Plain → ℕ → V → V → Type 0
+  allows = tells l (UpgradeTells z)
+
+  -- what the view has of the directory, where the add counts and where it finds the zero flag
+  abbrev counted : View
+  counted = record (l.seen old.view.client) {
+    used = (l.seen old.view.client).used + spent intern;
+    ran = starts_at (own_of old.view) s ∷ (l.seen old.view.client).ran;
   }
 
-  module _ (new : SeatState View) where
+  abbrev dead : View
+  dead = record (l.seen old.view.client) {
+    ended = note s (life_in (own_of old.view) s) ∷ (l.seen old.view.client).ended;
+  }
+
+  -- THE DEED is ready
+  pub ready : (owned : Owned) (free : OwnPart → PlainAct → Type 0) (suits : V → View → Type 0)
+      → Frees owned free → MindsNone suits l.seen
+      → HasSeenIn l.seen s old → CanCount intern (l.seen old.view.client)
+      → IsReady (λ own v a. UpgradeReady intern own (l.seen v) a × free own a
+      × Accepts suits (upgrade_next intern) l.seen own v a) d.shape (act.Add s) old.view
+  ready owned free suits frees minds saw quota w =
+      lift_ready l owned free suits frees minds (UpgradeReady intern) (upgrade_next intern)
+      (own_of old.view) old.view.client (plain.Add s)
+      (record {
+        slot = s;
+        act_is = refl;
+        seen = (
+          saw.0,
+          subst (λ (o : Object). In (record {
+            cell = saw.0;
+            slot = s;
+            life = o.life;
+            head = o.payload;
+          }) (l.seen old.view.client).seen)
+              (λ i. record { life = sym life i; payload = sym payload i }) saw.1,
+        );
+        spare = quota;
+      })
+      tt
+      (λ after n. upgrade_keeps intern (own_of old.view) after (l.seen old.view.client)
+      (plain.Add s) n)
+
+  module _ (new : SeatState V) where
     -- IT COUNTED
-    module _ (gains : GainsStrong IsPiece d (upgrade_next false) (UpgradeTells (area_of d)) s
-        old new) where
-      abbrev late : SeatState View
+    module _ (gains : GainsStrong fits d next allows s old new) where
+      abbrev late : SeatState V
       late = gains.walks.0
 
-      client_late : late.view.client
-          ≡ record old.view.client {
-            used = old.view.client.used + 0;
-            ran = starts_at (own_of old.view) s ∷ old.view.client.ran;
-          }
+      client_late : late.view.client ≡ l.with_seen old.view.client counted
       client_late =
           let step = gains.walks.1 in
           step.told.client
-          ∙ ap (λ b. if b
-          then record old.view.client {
-            used = old.view.client.used + 0;
-            ran = starts_at (own_of old.view) s ∷ old.view.client.ran;
-          }
-          else record old.view.client {
-            ended = note s (life_in (own_of old.view) s) ∷ old.view.client.ended;
-          }) (counts step.word step.answers)
+          ∙ ap (λ b. l.with_seen old.view.client (if b then counted else dead))
+          (counts step.word step.answers)
 
-      pub live : KnowsStill old.view.core old new → AtStep d (BeginsText (area_of d) s new) old new
+      pub live : KnowsStill old.view.core old new → AtStep d (BeginsText z s new) old new
       live knows =
-          let z = area_of d in
           let step = gains.walks.1 in
           let p = shows d.shape step.told.happened.before in
           let q = shows d.shape
           (after d.shape step.told.happened.before old.view.core.seat (act.Add s)) in
-          let tells : UpgradeTells z p q old.view.core.seat old.view.client late.view.client =
+          let told : UpgradeTells z p q old.view.core.seat (l.seen old.view.client)
+          (l.seen late.view.client) =
           step.told.happened.fact.2 in
-          let is = tells (starts_at (own_of old.view) s) (ap (λ (v : View). v.ran) client_late) in
+          let seen_late : l.seen late.view.client ≡ counted =
+          ap l.seen client_late ∙ l.reads old.view.client counted in
+          let is = told (starts_at (own_of old.view) s) (ap (λ (v : View). v.ran) seen_late) in
           let same : payload_in (own_of old.view) s ≡ (object_in new.view s).payload =
           payload ∙ ap (λ (o : Object). o.payload) (sym (knows s has)) in
-          subst (λ (x : SeatState View). AtStep d (BeginsText z s new) old x) (sym gains.walks.2)
+          subst (λ (x : SeatState V). AtStep d (BeginsText z s new) old x) (sym gains.walks.2)
           (at_step d (BeginsText z s new) step (
             is.0,
             subst (λ h. IsText (h ∷ is.0)) same is.1,
             subst (λ h. IsBound z p (h ∷ is.0) s) same is.2,
           ))
 
-      pub live_learns : Learns old.view.client new.view.client
+      pub live_learns : LearnsBy l (spent intern) old.view.client new.view.client
       live_learns =
-          subst (λ v. Learns old.view.client v)
-          (sym (ap (λ (x : SeatState View). x.view.client) gains.walks.2 ∙ client_late))
-          (record {
+          subst (λ v. LearnsBy l (spent intern) old.view.client v)
+          (sym (ap (λ (x : SeatState V). x.view.client) gains.walks.2 ∙ client_late))
+          (lift_learns l (spent intern) old.view.client counted (record {
             seen = λ e in'. in';
             ended = λ e in'. in';
             ran = λ e in'. inr in';
             led = λ e in'. in';
-            interns = (refl, omega arith);
+            quota = refl;
+            used = refl;
             notes = (refl, refl);
-          })
+          }))
 
     -- IT FOUND THE ZERO FLAG
-    module _ (finds : FindsEnded IsPiece d (upgrade_next false) (UpgradeTells (area_of d)) s
-        old new) where
-      client_ended : new.view.client
-          ≡ record old.view.client {
-            ended = note s (object_in old.view s).life ∷ old.view.client.ended;
-          }
+    module _ (finds : FindsEnded fits d next allows s old new) where
+      client_ended : new.view.client ≡ l.with_seen old.view.client dead
       client_ended =
           let step = finds.becomes.walks.1 in
-          ap (λ (x : SeatState View). x.view.client) finds.becomes.walks.2
+          ap (λ (x : SeatState V). x.view.client) finds.becomes.walks.2
           ∙ (step.told.client
-          ∙ ap (λ b. if b
-          then record old.view.client {
-            used = old.view.client.used + 0;
-            ran = starts_at (own_of old.view) s ∷ old.view.client.ran;
-          }
-          else record old.view.client {
-            ended = note s (life_in (own_of old.view) s) ∷ old.view.client.ended;
-          }) (ends step.word step.answers)
-          ∙ ap (λ l. record old.view.client {
-            ended = note s l ∷ old.view.client.ended;
-          }) life)
+          ∙ ap (λ b. l.with_seen old.view.client (if b then counted else dead))
+          (ends step.word step.answers))
 
-      pub ended : In (note s (object_in old.view s).life) new.view.client.ended
+      pub ended : In (note s (object_in old.view s).life) (l.seen new.view.client).ended
       ended = subst (λ (v : View). In (note s (object_in old.view s).life) v.ended)
-          (sym client_ended) (inl refl)
+          (sym (ap l.seen client_ended ∙ l.reads old.view.client dead))
+          (inl (ap (note s) (sym life)))
 
-      pub ended_learns : Learns old.view.client new.view.client
+      pub ended_learns : LearnsBy l 0 old.view.client new.view.client
       ended_learns =
-          subst (λ v. Learns old.view.client v) (sym client_ended)
-          (record {
+          subst (λ v. LearnsBy l 0 old.view.client v) (sym client_ended)
+          (lift_learns l 0 old.view.client dead (record {
             seen = λ e in'. in';
             ended = λ e in'. inr in';
             ran = λ e in'. in';
             led = λ e in'. in';
-            interns = (refl, refl);
+            quota = refl;
+            used = omega arith;
             notes = (refl, refl);
-          })
+          }))
 
   -- whatever the upgrade answered, and after the weak reference was given up
-  module _ (new mid : SeatState View) (r : Result Handle UpgradeError)
-      (upgraded : IfOk r (λ strong. (strong.slot ≡ s)
-      × GainsStrong IsPiece d (upgrade_next false) (UpgradeTells (area_of d)) s old mid))
+  module _ (new mid : SeatState V) (r : Result Handle UpgradeError)
+      (upgraded : IfOk r (λ strong. (strong.slot ≡ s) × GainsStrong fits d next allows s old mid))
       (knows : KnowsStill old.view.core old mid)
-      (drops : DropsWeak IsPiece d s mid new)
+      (drops : DropsWeak fits d s mid new)
       (still : KnowsStill (without_weak s mid.view.core) mid new)
       (client : new.view.client ≡ mid.view.client) where
     goes : GoesOn mid.view.core new.view.core
     goes = (_, ap (λ (v : CoreView). v.trail) drops.1.core)
 
     pub raised_live : IfOk r (λ strong. 0 < times strong.slot mid.view.core.owned)
-        → IfOk r (λ strong. AtStep d (BeginsText (area_of d) s new) old new)
+        → IfOk r (λ strong. AtStep d (BeginsText z s new) old new)
     raised_live owned = go r upgraded owned
       where
         go : (o : Result Handle UpgradeError)
-            → IfOk o (λ strong. (strong.slot ≡ s)
-            × GainsStrong IsPiece d (upgrade_next false) (UpgradeTells (area_of d)) s old mid)
+            → IfOk o (λ strong. (strong.slot ≡ s) × GainsStrong fits d next allows s old mid)
             → IfOk o (λ strong. 0 < times strong.slot mid.view.core.owned)
-            → IfOk o (λ strong. AtStep d (BeginsText (area_of d) s new) old new)
+            → IfOk o (λ strong. AtStep d (BeginsText z s new) old new)
         go (Err e) u own = tt
         go (Ok h) u own =
             let mine = subst (λ x. 0 < times x mid.view.core.owned) u.0 own in
             let same = still s (holds_has (without_weak s mid.view.core) s (omega arith)) in
-            to_later d (BeginsText (area_of d) s new) old mid new
-            (also d (BeginsText (area_of d) s mid) (BeginsText (area_of d) s new) old mid
+            to_later d (BeginsText z s new) old mid new
+            (also d (BeginsText z s mid) (BeginsText z s new) old mid
             (λ p is. subst (λ (x : Object). (tail : Text) × IsText (x.payload ∷ tail)
-            × IsBound (area_of d) p (x.payload ∷ tail) s) (sym same) is)
+            × IsBound z p (x.payload ∷ tail) s) (sym same) is)
             (live mid u.1 knows)) goes
 
+    pub raised_ended : (r ≡ Err no_raise.Ended → FindsEnded fits d next allows s old mid)
+        → r ≡ Err no_raise.Ended
+        → In (note s (object_in old.view s).life) (l.seen new.view.client).ended
+    raised_ended finds is =
+        subst (λ (c : V). In (note s (object_in old.view s).life) (l.seen c).ended) (sym client)
+        (ended mid (finds is))
+
     pub raised_learns : (r ≡ Err no_raise.Spent → mid ≡ old)
-        → (r ≡ Err no_raise.Ended
-        → FindsEnded IsPiece d (upgrade_next false) (UpgradeTells (area_of d)) s old mid)
-        → Learns old.view.client new.view.client
-    raised_learns spent finds =
-        subst (λ v. Learns old.view.client v) (sym client) (go r refl upgraded)
+        → (r ≡ Err no_raise.Ended → FindsEnded fits d next allows s old mid)
+        → LearnsBy l (raised_by intern r) old.view.client new.view.client
+    raised_learns spent' finds =
+        subst (λ v. LearnsBy l (raised_by intern r) old.view.client v) (sym client)
+        (go r refl upgraded)
       where
         go : (o : Result Handle UpgradeError) → r ≡ o
-            → IfOk o (λ strong. (strong.slot ≡ s)
-            × GainsStrong IsPiece d (upgrade_next false) (UpgradeTells (area_of d)) s old mid)
-            → Learns old.view.client mid.view.client
+            → IfOk o (λ strong. (strong.slot ≡ s) × GainsStrong fits d next allows s old mid)
+            → LearnsBy l (raised_by intern o) old.view.client mid.view.client
         go (Ok h) is u = live_learns mid u.1
         go (Err no_raise.Spent) is u =
-            subst (λ (x : SeatState View). Learns old.view.client x.view.client)
-            (sym (spent is)) (learns_none old.view.client)
+            subst (λ (x : SeatState V). LearnsBy l 0 old.view.client x.view.client)
+            (sym (spent' is)) (part_none l old.view.client)
         go (Err no_raise.Ended) is u = ended_learns mid (finds is)
+
+    -- what the seat has afterwards
+    weakly_then : (os : List SlotId) → Leaves os old.view.core.weaks old mid
+        → mid.view.core.weaks ≡ old.view.core.weaks
+        → ((x : SlotId) → times x old.view.core.owned ≤ times x os)
+        → Leaves os (without s old.view.core.weaks) old new
+    weakly_then os first weaks more =
+        leaves_as os (without s old.view.core.weaks) old new
+        (leaves_then old mid new first
+        (leaves_less mid new (without_weak s mid.view.core) _ drops.1.core refl
+        (λ x is. still x (holds_has (without_weak s mid.view.core) x is)))
+        (λ x was is. let o = first.owns x in let m = first.weakly x in let p = more x in
+        holds_by x old.view.core mid.view.core (sym first.same) (omega arith) was))
+        first.owns
+        (λ x. ap (λ ws. times x (without s ws)) weaks)
+
+    pub raised_leaves : (r ≡ Err no_raise.Spent → mid ≡ old)
+        → (r ≡ Err no_raise.Ended → FindsEnded fits d next allows s old mid)
+        → Leaves (with_found (handle_by r) old.view.core.owned)
+        (without s old.view.core.weaks) old new
+    raised_leaves spent' finds = go r refl upgraded
+      where
+        go : (o : Result Handle UpgradeError) → r ≡ o
+            → IfOk o (λ strong. (strong.slot ≡ s) × GainsStrong fits d next allows s old mid)
+            → Leaves (with_found (handle_by o) old.view.core.owned)
+            (without s old.view.core.weaks) old new
+        go (Ok h) is u =
+            subst (λ x. Leaves (old.view.core.owned ++ x ∷ [])
+            (without s old.view.core.weaks) old new) (sym u.0)
+            (weakly_then (old.view.core.owned ++ s ∷ [])
+            (leaves_core old mid (with_strong s old.view.core) _ u.1.core refl knows)
+            (ap (λ (v : CoreView). v.weaks) u.1.core)
+            (λ x. let p = times_push x s old.view.core.owned in omega arith))
+        go (Err no_raise.Spent) is u =
+            weakly_then old.view.core.owned
+            (subst (λ (x : SeatState V). Leaves old.view.core.owned old.view.core.weaks old x)
+            (sym (spent' is)) (leaves_none old))
+            (ap (λ (x : SeatState V). x.view.core.weaks) (spent' is))
+            (λ x. omega arith)
+        go (Err no_raise.Ended) is u =
+            let e = finds is in
+            weakly_then old.view.core.owned
+            (leaves_core old mid (with_add old.view.core) _ e.becomes.core refl knows)
+            (ap (λ (v : CoreView). v.weaks) e.becomes.core)
+            (λ x. omega arith)

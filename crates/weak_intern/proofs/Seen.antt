@@ -2,9 +2,14 @@
 use Rattle.std.proofs.Common.{◌≡◌, inl, inr, ℕ, ◌+◌, ◌-◌, ◌<◌, List, [], ◌∷◌, ◌++◌, refl, sym, ap, subst, ◌∙◌, arith, append_assoc, Option, Some, None}
 use Rattle.std.specs.Prelude.{if◌then◌else◌}
 use Rattle.plain_state.specs.declared.act.EventPlace.TheVariants.{WeakCell}
+use Rattle.plain_state.specs.declared.act.PlainAct.{PlainAct}
 use Rattle.plain_state.specs.declared.act.PlainAct.TheVariants as plain
 use Rattle.plain_state.specs.declared.slot.SlotId.{SlotId}
 use Rattle.plain_state.specs.Places.{content}
+use Rattle.plain_protocol.specs.Acts.{Owned}
+use Rattle.plain_protocol.specs.Owns.{OwnPart}
+use Rattle.protocol_pairs.specs.Parts.{Accepts, Frees}
+use Rattle.protocol_pairs.specs.Spared.{IsWithin}
 use Rattle.core_events.specs.declared.act.Act.TheVariants as act
 use Rattle.core_events.specs.declared.outcome.Outcome.TheVariants as outcome
 use Rattle.core_events.specs.declared.view.CoreView.{CoreView}
@@ -26,81 +31,88 @@ use Rattle.protected_loads.specs.Loads.{FindsNull, announced_by}
 use Rattle.protected_loads.specs.References.{Refers, loaded_by}
 use Rattle.protected_loads.proofs.Learning.{checked, client_found, client_moved, client_null, has_found, known_found}
 use Rattle.directory_law.specs.declared.view.View.{View}
-use Rattle.directory_law.specs.Bytes.{IsPiece}
 use Rattle.directory_law.specs.Views.{In}
-use Rattle.directory_law.specs.Cells.{cell, on}
+use Rattle.directory_law.specs.Cells.{Area, cell, on}
 use Rattle.directory_law.specs.Law.{NoneBound}
 use Rattle.directory_law.specs.Lessons.{SeeReady, SeeTells, see_next, sees}
-use Rattle.directory_protocol.specs.declared.law.DirectoryLaw.{DirectoryLaw}
-use Rattle.weak_intern.specs.Directories.{area_of}
-use Rattle.weak_intern.specs.Learning.{Learns}
-use Rattle.weak_intern.specs.Seeing.{EndsAt, Sees, seen_in}
+use Rattle.directory_law.specs.Steps.{LooksAt}
+use Rattle.directory_protocol.specs.Keeping.{MindsNone}
+use Rattle.weak_intern.specs.Seeing.{EndsAt, HasSeenAt, Sees, seen_in}
 use Rattle.weak_intern.specs.Steps.{AtStep, GoesOn, Leaves, with_found}
 use Rattle.weak_intern.proofs.Going.{at_step, from_earlier, leaves_core}
-use Rattle.weak_intern.proofs.Learnt.{learns_none, learns_then, see_learns, sees_learns, walked_still}
+use Rattle.weak_intern.proofs.Learnt.{learns_keeps, learns_none, see_learns, sees_learns, walked_still}
+use Rattle.weak_intern.proofs.Parts.{LearnsBy, Place, lift_learns, lift_ready, lifts, part_none, part_then, tells}
 
 abbrev looked : ℕ → List Move
 looked i = move (act.Look (WeakCell i)) (outcome.Found None) ∷ []
 
-module _ (d : DomainState DirectoryLaw) (i c : ℕ) (is : i ≡ d.protocol.first + c)
-    (old : SeatState View) where
+module _ {P V : Type 0} (fits : List ℕ → Type 0) (d : DomainState P) (l : Place V) (z : Area)
+    (i c : ℕ) (is : i ≡ z.first + c) (old : SeatState V) where
   -- THE DEED is ready
-  pub ready : c < d.protocol.cells
-      → IsReadyToRetry IsPiece d (WeakCell i) (see_next (area_of d)) (SeeTells (area_of d))
-      (SeeReady (area_of d)) old
-  ready inside lost mid loses = record {
-    look = λ w. record {
-      cell = c;
-      inside = inside;
-      looks = inl (ap (λ j. plain.Look (WeakCell j)) is);
-    };
-    check = λ s late announces w. record {
-      cell = c;
-      inside = inside;
-      looks = inr (0, ap (λ j. plain.Check 0 (WeakCell j)) is);
-    };
+  pub ready : (owned : Owned) (free : OwnPart → PlainAct → Type 0) (suits : V → View → Type 0)
+      → Frees owned free → MindsNone suits l.seen → c < z.cells
+      → IsReadyToRetry fits d (WeakCell i) (lifts l (see_next z)) (tells l (SeeTells z))
+      (λ own v a. SeeReady z own (l.seen v) a × free own a × Accepts suits (see_next z) l.seen own v a)
+      old
+  ready owned free suits frees minds inside lost mid loses = record {
+    look = λ w. one (own_of mid.view) mid.view.client (plain.Look (WeakCell i))
+        (inl (ap (λ j. plain.Look (WeakCell j)) is)) tt;
+    check = λ s late announces w. one (own_of late.view) late.view.client
+        (plain.Check 0 (WeakCell i)) (inr (0, ap (λ j. plain.Check 0 (WeakCell j)) is)) tt;
   }
+    where
+      one : (own : OwnPart) (v : V) (a : PlainAct) → LooksAt (WeakCell (z.first + c)) a
+          → IsWithin owned own a
+          → SeeReady z own (l.seen v) a × free own a × Accepts suits (see_next z) l.seen own v a
+      one own v a looks within = lift_ready l owned free suits frees minds (SeeReady z) (see_next z) own v a
+          (record { cell = c; inside = inside; looks = looks })
+          within
+          (λ after w. learns_keeps 0 (l.seen v) (see_next z own after (l.seen v) a w)
+          (see_learns z own after (l.seen v) a w))
 
   -- LOST TRIES
-  lost_learns : (ts : List Lost) (mid : SeatState View)
-      → Loses IsPiece d (WeakCell i) (see_next (area_of d)) (SeeTells (area_of d)) 0 ts old mid
-      → Learns old.view.client mid.view.client
+  lost_learns : (ts : List Lost) (mid : SeatState V)
+      → Loses fits d (WeakCell i) (lifts l (see_next z)) (tells l (SeeTells z)) 0 ts old mid
+      → LearnsBy l 0 old.view.client mid.view.client
   lost_learns [] mid same =
-      subst (λ (x : SeatState View). Learns old.view.client x.view.client) (sym same)
-      (learns_none old.view.client)
+      subst (λ (x : SeatState V). LearnsBy l 0 old.view.client x.view.client) (sym same)
+      (part_none l old.view.client)
   lost_learns (t ∷ ts) new loses =
       let mid = loses.0 in
       let m = loses.2 in
-      let more = see_learns (area_of d) (own_of m.mid.view) (own_of m.checks.walks.0.view)
-      m.mid.view.client (plain.Check 0 (WeakCell i)) m.checks.walks.1.word in
-      learns_then old.view.client mid.view.client new.view.client
+      let own = own_of m.mid.view in
+      let late = own_of m.checks.walks.0.view in
+      let v = m.mid.view.client in
+      let a = plain.Check 0 (WeakCell i) in
+      let w = m.checks.walks.1.word in
+      let more = lift_learns l 0 v (see_next z own late (l.seen v) a w)
+      (see_learns z own late (l.seen v) a w) in
+      part_then l 0 0 old.view.client mid.view.client new.view.client
       (lost_learns ts mid loses.1)
-      (subst (λ v. Learns mid.view.client v)
+      (subst (λ v. LearnsBy l 0 mid.view.client v)
       (sym (client_moved d (WeakCell i) mid new (Some t.slot) t.now m))
-      (subst (λ v. Learns v (see_next (area_of d) (own_of m.mid.view)
-      (own_of m.checks.walks.0.view) m.mid.view.client (plain.Check 0 (WeakCell i))
-      m.checks.walks.1.word)) m.announces.client more))
+      (subst (λ u. LearnsBy l 0 u (lifts l (see_next z) own late v a w)) m.announces.client more))
 
-  lost_table : (ts : List Lost) (mid : SeatState View)
-      → Loses IsPiece d (WeakCell i) (see_next (area_of d)) (SeeTells (area_of d)) 0 ts old mid
+  lost_table : (ts : List Lost) (mid : SeatState V)
+      → Loses fits d (WeakCell i) (lifts l (see_next z)) (tells l (SeeTells z)) 0 ts old mid
       → mid.table ≡ old.table
-  lost_table [] mid same = ap (λ (x : SeatState View). x.table) same
+  lost_table [] mid same = ap (λ (x : SeatState V). x.table) same
   lost_table (t ∷ ts) new loses =
       let mid = loses.0 in
       let m = loses.2 in
-      walks_table IsPiece d same_view IsSameView
+      walks_table fits d same_view IsSameView
       (move (act.Release 0) outcome.Plain ∷ []) m.late new m.releases.walks
-      ∙ walks_table IsPiece d (see_next (area_of d)) (SeeTells (area_of d))
+      ∙ walks_table fits d (lifts l (see_next z)) (tells l (SeeTells z))
       (move (act.Check 0 (WeakCell i)) (outcome.Moved t.now) ∷ []) m.mid m.late m.checks.walks
-      ∙ walks_table IsPiece d same_view IsSameView (announced_by 0 (WeakCell i) m.slot) mid m.mid
+      ∙ walks_table fits d same_view IsSameView (announced_by 0 (WeakCell i) m.slot) mid m.mid
       m.announces.becomes.walks
       ∙ lost_table ts mid loses.1
 
   -- WHAT IT LEAVES
-  module _ (rest : IsAtRest d old) (new : SeatState View) (found : Option SlotId)
-      (last : LoadsAtLast IsPiece d (WeakCell i) (see_next (area_of d)) (SeeTells (area_of d))
+  module _ (rest : IsAtRest d old) (new : SeatState V) (found : Option SlotId)
+      (last : LoadsAtLast fits d (WeakCell i) (lifts l (see_next z)) (tells l (SeeTells z))
       found old new) where
-    abbrev mid : SeatState View
+    abbrev mid : SeatState V
     mid = last.mid
 
     rest_mid : IsAtRest d mid
@@ -119,41 +131,44 @@ module _ (d : DomainState DirectoryLaw) (i c : ℕ) (is : i ≡ d.protocol.first
           (rest.others j);
     }
 
-    learns_mid : Learns old.view.client mid.view.client
+    learns_mid : LearnsBy l 0 old.view.client mid.view.client
     learns_mid = lost_learns last.lost mid last.loses
 
     goes_mid : GoesOn old.view.core mid.view.core
     goes_mid = (_, ap (λ (v : CoreView). v.trail) last.core)
 
     -- the cell was null
-    module _ (null : FindsNull IsPiece d (WeakCell i) (see_next (area_of d))
-        (SeeTells (area_of d)) mid new) where
-      pub null_ends : EndsAt d c old new
+    module _ (null : FindsNull fits d (WeakCell i) (lifts l (see_next z))
+        (tells l (SeeTells z)) mid new) where
+      pub null_ends : EndsAt l.seen d z c old new
       null_ends text m walked at =
-          let z = area_of d in
           let late = null.becomes.walks.0 in
           let step = null.becomes.walks.1 in
           let p = shows d.shape step.told.happened.before in
           let q = shows d.shape
           (after d.shape step.told.happened.before mid.view.core.seat (act.Look (WeakCell i))) in
-          let tells : SeeTells z p q mid.view.core.seat mid.view.client late.view.client =
+          let told : SeeTells z p q mid.view.core.seat (l.seen mid.view.client)
+          (l.seen late.view.client) =
           step.told.happened.fact.2 in
           let empty : cell z p (on z text m) ≡ None =
           ap (λ k. cell z p k) at ∙ ap (λ j. content p (WeakCell j)) (sym is) ∙ null.null in
           let none : NoneBound z p text =
-          tells.1 text m (walked_still z old.view.client mid.view.client text m learns_mid walked)
+          told.1 text m
+          (walked_still 0 z (l.seen old.view.client) (l.seen mid.view.client) text m
+          learns_mid.part walked)
           (inl empty) in
           from_earlier d (λ x. NoneBound z x text) old mid new
           (ap (λ (v : CoreView). v.seat) last.core) goes_mid
-          (subst (λ (x : SeatState View). AtStep d (λ y. NoneBound z y text) mid x)
+          (subst (λ (x : SeatState V). AtStep d (λ y. NoneBound z y text) mid x)
           (sym null.becomes.walks.2)
           (at_step d (λ x. NoneBound z x text) step none))
 
-      pub null_learns : Learns old.view.client new.view.client
+      pub null_learns : LearnsBy l 0 old.view.client new.view.client
       null_learns =
-          learns_then old.view.client mid.view.client new.view.client learns_mid
-          (subst (λ v. Learns mid.view.client v) (sym (client_null d (WeakCell i) mid new null))
-          (learns_none mid.view.client))
+          part_then l 0 0 old.view.client mid.view.client new.view.client learns_mid
+          (subst (λ v. LearnsBy l 0 mid.view.client v) (sym (client_null d (WeakCell i) mid new null))
+          (lift_learns l 0 mid.view.client (l.seen mid.view.client)
+          (learns_none (l.seen mid.view.client))))
 
       pub null_leaves : KnowsStill old.view.core old new
           → Leaves old.view.core.owned old.view.core.weaks old new
@@ -165,30 +180,33 @@ module _ (d : DomainState DirectoryLaw) (i c : ℕ) (is : i ≡ d.protocol.first
           refl knows
 
     -- it held s
-    module _ (s : SlotId) (r : Refers IsPiece d (WeakCell i) (see_next (area_of d))
-        (SeeTells (area_of d)) s mid new) where
-      abbrev before : View
+    module _ (s : SlotId) (r : Refers fits d (WeakCell i) (lifts l (see_next z))
+        (tells l (SeeTells z)) s mid new) where
+      abbrev before : V
       before = r.protects.mid.view.client
 
-      abbrev seat_checked : SeatState View
+      abbrev seat_checked : SeatState V
       seat_checked = checked d (WeakCell i) mid new s rest_mid r
 
-      number : i - d.protocol.first ≡ c
+      number : i - z.first ≡ c
       number = omega (arith, is)
 
-      client : new.view.client
-          ≡ sees (i - d.protocol.first) s (Some (object_in seat_checked.view s)) before
+      abbrev now_seen : View
+      now_seen = sees (i - z.first) s (Some (object_in seat_checked.view s)) (l.seen before)
+
+      client : new.view.client ≡ l.with_seen before now_seen
       client = client_found d (WeakCell i) mid new s rest_mid r
-          ∙ ap (λ b. sees (i - d.protocol.first) s
-          (if b then Some (object_in seat_checked.view s) else None) before)
+          ∙ ap (λ b. l.with_seen before (sees (i - z.first) s
+          (if b then Some (object_in seat_checked.view s) else None) (l.seen before)))
           (has_found d (WeakCell i) mid new s rest_mid r)
 
       known : object_in new.view s ≡ object_in seat_checked.view s
       known = known_found d (WeakCell i) mid new s rest_mid r
 
-      pub found_seen : In (seen_in c s new) new.view.client.seen
+      pub found_seen : HasSeenAt l.seen c s new
       found_seen =
-          subst (λ (v : View). In (seen_in c s new) v.seen) (sym client)
+          subst (λ (v : View). In (seen_in c s new) v.seen)
+          (sym (ap l.seen client ∙ l.reads before now_seen))
           (inl (λ k. record {
             cell = sym number k;
             slot = s;
@@ -196,12 +214,13 @@ module _ (d : DomainState DirectoryLaw) (i c : ℕ) (is : i ≡ d.protocol.first
             head = (known k).payload;
           }))
 
-      pub found_learns : Learns old.view.client new.view.client
+      pub found_learns : LearnsBy l 0 old.view.client new.view.client
       found_learns =
-          learns_then old.view.client mid.view.client new.view.client learns_mid
-          (subst (λ v. Learns v new.view.client) r.protects.announces.client
-          (subst (λ v. Learns before v) (sym client)
-          (sees_learns (i - d.protocol.first) s (Some (object_in seat_checked.view s)) before)))
+          part_then l 0 0 old.view.client mid.view.client new.view.client learns_mid
+          (subst (λ v. LearnsBy l 0 v new.view.client) r.protects.announces.client
+          (subst (λ v. LearnsBy l 0 before v) (sym client)
+          (lift_learns l 0 before now_seen
+          (sees_learns (i - z.first) s (Some (object_in seat_checked.view s)) (l.seen before)))))
 
       pub found_leaves : KnowsStill old.view.core old new
           → Leaves old.view.core.owned (old.view.core.weaks ++ s ∷ []) old new
@@ -215,25 +234,25 @@ module _ (d : DomainState DirectoryLaw) (i c : ℕ) (is : i ≡ d.protocol.first
           refl knows
 
   -- whatever was found
-  pub after_load : (rest : IsAtRest d old) (new : SeatState View) (found here : Option SlotId)
+  pub after_load : (rest : IsAtRest d old) (new : SeatState V) (found here : Option SlotId)
       → found ≡ here
-      → LoadsAtLast IsPiece d (WeakCell i) (see_next (area_of d)) (SeeTells (area_of d))
+      → LoadsAtLast fits d (WeakCell i) (lifts l (see_next z)) (tells l (SeeTells z))
       found old new
       → KnowsStill old.view.core old new
-      → Sees d c here old new
+      → Sees l.seen d z c here old new
       × Leaves old.view.core.owned (with_found here old.view.core.weaks) old new
-      × Learns old.view.client new.view.client
+      × LearnsBy l 0 old.view.client new.view.client
   after_load rest new found here same loaded knows =
       go here
-      (subst (λ f. LoadsAtLast IsPiece d (WeakCell i) (see_next (area_of d))
-      (SeeTells (area_of d)) f old new) same loaded)
+      (subst (λ f. LoadsAtLast fits d (WeakCell i) (lifts l (see_next z))
+      (tells l (SeeTells z)) f old new) same loaded)
     where
       go : (o : Option SlotId)
-          → LoadsAtLast IsPiece d (WeakCell i) (see_next (area_of d)) (SeeTells (area_of d))
+          → LoadsAtLast fits d (WeakCell i) (lifts l (see_next z)) (tells l (SeeTells z))
           o old new
-          → Sees d c o old new
+          → Sees l.seen d z c o old new
           × Leaves old.view.core.owned (with_found o old.view.core.weaks) old new
-          × Learns old.view.client new.view.client
+          × LearnsBy l 0 old.view.client new.view.client
       go None last = (
         null_ends rest new None last last.goes,
         null_leaves rest new None last last.goes knows,

@@ -1,4 +1,5 @@
 pub mod Steps
+pub mod Sought
 pub mod Learning
 pub mod Directories
 pub mod Seeing

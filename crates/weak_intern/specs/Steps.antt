@@ -19,17 +19,26 @@ use Rattle.acquire_retire.specs.Seats.{SeatState}
 abbrev pub GoesOn : CoreView → CoreView → Type 0
 GoesOn v w = (ms : List Move) × (w.trail ≡ v.trail ++ ms)
 
--- At a step that the seat made between these two states, the fact held of the plain state that the domain showed
--- before it.
-pub record AtStep {P V : Type 0} (d : DomainState P) (fact : Plain → Type 0)
+-- The seat made a step between these two states, of which this held: of the plain state that the domain showed before
+-- it, and of the one that it showed after it.
+pub record AtSome {P V : Type 0} (d : DomainState P) (Fact : Plain → Plain → Type 0)
     (old new : SeatState V) : Type 0 where
   pub view : CoreView
   pub act : Act
   pub word : ℕ
-  pub happened :
-      Happened d.shape d.terms old.view.core.seat view act word (λ p q. fact p)
+  pub happened : Happened d.shape d.terms old.view.core.seat view act word Fact
   pub since : GoesOn old.view.core view
   pub till : GoesOn (moved d.shape act word view) new.view.core
+
+-- before the step the fact held
+abbrev pub AtStep : {P V : Type 0} → DomainState P → (Plain → Type 0) → SeatState V → SeatState V
+    → Type 0
+AtStep d fact old new = AtSome d (λ p q. fact p) old new
+
+-- after the step it held
+abbrev pub AfterStep : {P V : Type 0} → DomainState P → (Plain → Type 0) → SeatState V
+    → SeatState V → Type 0
+AfterStep d fact old new = AtSome d (λ p q. fact q) old new
 
 -- what a seat has beside its references, its batch, its dying and ripe slots, and its trail; and beside how many
 -- objects it made and how many adds it used

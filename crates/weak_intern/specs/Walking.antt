@@ -1,22 +1,22 @@
 -- What a walk meets, and what a find answers.
-use Rattle.std.specs.Prelude.{ℕ, ◌≡◌, ◌≢◌, List, [], ◌∷◌, Option, Some, None, Result, Ok, Err}
+use Rattle.std.specs.Prelude.{Bool, ℕ, ◌<◌, List, [], ◌∷◌, Option, Some, None, Result, Ok, Err}
 use Rattle.plain_state.specs.declared.slot.SlotId.{SlotId}
-use Rattle.core_events.specs.Views.{without}
 use Rattle.counted_handles.specs.Handles.{Handle}
-use Rattle.domain_rule.specs.Views.{object_in}
 use Rattle.acquire_retire.specs.Domains.{DomainState}
 use Rattle.acquire_retire.specs.Seats.{SeatState}
 use Rattle.atomic_weak.specs.Places.{named}
 use Rattle.directory_law.specs.declared.view.View.{View}
+use Rattle.directory_law.specs.Cells.{Area}
+use Rattle.directory_law.specs.Lessons.{spent}
 use Rattle.directory_law.specs.Law.{IsBound, NoneBound}
 use Rattle.directory_law.specs.Payloads.{Text}
-use Rattle.directory_law.specs.Views.{In}
 use Rattle.directory_law.specs.Walks.{Passes, Walked}
-use Rattle.directory_protocol.specs.declared.law.DirectoryLaw.{DirectoryLaw}
 use Rattle.weak_intern.specs.declared.looking.Sight.{Sight}
 use Rattle.weak_intern.specs.declared.looking.Sight.TheVariants as sight
-use Rattle.weak_intern.specs.Directories.{HasNoRecord, IsRecord, area_of}
-use Rattle.weak_intern.specs.Seeing.{EndsAt, seen_in}
+use Rattle.weak_intern.specs.declared.walking.Walk.{Walk}
+use Rattle.weak_intern.specs.declared.walking.Walk.TheVariants as walk
+use Rattle.weak_intern.specs.Directories.{HasNoRecord, IsRecord}
+use Rattle.weak_intern.specs.Seeing.{EndsAt, HasSeenAt}
 use Rattle.weak_intern.specs.Steps.{AtStep}
 
 -- the record that a walk met, if it met one
@@ -33,40 +33,68 @@ abbrev pub found_by : {E : Type 0} → Result (Option Handle) E → Option SlotI
 found_by (Ok found) = named found
 found_by (Err error) = None
 
--- where the seat owns s: it is kept as the record, if its payload is this, or else given up
-abbrev pub Chooses : List ℕ → SlotId → Sight → SeatState View → Type 0
-Chooses head s sight.Null old = ⊥
-Chooses head s sight.Other old = (object_in old.view s).payload ≢ head
-Chooses head s (sight.Record strong) old =
-    (strong.slot ≡ s) × ((object_in old.view s).payload ≡ head)
+-- how many interns a raise or a look used that answers so
+abbrev pub raised_by : {E : Type 0} → Bool → Result Handle E → ℕ
+raised_by intern (Ok strong) = spent intern
+raised_by intern (Err error) = 0
 
-abbrev pub chosen : SlotId → Sight → List SlotId → List SlotId
-chosen s sight.Null xs = xs
-chosen s sight.Other xs = without s xs
-chosen s (sight.Record strong) xs = xs
+abbrev pub taken : Bool → Sight → ℕ
+taken intern sight.Null = 0
+taken intern sight.Other = 0
+taken intern (sight.Record strong) = spent intern
 
--- what a walk for the text of this head met in a cell: null, where it ends; a cell that it passes; or the live record
-abbrev pub Meets : DomainState DirectoryLaw → ℕ → List ℕ → Sight → SeatState View
-    → SeatState View → Type 0
-Meets d c head sight.Null old new = EndsAt d c old new
-Meets d c head sight.Other old new = Passes new.view.client (head ∷ []) c
-Meets d c head (sight.Record strong) old new =
-    AtStep d (λ p. IsBound (area_of d) p (head ∷ []) strong.slot) old new
+abbrev pub taken_by : {E : Type 0} → Bool → Result Sight E → ℕ
+taken_by intern (Ok found) = taken intern found
+taken_by intern (Err error) = 0
 
--- what it met in s, in whatever cell the seat saw it
-abbrev pub MeetsIn : SlotId → DomainState DirectoryLaw → List ℕ → Sight → SeatState View
-    → SeatState View → Type 0
-MeetsIn s d head sight old new =
-    (c : ℕ) → In (seen_in c s old) old.view.client.seen → Meets d c head sight old new
+-- of a view, `seen` is what it has of the directory
+module _ {P V : Type 0} (seen : V → View) (d : DomainState P) (z : Area) where
+  -- what a walk for the text of this head met in a cell: null, where it ends; a cell that it passes; or the live
+  -- record, which the seat saw there
+  abbrev pub Meets : ℕ → List ℕ → Sight → SeatState V → SeatState V → Type 0
+  Meets c head sight.Null old new = EndsAt seen d z c old new
+  Meets c head sight.Other old new = Passes (seen new.view.client) (head ∷ []) c
+  Meets c head (sight.Record strong) old new =
+      AtStep d (λ p. IsBound z p (head ∷ []) strong.slot) old new
 
--- a text that passes all the cells had no live record, at a step between these states
-abbrev pub EndsAround : DomainState DirectoryLaw → SeatState View → SeatState View → Type 0
-EndsAround d old new =
-    (text : Text) → Walked (area_of d) old.view.client text d.protocol.cells
-    → AtStep d (λ p. NoneBound (area_of d) p text) old new
+  -- what it met in s, in whatever cell the seat saw it
+  abbrev pub MeetsIn : SlotId → List ℕ → Sight → SeatState V → SeatState V → Type 0
+  MeetsIn s head sight old new =
+      (c : ℕ) → HasSeenAt seen c s old → Meets c head sight old new
+
+  -- a text that passes all the cells had no live record, at a step between these states
+  abbrev pub EndsAround : SeatState V → SeatState V → Type 0
+  EndsAround old new =
+      (text : Text) → Walked z (seen old.view.client) text z.cells
+      → AtStep d (λ p. NoneBound z p text) old new
+
+-- the record that a walk came to
+abbrev pub walked_to : Walk → Option SlotId
+walked_to (walk.Record strong) = Some strong.slot
+walked_to (walk.Absent passed) = None
+
+abbrev pub walked_by : {E : Type 0} → Result Walk E → Option SlotId
+walked_by (Ok found) = walked_to found
+walked_by (Err error) = None
+
+-- how many interns it used
+abbrev pub used_by : {E : Type 0} → Bool → Result Walk E → ℕ
+used_by intern (Ok (walk.Record strong)) = spent intern
+used_by intern (Ok (walk.Absent passed)) = 0
+used_by intern (Err error) = 0
+
+-- At a step of the walk its text had this live record; or it had none, and the walk has passed so many cells, fewer
+-- than all.
+abbrev pub ComesTo : {P V : Type 0} → (V → View) → DomainState P → Area → List ℕ → Walk
+    → SeatState V → SeatState V → Type 0
+ComesTo seen d z head (walk.Record strong) old new =
+    AtStep d (λ p. IsBound z p (head ∷ []) strong.slot) old new
+ComesTo seen d z head (walk.Absent passed) old new =
+    AtStep d (λ p. NoneBound z p (head ∷ [])) old new
+    × (passed < z.cells) × Walked z (seen new.view.client) (head ∷ []) passed
 
 -- at a step of the call the bytes had this live record, or none
-abbrev pub Finds : DomainState DirectoryLaw → List ℕ → Option SlotId → SeatState View
-    → SeatState View → Type 0
-Finds d bytes None old new = AtStep d (λ p. HasNoRecord (area_of d) p bytes) old new
-Finds d bytes (Some s) old new = AtStep d (λ p. IsRecord (area_of d) p bytes s) old new
+module _ {P V : Type 0} (d : DomainState P) (z : Area) where
+  abbrev pub Finds : List ℕ → Option SlotId → SeatState V → SeatState V → Type 0
+  Finds bytes None old new = AtStep d (λ p. HasNoRecord z p bytes) old new
+  Finds bytes (Some s) old new = AtStep d (λ p. IsRecord z p bytes s) old new

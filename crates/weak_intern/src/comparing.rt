@@ -7,13 +7,13 @@ ghost use Rattle.domain_rule.specs.Views.{object_in};
 ghost use Rattle.weak_intern.specs.Steps.{Leaves};
 
 use acquire_retire::{Domain, Seat, SlotId};
-use directory_protocol::DirectoryLaw;
+use plain_protocol::Protocol;
 use slot_store::read;
 
 /// Whether the object in a slot that the seat holds has this payload. At most 16 steps.
-pub fn is_payload(
-    domain: &Domain<DirectoryLaw>,
-    seat: &mut Seat<DirectoryLaw>,
+pub fn is_payload<P: Protocol>(
+    domain: &Domain<P>,
+    seat: &mut Seat<P>,
     slot: SlotId,
     payload: &[u64; 16],
 ) -> bool

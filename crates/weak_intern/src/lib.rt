@@ -27,6 +27,7 @@ mod seeing;
 #[cfg(test)]
 mod tests;
 mod texts;
+mod walking;
 
 pub use comparing::is_payload;
 pub use directory::Directory;

@@ -18,7 +18,7 @@ const SHAPE: Shape = Shape {
 
 /// A domain of one seat with a directory of ten cells, and that seat.
 fn open_alone(rt: &HostRuntime) -> Result<(Domain<DirectoryLaw>, Seat<DirectoryLaw>), OpenError>
-    ensures { IfOk result (λ r. IsAtRest r.0 r.1 × HasRoom r.1.view.core × HasQuota r.1
+    ensures { IfOk result (λ r. IsAtRest r.0 r.1 × HasRoom r.1.view.core × HasQuota r.1.view.client
         × (r.0.protocol.first ≡ 0) × (r.0.protocol.cells ≡ 10) × (r.0.shape.weak_cells ≡ 10)) }
 {
     let quota = Quota { makes: 1, adds: 7 };

@@ -2,8 +2,28 @@
 ghost use Rattle.std.specs.Prelude.{◌≡◌, ◌≤◌, ◌<◌, ◌+◌, ◌%◌, ◌^◌, length, ◌∷◌, []};
 ghost use Rattle.directory_law.specs.Bytes.{IsTextOf};
 ghost use Rattle.directory_law.specs.Places.{hash_on};
+ghost use Rattle.weak_intern.specs.Sought.{IsSought};
 
 use plain_state::record_of;
+
+/// A text of one slot that a walk looks for.
+#[derive(Drop)]
+pub struct Sought {
+    /// The payload of its head.
+    pub head: [u64; 16],
+    /// The number from which its place is taken.
+    pub hash: u64,
+}
+
+/// What a walk looks for that is for this text.
+pub(crate) fn sought_of(text: &[u8]) -> Sought
+    requires { (1 ≤ length text.now) × (length text.now ≤ 120) }
+    ensures { IsSought text.now result.head result.hash }
+{
+    let head = head_of(text);
+    let hash = hash_of(text);
+    Sought { head, hash }
+}
 
 /// The payload of the head that has a whole text, of 1 to 120 bytes.
 pub fn head_of(text: &[u8]) -> [u64; 16]

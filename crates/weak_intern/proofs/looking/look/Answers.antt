@@ -1,40 +1,53 @@
-use Rattle.weak_intern.specs.Walking.{met_by}
-use Rattle.weak_intern.proofs.Learnt.{learns_then}
+use Rattle.weak_intern.specs.Directories.{area_of}
+use Rattle.weak_intern.specs.Walking.{met_by, taken_by}
+use Rattle.weak_intern.proofs.Parts.{place_of, zero_then}
 use Rattle.weak_intern.proofs.Meeting.{held_there, look_leaves, look_met, saw_owned, saw_there}
 use Rattle.weak_intern.proofs.looking.look.Goals as goal
 
 pub meet-requires-clause-owned : goal.meet-requires-clause-owned
 meet-requires-clause-owned g c =
-    saw_owned c.args.seat.now c.see.new.seat c.see.new.seat c.args.domain.now c.in-Some.weak.slot
+    saw_owned c.args.seat.now c.see.new.seat c.see.new.seat c.args.domain.now
+    (place_of g.P.Part.seen g.P.Part.with_seen g.P.Part.reads g.P.Part.puts_back
+    g.P.Part.puts_over)
+    (area_of (g.P.Part.part c.args.domain.now.protocol)) c.in-Some.weak.slot
     (held_there c.args.seat.now c.see.new.seat c.in_ok-weak.field-0 c.in-Some.weak c.in-Some.is
     c.in_ok-weak.ensures.leaves)
 
 pub meet-requires-clause-saw : goal.meet-requires-clause-saw
 meet-requires-clause-saw g c = (
   c.args.cell,
-  saw_there c.args.domain.now c.args.cell c.args.seat.now c.see.new.seat c.in_ok-weak.field-0
-      c.in-Some.weak c.in-Some.is c.in_ok-weak.ensures.sees,
+  saw_there g.P.Part.seen c.args.domain.now (area_of (g.P.Part.part c.args.domain.now.protocol))
+      c.args.cell c.args.seat.now c.see.new.seat c.in_ok-weak.field-0 c.in-Some.weak c.in-Some.is
+      c.in_ok-weak.ensures.sees,
 )
 
 pub returns-in-Some-clause-meets : goal.returns-in-Some-clause-meets
 returns-in-Some-clause-meets g c =
-    look_met c.args.seat.now c.see.new.seat c.meet.new.seat c.args.domain.now c.in-Some.weak.slot
+    look_met c.args.seat.now c.see.new.seat c.meet.new.seat c.args.domain.now
+    (place_of g.P.Part.seen g.P.Part.with_seen g.P.Part.reads g.P.Part.puts_back
+    g.P.Part.puts_over)
+    (area_of (g.P.Part.part c.args.domain.now.protocol)) c.in-Some.weak.slot
     (held_there c.args.seat.now c.see.new.seat c.in_ok-weak.field-0 c.in-Some.weak c.in-Some.is
     c.in_ok-weak.ensures.leaves)
     c.args.cell c.args.head.now c.meet.result
-    (saw_there c.args.domain.now c.args.cell c.args.seat.now c.see.new.seat c.in_ok-weak.field-0
-    c.in-Some.weak c.in-Some.is c.in_ok-weak.ensures.sees)
+    (saw_there g.P.Part.seen c.args.domain.now (area_of (g.P.Part.part c.args.domain.now.protocol))
+    c.args.cell c.args.seat.now c.see.new.seat c.in_ok-weak.field-0 c.in-Some.weak c.in-Some.is
+    c.in_ok-weak.ensures.sees)
     c.see.ensures.learns c.meet.ensures.meets
 
 pub returns-in-Some-clause-leaves : goal.returns-in-Some-clause-leaves
 returns-in-Some-clause-leaves g c =
     look_leaves c.args.seat.now c.see.new.seat c.meet.new.seat c.args.domain.now
-    c.in-Some.weak.slot
+    (place_of g.P.Part.seen g.P.Part.with_seen g.P.Part.reads g.P.Part.puts_back
+    g.P.Part.puts_over)
+    (area_of (g.P.Part.part c.args.domain.now.protocol)) c.in-Some.weak.slot
     (held_there c.args.seat.now c.see.new.seat c.in_ok-weak.field-0 c.in-Some.weak c.in-Some.is
     c.in_ok-weak.ensures.leaves)
     (met_by c.meet.result) c.meet.ensures.leaves
 
 pub returns-in-Some-clause-learns : goal.returns-in-Some-clause-learns
 returns-in-Some-clause-learns g c =
-    learns_then c.args.seat.now.view.client c.see.new.seat.view.client c.meet.new.seat.view.client
-    c.see.ensures.learns c.meet.ensures.learns
+    zero_then (place_of g.P.Part.seen g.P.Part.with_seen g.P.Part.reads g.P.Part.puts_back
+    g.P.Part.puts_over)
+    (taken_by c.args.intern c.meet.result) c.args.seat.now.view.client c.see.new.seat.view.client
+    c.meet.new.seat.view.client c.see.ensures.learns c.meet.ensures.learns

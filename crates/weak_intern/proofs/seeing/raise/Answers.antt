@@ -1,16 +1,71 @@
-use Rattle.weak_intern.proofs.Raised.{raised_learns, raised_live}
+use Rattle.std.proofs.Common.{ap, sym, subst}
+use Rattle.weak_intern.specs.Directories.{CanCount, area_of}
+use Rattle.weak_intern.specs.Walking.{raised_by}
+use Rattle.weak_intern.proofs.Parts.{part_as, place_of}
+use Rattle.weak_intern.proofs.Raised.{raised_ended, raised_learns, raised_leaves, raised_live, ready}
 use Rattle.weak_intern.proofs.seeing.raise.Goals as goal
 
+pub upgrade-raised-requires-clause-deed : goal.upgrade-raised-requires-clause-deed
+upgrade-raised-requires-clause-deed g c =
+    ready g.P.Kind.PayloadKind.fits c.args.domain.now
+    (place_of g.P.Part.seen g.P.Part.with_seen g.P.Part.reads g.P.Part.puts_back
+    g.P.Part.puts_over)
+    (area_of (g.P.Part.part c.args.domain.now.protocol)) c.new-deed.result.deed.intern
+    c.args.weak.slot c.args.seat.now c.requires.owned _ _ _
+    (g.met.P.Part.frees c.args.domain.now.protocol)
+    (g.met.P.HasDirectory.minds_none c.args.domain.now.protocol)
+    c.requires.saw
+    (subst (λ b. CanCount b (g.P.Part.seen c.args.seat.now.view.client))
+    (sym (ap (λ x. x.intern) c.new-deed.ensures)) c.requires.quota)
+
 pub returns-clause-live : goal.returns-clause-live
-returns-clause-live c =
-    raised_live c.args.domain.now c.args.weak.slot c.args.seat.now c.requires.owned
+returns-clause-live g c =
+    raised_live g.P.Kind.PayloadKind.fits c.args.domain.now
+    (place_of g.P.Part.seen g.P.Part.with_seen g.P.Part.reads g.P.Part.puts_back
+    g.P.Part.puts_over)
+    (area_of (g.P.Part.part c.args.domain.now.protocol)) c.new-deed.result.deed.intern
+    c.args.weak.slot c.args.seat.now c.requires.owned
     c.drop_weak.new.seat c.upgrade-raised.new.seat c.upgrade-raised.result
     c.upgrade-raised.ensures.upgraded c.upgrade-raised.ensures.objects c.drop_weak.ensures.dropped
     c.drop_weak.ensures.objects c.drop_weak.ensures.client c.upgrade-raised.ensures.owned
 
+pub returns-clause-ended : goal.returns-clause-ended
+returns-clause-ended g c =
+    raised_ended g.P.Kind.PayloadKind.fits c.args.domain.now
+    (place_of g.P.Part.seen g.P.Part.with_seen g.P.Part.reads g.P.Part.puts_back
+    g.P.Part.puts_over)
+    (area_of (g.P.Part.part c.args.domain.now.protocol)) c.new-deed.result.deed.intern
+    c.args.weak.slot c.args.seat.now c.requires.owned
+    c.drop_weak.new.seat c.upgrade-raised.new.seat c.upgrade-raised.result
+    c.upgrade-raised.ensures.upgraded c.upgrade-raised.ensures.objects c.drop_weak.ensures.dropped
+    c.drop_weak.ensures.objects c.drop_weak.ensures.client c.upgrade-raised.ensures.ended
+
 pub returns-clause-learns : goal.returns-clause-learns
-returns-clause-learns c =
-    raised_learns c.args.domain.now c.args.weak.slot c.args.seat.now c.requires.owned
+returns-clause-learns g c =
+    part_as
+    (place_of g.P.Part.seen g.P.Part.with_seen g.P.Part.reads g.P.Part.puts_back
+    g.P.Part.puts_over)
+    (raised_by c.new-deed.result.deed.intern c.upgrade-raised.result)
+    (raised_by c.args.intern c.upgrade-raised.result) c.args.seat.now.view.client
+    c.drop_weak.new.seat.view.client
+    (ap (λ x. raised_by x.intern c.upgrade-raised.result) c.new-deed.ensures)
+    (raised_learns g.P.Kind.PayloadKind.fits c.args.domain.now
+    (place_of g.P.Part.seen g.P.Part.with_seen g.P.Part.reads g.P.Part.puts_back
+    g.P.Part.puts_over)
+    (area_of (g.P.Part.part c.args.domain.now.protocol)) c.new-deed.result.deed.intern
+    c.args.weak.slot c.args.seat.now c.requires.owned
+    c.drop_weak.new.seat c.upgrade-raised.new.seat c.upgrade-raised.result
+    c.upgrade-raised.ensures.upgraded c.upgrade-raised.ensures.objects c.drop_weak.ensures.dropped
+    c.drop_weak.ensures.objects c.drop_weak.ensures.client c.upgrade-raised.ensures.refused
+    c.upgrade-raised.ensures.ended)
+
+pub returns-clause-leaves : goal.returns-clause-leaves
+returns-clause-leaves g c =
+    raised_leaves g.P.Kind.PayloadKind.fits c.args.domain.now
+    (place_of g.P.Part.seen g.P.Part.with_seen g.P.Part.reads g.P.Part.puts_back
+    g.P.Part.puts_over)
+    (area_of (g.P.Part.part c.args.domain.now.protocol)) c.new-deed.result.deed.intern
+    c.args.weak.slot c.args.seat.now c.requires.owned
     c.drop_weak.new.seat c.upgrade-raised.new.seat c.upgrade-raised.result
     c.upgrade-raised.ensures.upgraded c.upgrade-raised.ensures.objects c.drop_weak.ensures.dropped
     c.drop_weak.ensures.objects c.drop_weak.ensures.client c.upgrade-raised.ensures.refused

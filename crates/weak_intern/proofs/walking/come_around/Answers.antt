@@ -1,0 +1,36 @@
+use Rattle.weak_intern.specs.Directories.{area_of}
+use Rattle.weak_intern.proofs.Found.{around_client, around_ends, around_leaves, around_rest}
+use Rattle.weak_intern.proofs.Parts.{place_of}
+use Rattle.weak_intern.proofs.walking.come_around.Goals as goal
+
+pub returns-clause-ends : goal.returns-clause-ends
+returns-clause-ends g c =
+    around_ends g.P.Kind.PayloadKind.fits c.args.domain.now
+    (place_of g.P.Part.seen g.P.Part.with_seen g.P.Part.reads g.P.Part.puts_back
+    g.P.Part.puts_over)
+    (area_of (g.P.Part.part c.args.domain.now.protocol)) c.number-at.result c.args.seat.now
+    c.look.new.seat c.look.result c.look.ensures
+
+pub returns-clause-leaves : goal.returns-clause-leaves
+returns-clause-leaves g c =
+    around_leaves g.P.Kind.PayloadKind.fits c.args.domain.now
+    (place_of g.P.Part.seen g.P.Part.with_seen g.P.Part.reads g.P.Part.puts_back
+    g.P.Part.puts_over)
+    (area_of (g.P.Part.part c.args.domain.now.protocol)) c.number-at.result c.args.seat.now
+    c.look.new.seat c.look.result c.look.ensures
+
+pub returns-clause-client : goal.returns-clause-client
+returns-clause-client g c =
+    around_client g.P.Kind.PayloadKind.fits c.args.domain.now
+    (place_of g.P.Part.seen g.P.Part.with_seen g.P.Part.reads g.P.Part.puts_back
+    g.P.Part.puts_over)
+    (area_of (g.P.Part.part c.args.domain.now.protocol)) c.number-at.result c.args.seat.now
+    c.look.new.seat c.look.result c.look.ensures
+
+pub returns-clause-rest : goal.returns-clause-rest
+returns-clause-rest g c =
+    around_rest g.P.Kind.PayloadKind.fits c.args.domain.now
+    (place_of g.P.Part.seen g.P.Part.with_seen g.P.Part.reads g.P.Part.puts_back
+    g.P.Part.puts_over)
+    (area_of (g.P.Part.part c.args.domain.now.protocol)) c.number-at.result c.args.seat.now
+    c.look.new.seat c.look.result c.look.ensures c.requires.rest

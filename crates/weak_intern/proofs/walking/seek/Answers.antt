@@ -1,0 +1,104 @@
+use Rattle.std.proofs.Common.{arith}
+use Rattle.std.proofs.lemmas.Result.{err_from_is_err_and}
+use Rattle.weak_intern.specs.Directories.{area_of}
+use Rattle.weak_intern.proofs.Found.{around_found, at_cell, null_found, null_leaves, other_passed, record_found, record_leaves, refused_learns}
+use Rattle.weak_intern.proofs.Parts.{place_of}
+use Rattle.weak_intern.proofs.walking.seek.Goals as goal
+
+pub returns-in_err-look-clause-learns : goal.returns-in_err-look-clause-learns
+returns-in_err-look-clause-learns g c =
+    let p = err_from_is_err_and c.from_residual.result c.from_residual.ensures.1 in
+    refused_learns c.args.domain.now
+    (place_of g.P.Part.seen g.P.Part.with_seen g.P.Part.reads g.P.Part.puts_back
+    g.P.Part.puts_over)
+    (area_of (g.P.Part.part c.args.domain.now.protocol)) c.args.sought.now.head c.args.seat.now
+    c.loop-passed.passed c.loop-passed.seat
+    c.look.new.seat c.loop-passed.invariant c.args.intern c.from_residual.result p.0 p.1
+    c.in_err-look.ensures.learns
+
+pub returns-in-Null-clause-comes : goal.returns-in-Null-clause-comes
+returns-in-Null-clause-comes g c =
+    (null_found c.args.domain.now
+    (place_of g.P.Part.seen g.P.Part.with_seen g.P.Part.reads g.P.Part.puts_back
+    g.P.Part.puts_over)
+    (area_of (g.P.Part.part c.args.domain.now.protocol)) c.args.sought.now.head c.args.seat.now
+    c.loop-passed.passed c.loop-passed.seat
+    c.look.new.seat c.loop-passed.invariant c.args.intern c.cell_on-cell.result
+    c.in_ok-look.field-0 c.in-Null.is
+    (at_cell (area_of (g.P.Part.part c.args.domain.now.protocol)) c.args.sought.now.head
+    c.args.sought.now.hash c.loop-passed.passed c.args.directory.now.cells c.cell_on-cell.result
+    c.requires.sought.place c.requires.over.cells c.cell_on-cell.ensures.cell)
+    c.in_ok-look.ensures.meets c.in_ok-look.ensures.learns
+    (omega (arith, c.loop-passed-test.true, c.requires.over.cells))).0
+
+pub returns-in-Null-clause-leaves : goal.returns-in-Null-clause-leaves
+returns-in-Null-clause-leaves g c =
+    null_leaves c.args.domain.now
+    (place_of g.P.Part.seen g.P.Part.with_seen g.P.Part.reads g.P.Part.puts_back
+    g.P.Part.puts_over)
+    (area_of (g.P.Part.part c.args.domain.now.protocol)) c.args.sought.now.head c.args.seat.now
+    c.loop-passed.passed c.loop-passed.seat
+    c.look.new.seat c.loop-passed.invariant c.in_ok-look.field-0 c.in-Null.is
+    c.in_ok-look.ensures.leaves
+
+pub returns-in-Null-clause-learns : goal.returns-in-Null-clause-learns
+returns-in-Null-clause-learns g c =
+    (null_found c.args.domain.now
+    (place_of g.P.Part.seen g.P.Part.with_seen g.P.Part.reads g.P.Part.puts_back
+    g.P.Part.puts_over)
+    (area_of (g.P.Part.part c.args.domain.now.protocol)) c.args.sought.now.head c.args.seat.now
+    c.loop-passed.passed c.loop-passed.seat
+    c.look.new.seat c.loop-passed.invariant c.args.intern c.cell_on-cell.result
+    c.in_ok-look.field-0 c.in-Null.is
+    (at_cell (area_of (g.P.Part.part c.args.domain.now.protocol)) c.args.sought.now.head
+    c.args.sought.now.hash c.loop-passed.passed c.args.directory.now.cells c.cell_on-cell.result
+    c.requires.sought.place c.requires.over.cells c.cell_on-cell.ensures.cell)
+    c.in_ok-look.ensures.meets c.in_ok-look.ensures.learns
+    (omega (arith, c.loop-passed-test.true, c.requires.over.cells))).1
+
+pub returns-in-Record-clause-leaves : goal.returns-in-Record-clause-leaves
+returns-in-Record-clause-leaves g c =
+    record_leaves c.args.domain.now
+    (place_of g.P.Part.seen g.P.Part.with_seen g.P.Part.reads g.P.Part.puts_back
+    g.P.Part.puts_over)
+    (area_of (g.P.Part.part c.args.domain.now.protocol)) c.args.sought.now.head c.args.seat.now
+    c.loop-passed.passed c.loop-passed.seat
+    c.look.new.seat c.loop-passed.invariant c.in_ok-look.field-0 c.in-Record.strong c.in-Record.is
+    c.in_ok-look.ensures.leaves
+
+pub returns-in-Record-clause-learns : goal.returns-in-Record-clause-learns
+returns-in-Record-clause-learns g c =
+    (record_found c.args.domain.now
+    (place_of g.P.Part.seen g.P.Part.with_seen g.P.Part.reads g.P.Part.puts_back
+    g.P.Part.puts_over)
+    (area_of (g.P.Part.part c.args.domain.now.protocol)) c.args.sought.now.head c.args.seat.now
+    c.loop-passed.passed c.loop-passed.seat
+    c.look.new.seat c.loop-passed.invariant c.args.intern c.cell_on-cell.result
+    c.in_ok-look.field-0 c.in-Record.strong c.in-Record.is c.in_ok-look.ensures.meets
+    c.in_ok-look.ensures.learns).1
+
+pub loop-passed-preserved : goal.loop-passed-preserved
+loop-passed-preserved g c =
+    other_passed c.args.domain.now
+    (place_of g.P.Part.seen g.P.Part.with_seen g.P.Part.reads g.P.Part.puts_back
+    g.P.Part.puts_over)
+    (area_of (g.P.Part.part c.args.domain.now.protocol)) c.args.sought.now.head c.args.seat.now
+    c.loop-passed.passed c.loop-passed.seat
+    c.look.new.seat c.loop-passed.invariant c.args.intern c.cell_on-cell.result
+    c.in_ok-look.field-0 c.in-Other.is
+    (at_cell (area_of (g.P.Part.part c.args.domain.now.protocol)) c.args.sought.now.head
+    c.args.sought.now.hash c.loop-passed.passed c.args.directory.now.cells c.cell_on-cell.result
+    c.requires.sought.place c.requires.over.cells c.cell_on-cell.ensures.cell)
+    c.in_ok-look.ensures.meets c.in_ok-look.ensures.leaves c.in_ok-look.ensures.learns
+    c.in_ok-look.ensures.refused c.look.ensures.room c.look.ensures.rest
+
+pub returns-clause-comes : goal.returns-clause-comes
+returns-clause-comes g c =
+    around_found c.args.domain.now
+    (place_of g.P.Part.seen g.P.Part.with_seen g.P.Part.reads g.P.Part.puts_back
+    g.P.Part.puts_over)
+    (area_of (g.P.Part.part c.args.domain.now.protocol)) c.args.sought.now.head c.args.seat.now
+    c.loop-passed.passed c.loop-passed.seat
+    c.come_around.new.seat c.loop-passed.invariant
+    (omega (arith, c.loop-passed-test.false, c.requires.over.cells))
+    (omega (arith, c.requires.over.some_cells, c.requires.over.cells)) c.come_around.ensures.ends

@@ -1,0 +1,87 @@
+//! The walk of a text over the cells of a directory.
+ghost use Rattle.std.specs.Prelude.{◌≡◌, IfOk, IsErr};
+ghost use Rattle.core_events.specs.Steps.{HasRoom};
+ghost use Rattle.control_word.specs.Resting.{IsAtRest, IsSpent};
+ghost use Rattle.weak_intern.specs.Directories.{CanCount, IsOver, area_of};
+ghost use Rattle.weak_intern.specs.Learning.{LearnsIn};
+ghost use Rattle.weak_intern.specs.Sought.{IsOne};
+ghost use Rattle.weak_intern.specs.Steps.{Leaves, with_found};
+ghost use Rattle.weak_intern.specs.Walking.{ComesTo, EndsAround, used_by, walked_by};
+
+use crate::directory::Directory;
+use crate::looking::{Sight, look};
+use crate::seeing::number;
+use crate::texts::{Sought, cell_on};
+use acquire_retire::{Domain, EventPlace, Seat};
+use counted_handles::{Spent, Strong};
+use directory_protocol::{DirectoryLaw, HasDirectory, LookAtCell};
+use protocol_pairs::InPart;
+use std::sync::Wait;
+
+/// Where a walk ended.
+#[derive(Debug, Drop)]
+pub enum Walk {
+    /// At the live record.
+    Record(Strong),
+    /// There was none. The walk has passed so many cells, or starts again where it has passed all.
+    Absent(u32),
+}
+
+/// Walks over the cells for a text of one slot, up to its live record or a null cell. Where it comes to the record, an
+/// intern of the seat is used if that is asked.
+pub(crate) fn seek<R: Wait, S, P: HasDirectory<S>>(
+    rt: &R,
+    domain: &Domain<P>,
+    seat: &mut Seat<P>,
+    directory: &Directory,
+    sought: &Sought,
+    intern: bool,
+) -> Result<Walk, Spent>
+    requires rest { IsAtRest domain.now seat.old }
+    requires room { HasRoom seat.old.view.core }
+    requires over { IsOver domain.now (P.part domain.now.protocol) directory.now }
+    requires quota { CanCount intern (P.seen seat.old.view.client) }
+    requires sought { IsOne sought.now.head sought.now.hash }
+    ensures comes { IfOk result (λ walk. ComesTo P.seen domain.now
+        (area_of (P.part domain.now.protocol)) sought.now.head walk seat.old seat.new) }
+    ensures spent { IsErr result → IsSpent seat.new.view.core }
+    ensures refused { IsSpent seat.old.view.core → IsErr result }
+    ensures leaves { Leaves (with_found (walked_by result) seat.old.view.core.owned)
+        seat.old.view.core.weaks seat.old seat.new }
+    ensures learns { LearnsIn P.seen P.with_seen (used_by intern result)
+        seat.old.view.client seat.new.view.client }
+    ensures room { HasRoom seat.new.view.core }
+    ensures rest { IsAtRest domain.now seat.new }
+{
+    for passed in 0..directory.cells {
+        let cell = cell_on(sought.hash, passed, directory.cells);
+        match look::<R, S, P>(rt, domain, seat, directory, cell, &sought.head, intern)? {
+            Sight::Null => return Ok(Walk::Absent(passed)),
+            Sight::Record(strong) => return Ok(Walk::Record(strong)),
+            Sight::Other => {}
+        }
+    }
+    come_around::<S, P>(domain, seat, directory);
+    Ok(Walk::Absent(0))
+}
+
+/// A last look, at whichever cell, where a walk has passed them all. One step.
+fn come_around<S, P: HasDirectory<S>>(
+    domain: &Domain<P>,
+    seat: &mut Seat<P>,
+    directory: &Directory,
+)
+    requires rest { IsAtRest domain.now seat.old }
+    requires room { HasRoom seat.old.view.core }
+    requires over { IsOver domain.now (P.part domain.now.protocol) directory.now }
+    ensures ends { EndsAround P.seen domain.now (area_of (P.part domain.now.protocol))
+        seat.old seat.new }
+    ensures leaves { Leaves seat.old.view.core.owned seat.old.view.core.weaks seat.old seat.new }
+    ensures client { seat.new.view.client ≡ seat.old.view.client }
+    ensures room { HasRoom seat.new.view.core }
+    ensures rest { IsAtRest domain.now seat.new }
+{
+    let at = number::<S, P>(domain, directory, 0);
+    let deed = InPart::<DirectoryLaw, S, LookAtCell>::new(LookAtCell);
+    domain.look(seat, EventPlace::WeakCell(at), deed);
+}
