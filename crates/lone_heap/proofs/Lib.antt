@@ -3,4 +3,7 @@ pub mod Stepping
 pub mod Tidying
 pub mod Turns
 pub mod Holding
--- pub mod Settled
+pub mod Makes
+pub mod Counted
+pub mod Settled
+pub mod Opened
