@@ -1,0 +1,9 @@
+pub mod Owing
+pub mod Stepping
+pub mod Tidying
+pub mod Turns
+pub mod Holding
+pub mod Makes
+pub mod Counted
+pub mod Settled
+pub mod Opened

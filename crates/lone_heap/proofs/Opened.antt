@@ -1,0 +1,86 @@
+-- A domain of one seat, as it is opened.
+use Rattle.std.proofs.Common.{◌≡◌, ℕ, ◌<◌, List, [], ◌∷◌, length, refl, ap, sym, ◌∙◌, subst, arith}
+use Rattle.std.proofs.lemmas.List.Elements.{All-get_or}
+use Rattle.std.specs.Prelude.{All, slice_index_or}
+use Rattle.plain_state.specs.declared.slot.Kind.TheVariants.{Disposal}
+use Rattle.plain_state.specs.declared.slot.SlotId.{SlotId}
+use Rattle.plain_state.specs.State.{Plain, empty, seat_at}
+use Rattle.plain_state.proofs.Kit.{entry_none}
+use Rattle.atomic_table.specs.Seated.{TableId}
+use Rattle.core_events.specs.declared.shape.Quota.{Quota}
+use Rattle.core_events.specs.declared.shape.Shape.{Shape}
+use Rattle.core_events.specs.Runs.{AreTerms, IsShape, start}
+use Rattle.core_events.specs.Shows.{show_seat, shows}
+use Rattle.core_events.specs.Steps.{HasRoom}
+use Rattle.core_events.specs.Views.{Terms}
+use Rattle.domain_rule.proofs.StartShown.{start_shown}
+use Rattle.acquire_retire.specs.Domains.{DomainState}
+use Rattle.acquire_retire.specs.Openings.{begun_seat, opened_seats}
+use Rattle.acquire_retire.specs.Seats.{SeatState}
+use Rattle.control_word.specs.Resting.{IsAtRest}
+use Rattle.control_word.proofs.Beginning.{all_at_rest}
+use Rattle.lone_heap.specs.Lone.{IsReady, known_plain}
+
+-- such a domain, whatever its sizes and its seat's quota
+abbrev lone_domain : {P : Type 0} → TableId → P → ℕ → ℕ → ℕ → ℕ → Terms → DomainState P
+lone_domain table protocol slots cells weak_cells batch ts = record {
+  table = table;
+  protocol = protocol;
+  shape = record { seats = 1; slots = slots; cells = cells; weak_cells = weak_cells; batch = batch };
+  terms = ts;
+}
+
+module _ {P V : Type 0} (first : ℕ → V) (table : TableId) (protocol : P)
+    (slots cells weak_cells batch : ℕ) (ts : Terms) where
+  abbrev here : DomainState P
+  here = lone_domain table protocol slots cells weak_cells batch ts
+
+  module _ (ranges : IsShape here.shape × AreTerms here.shape ts) where
+    shown_first : known_plain here (begun_seat first here 0) ≡ empty 1 slots cells weak_cells
+    shown_first = start_shown here.shape ts ranges.1
+
+    at_first : IsAtRest here (begun_seat first here 0) × HasRoom (begun_seat first here 0).view.core
+    at_first =
+        All-get_or (λ (s : SeatState V). IsAtRest here s × HasRoom s.view.core)
+        (opened_seats first here) 0 (begun_seat first here 0) (omega arith)
+        (all_at_rest first here ranges.0)
+
+    ready_first : IsReady here (begun_seat first here 0)
+    ready_first =
+        record {
+          rest = at_first.0;
+          room = at_first.1;
+          alone = (refl, refl);
+          known = refl;
+          mine = ap (λ (p : Plain). seat_at p 0) shown_first;
+          disposals = λ x. entry_none Disposal x;
+        }
+
+module _ {P V : Type 0} (first : ℕ → V) (d : DomainState P) (protocol : P)
+    (slots cells weak_cells batch : ℕ) (ts : Terms)
+    (is : d ≡ lone_domain d.table protocol slots cells weak_cells batch ts)
+    (ranges : IsShape (lone_domain d.table protocol slots cells weak_cells batch ts).shape
+    × AreTerms (lone_domain d.table protocol slots cells weak_cells batch ts).shape ts) where
+  pub opened_shown : known_plain d (begun_seat first d 0) ≡ empty 1 slots cells weak_cells
+  opened_shown =
+      ap (λ (x : DomainState P). known_plain x (begun_seat first x 0)) is
+      ∙ shown_first first d.table protocol slots cells weak_cells batch ts ranges
+
+  pub opened_ready : IsReady d (begun_seat first d 0)
+  opened_ready =
+      subst (λ (x : DomainState P). IsReady x (begun_seat first x 0)) (sym is)
+      (ready_first first d.table protocol slots cells weak_cells batch ts ranges)
+
+  -- the first of the seats that were opened
+  pub opened_first : (s : SeatState V) → s ≡ slice_index_or (opened_seats first d) 0 s
+      → s ≡ begun_seat first d 0
+  opened_first s =
+      subst (λ (x : DomainState P). s ≡ slice_index_or (opened_seats first x) 0 s
+      → s ≡ begun_seat first x 0) (sym is) (λ got. got)
+
+  pub seat_shown : (s : SeatState V) → s ≡ slice_index_or (opened_seats first d) 0 s
+      → known_plain d s ≡ empty 1 slots cells weak_cells
+  seat_shown s got = ap (known_plain d) (opened_first s got) ∙ opened_shown
+
+  pub seat_ready : (s : SeatState V) → s ≡ slice_index_or (opened_seats first d) 0 s → IsReady d s
+  seat_ready s got = subst (IsReady d) (sym (opened_first s got)) opened_ready

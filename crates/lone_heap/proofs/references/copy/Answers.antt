@@ -1,0 +1,35 @@
+use Rattle.std.proofs.Common.{◌≡◌}
+use Rattle.plain_store.specs.Calls.{Gains}
+use Rattle.counted_handles.specs.Handles.{Handle}
+use Rattle.acquire_retire.specs.Calls.{IsSameView, same_view}
+use Rattle.acquire_retire.proofs.Wholes.{then_ok}
+use Rattle.control_word.specs.Calls.{GainsStrong}
+use Rattle.lone_heap.specs.Lone.{known_plain}
+use Rattle.lone_heap.proofs.Holding.{gains_shown, gains_ready, ready_result}
+use Rattle.lone_heap.proofs.references.copy.Goals as goal
+
+pub returns-clause-gains : goal.returns-clause-gains
+returns-clause-gains g c =
+    then_ok
+    (λ (more : Handle). (more.slot ≡ c.args.handle.now.slot)
+    × GainsStrong g.P.Kind.PayloadKind.fits c.args.domain.now same_view IsSameView
+    c.args.handle.now.slot c.args.seat.now c.copy_strong.new.seat)
+    (λ (more : Handle). Gains (known_plain c.args.domain.now c.args.seat.now)
+    c.args.handle.now.slot more.slot (known_plain c.args.domain.now c.copy_strong.new.seat))
+    c.copy_strong.result
+    (λ more is.
+    gains_shown c.args.domain.now c.args.handle.now.slot c.args.seat.now c.copy_strong.new.seat
+    c.requires.ready c.copy_strong.ensures.rest c.copy_strong.ensures.room more.slot is.0 is.1)
+    c.copy_strong.ensures.copied
+
+pub returns-clause-ready : goal.returns-clause-ready
+returns-clause-ready g c =
+    ready_result c.args.domain.now
+    (λ (more : Handle). (more.slot ≡ c.args.handle.now.slot)
+    × GainsStrong g.P.Kind.PayloadKind.fits c.args.domain.now same_view IsSameView
+    c.args.handle.now.slot c.args.seat.now c.copy_strong.new.seat)
+    c.copy_strong.result c.args.seat.now c.copy_strong.new.seat c.requires.ready
+    c.copy_strong.ensures.copied c.copy_strong.ensures.refused
+    (λ more is.
+    gains_ready c.args.domain.now c.args.handle.now.slot c.args.seat.now c.copy_strong.new.seat
+    c.requires.ready c.copy_strong.ensures.rest c.copy_strong.ensures.room is.1)

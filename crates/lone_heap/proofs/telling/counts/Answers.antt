@@ -1,0 +1,46 @@
+use Rattle.std.proofs.Common.{◌≡◌, sym, subst, ap, ◌∙◌}
+use Rattle.plain_state.specs.References.{weak_refs}
+use Rattle.plain_state.specs.State.{Plain}
+use Rattle.lone_heap.specs.Lone.{IsReady, known_plain}
+use Rattle.lone_heap.proofs.Counted.{strong_ready, strong_told, weak_is, weak_ready, weak_same}
+use Rattle.lone_heap.proofs.telling.counts.Given as given
+use Rattle.lone_heap.proofs.telling.counts.Goals as goal
+
+ready : (g : given.Over) (c : goal.After-weak_count-weak g)
+    → IsReady c.args.domain.now c.strong_count-strong.new.seat
+ready g c =
+    strong_ready c.args.domain.now c.args.slot c.strong_count-strong.result c.args.seat.now
+    c.strong_count-strong.new.seat c.requires.ready c.strong_count-strong.ensures.counted
+    c.strong_count-strong.ensures.rest c.strong_count-strong.ensures.room
+
+pub returns-clause-strong : goal.returns-clause-strong
+returns-clause-strong g c =
+    (strong_told c.args.domain.now c.args.slot c.strong_count-strong.result c.args.seat.now
+    c.strong_count-strong.new.seat c.requires.ready c.requires.settled
+    c.strong_count-strong.ensures.counted).0
+
+pub returns-clause-weak : goal.returns-clause-weak
+returns-clause-weak g c =
+    weak_is c.args.domain.now c.args.slot c.strong_count-strong.new.seat
+    c.weak_count-weak.new.seat (ready g c) c.weak_count-weak.result
+    c.weak_count-weak.ensures.counted
+    ∙ ap (λ (p : Plain). weak_refs p c.args.slot)
+    (strong_told c.args.domain.now c.args.slot c.strong_count-strong.result c.args.seat.now
+    c.strong_count-strong.new.seat c.requires.ready c.requires.settled
+    c.strong_count-strong.ensures.counted).1
+
+pub returns-clause-same : goal.returns-clause-same
+returns-clause-same g c =
+    weak_same c.args.domain.now c.args.slot c.strong_count-strong.new.seat
+    c.weak_count-weak.new.seat (ready g c) c.weak_count-weak.result
+    c.weak_count-weak.ensures.counted
+    ∙ (strong_told c.args.domain.now c.args.slot c.strong_count-strong.result c.args.seat.now
+    c.strong_count-strong.new.seat c.requires.ready c.requires.settled
+    c.strong_count-strong.ensures.counted).1
+
+pub returns-clause-ready : goal.returns-clause-ready
+returns-clause-ready g c =
+    weak_ready c.args.domain.now c.args.slot c.strong_count-strong.new.seat
+    c.weak_count-weak.new.seat (ready g c) c.weak_count-weak.result
+    c.weak_count-weak.ensures.counted c.weak_count-weak.ensures.rest
+    c.weak_count-weak.ensures.room

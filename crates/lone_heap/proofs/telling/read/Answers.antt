@@ -1,0 +1,17 @@
+use Rattle.lone_heap.proofs.Counted.{sees_ready, sees_same, sees_word}
+use Rattle.lone_heap.proofs.telling.read.Goals as goal
+
+pub returns-clause-word : goal.returns-clause-word
+returns-clause-word g c =
+    sees_word c.args.domain.now c.args.slot c.args.seat.now c.read.new.seat c.requires.ready
+    c.args.word c.read.result c.read.ensures.seen
+
+pub returns-clause-same : goal.returns-clause-same
+returns-clause-same g c =
+    sees_same c.args.domain.now c.args.slot c.args.seat.now c.read.new.seat c.requires.ready
+    c.args.word c.read.result c.read.ensures.seen
+
+pub returns-clause-ready : goal.returns-clause-ready
+returns-clause-ready g c =
+    sees_ready c.args.domain.now c.args.slot c.args.seat.now c.read.new.seat c.requires.ready
+    c.args.word c.read.result c.read.ensures.seen c.read.ensures.rest c.read.ensures.room

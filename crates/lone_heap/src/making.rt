@@ -1,0 +1,38 @@
+//! A seat that is alone makes an object.
+ghost use Rattle.std.specs.Prelude.{◌≡◌, ◌↔◌, Err, IfOk};
+ghost use Rattle.plain_store.specs.Heaps.{Makes, NoneFree};
+ghost use Rattle.control_word.specs.Resting.{IsSpent};
+ghost use Rattle.slot_store.specs.Calls.{HasNoMake};
+ghost use Rattle.slot_store.specs.declared.making.MakeError.TheVariants as refused;
+ghost use Rattle.lone_heap.specs.Lone.{IsReady, known_plain};
+
+use acquire_retire::{Domain, Seat};
+use counted_handles::Strong;
+use plain_protocol::{AnyStep, NoLaw};
+use plain_state::PayloadKind;
+use slot_store::MakeError;
+
+/// A new object with this payload, and a reference to it that the seat owns. `MakesSpent` comes first, exactly where
+/// the seat has no make left, then `AddsSpent`, exactly where it has no add left; nothing has changed then. `Full`
+/// comes only where no slot is free, and the plain state is as it was. At most 18 steps more than there are slots.
+pub fn make<K: PayloadKind>(
+    domain: &Domain<NoLaw<K>>,
+    seat: &mut Seat<NoLaw<K>>,
+    payload: &[u64; 16],
+) -> Result<Strong, MakeError>
+    requires ready { IsReady domain.now seat.old }
+    requires fits { K.fits payload.now }
+    ensures makes_spent { (result ≡ Err refused.MakesSpent) ↔ HasNoMake seat.old.view.core }
+    ensures adds_spent { (result ≡ Err refused.AddsSpent)
+        ↔ ((HasNoMake seat.old.view.core → ⊥) × IsSpent seat.old.view.core) }
+    ensures no_make { result ≡ Err refused.MakesSpent → seat.new ≡ seat.old }
+    ensures no_add { result ≡ Err refused.AddsSpent → seat.new ≡ seat.old }
+    ensures full { result ≡ Err refused.Full → NoneFree (known_plain domain.now seat.old) }
+    ensures same { result ≡ Err refused.Full
+        → known_plain domain.now seat.new ≡ known_plain domain.now seat.old }
+    ensures made { IfOk result (λ strong. Makes (known_plain domain.now seat.old) strong.slot
+        payload.now (known_plain domain.now seat.new)) }
+    ensures ready { IsReady domain.now seat.new }
+{
+    slot_store::make(domain, seat, payload, AnyStep)
+}

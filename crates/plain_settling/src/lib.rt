@@ -1,0 +1,17 @@
+//! How a heap of one seat settles, whatever the order in which its entries wait.
+//!
+//! Of equal entries that wait to be given up only so many are kept as are announced. A plain heap lets later ones go;
+//! on a domain a scan may move entries, and which of equal ones it keeps can't be told. So what both do is said here by
+//! counts: an entry goes only while more of its kind wait than are announced. What nothing refers to ends, is cleared,
+//! destroyed, and given again.
+//!
+//! It isn't promised that there is nothing more to do: that is `IsSettled` of `plain_store`. Nothing here runs.
+//!
+//! ```text
+//! plain_heaps_settle_so();      // each settle of a plain heap is such a tidying
+//! ```
+#![tactic(auto)]
+
+mod laws;
+
+pub use laws::{plain_heaps_settle_so, settling_goes_on};
