@@ -7,14 +7,14 @@ ghost use Rattle.queue_law.specs.Owned as queue_owned;
 ghost use Rattle.queue_protocol.specs.Nodes.{IsNodePayload, node_weight};
 ghost use Rattle.directory_law.specs.Bytes.{IsPiece, piece_weight};
 ghost use Rattle.directory_law.specs.Owned as directory_owned;
-ghost use Rattle.words_law.specs.Pushes.{KeepsAll, PushesBound};
-ghost use Rattle.words_law.proofs.Parts.{directory_has, directory_rest, queue_has, queue_rest};
+ghost use Rattle.words_law.specs.Pushes.{KeepsAll, MayPush, PushesBound};
+ghost use Rattle.words_law.proofs.Parts.{directory_has, directory_rest, none_suits, push_suits, queue_has, queue_rest};
 ghost use Rattle.words_protocol.specs.Sides.{area_of, ends_of};
 
 use crate::law::WordsLaw;
-use directory_protocol::DirectoryLaw;
+use directory_protocol::{DirectoryLaw, HasDirectory};
 use protocol_pairs::{Left, Part, Right};
-use queue_protocol::QueueLaw;
+use queue_protocol::{HasQueue, QueueLaw};
 
 impl Part<QueueLaw, Left> for WordsLaw {
     ghost part = { λ it. it.pair.left };
@@ -43,6 +43,17 @@ impl Part<QueueLaw, Left> for WordsLaw {
         it.pair.left_own };
 }
 
+impl HasQueue<Left> for WordsLaw {
+    ghost may_push = { λ it. MayPush };
+
+    ghost stays = { λ it v w item may. may };
+
+    ghost accepts = { λ it. none_suits };
+
+    ghost accepts_push = { λ it v w item may too. push_suits v w
+        (record { item = item; taker = v.0.number }) too may };
+}
+
 impl Part<DirectoryLaw, Right> for WordsLaw {
     ghost part = { λ it. it.pair.right };
 
@@ -68,4 +79,8 @@ impl Part<DirectoryLaw, Right> for WordsLaw {
 
     ghost fits = { λ it. right_fits IsNodePayload IsPiece node_weight piece_weight
         it.pair.right_own };
+}
+
+impl HasDirectory<Right> for WordsLaw {
+    ghost minds_none = { λ it v w keeps. keeps };
 }
