@@ -45,6 +45,7 @@ pub struct Opened {
 fn open_all(alloc: Global, threads: u32) -> Result<(Domain<Objects>, Vec<Seat<Objects>>), Fault>
     requires { (1 ≤ threads) × (threads ≤ 15) }
     ensures cells { IfOk result (λ opened. 0 < opened.0.shape.cells) }
+    ensures slots { IfOk result (λ opened. 0 < opened.0.shape.slots) }
     ensures seats { IfOk result (λ opened. 0 < length opened.1.items) }
     ensures free { IfOk result (λ opened. All (IsFree opened.0) opened.1.items) }
 {
@@ -64,6 +65,7 @@ fn open_all(alloc: Global, threads: u32) -> Result<(Domain<Objects>, Vec<Seat<Ob
 pub fn open(alloc: Global, threads: u32) -> Result<Opened, Fault>
     requires { (1 ≤ threads) × (threads ≤ 15) }
     ensures cells { IfOk result (λ opened. 0 < opened.domain.shape.cells) }
+    ensures slots { IfOk result (λ opened. 0 < opened.domain.shape.slots) }
     ensures root { IfOk result (λ opened. IsFree opened.domain opened.root) }
     ensures workers { IfOk result (λ opened. All (IsFree opened.domain) opened.workers.items) }
 {

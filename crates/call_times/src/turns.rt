@@ -5,7 +5,7 @@ ghost use Rattle.control_word.specs.Resting.{IsAtRest};
 
 use crate::domain::Objects;
 use crate::operation::Operation;
-use crate::strong_turns::{copies, loads, makes, snapshots, stores};
+use crate::strong_turns::{announces, copies, loads, makes, snapshots, stores};
 use crate::weak_turns::upgrades;
 use acquire_retire::{Domain, Seat};
 use std::sync::Wait;
@@ -20,9 +20,11 @@ pub fn make_turns<R: Wait>(
     requires rest { IsAtRest domain.now seat }
     requires room { HasRoom seat.view.core }
     requires cell { 0 < domain.now.shape.cells }
+    requires slot { 0 < domain.now.shape.slots }
 {
     let turns = operation.turns();
     match operation {
+        Operation::Announce => announces(domain, &mut seat, turns),
         Operation::Load => loads(rt, domain, &mut seat, turns),
         Operation::Snapshot => snapshots(rt, domain, &mut seat, turns),
         Operation::Store => stores(domain, &mut seat, turns),
