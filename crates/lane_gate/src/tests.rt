@@ -10,6 +10,7 @@ use std::io::{Error, ErrorKind, Read};
 use std::process::Abort;
 use std::sync::Wait;
 use std::test::Fail;
+use std::thread::join;
 use std::{env, fs, io, process};
 
 fn entries(alloc: Global, rows: &[(&str, &str)]) -> Result<Vec<(String, Vec<u8>)>, AllocError> {
@@ -244,4 +245,29 @@ fn pass<R: Wait, G: Gate>(rt: &R, gate: &G) {
 #[test]
 fn the_open_gate_lets_a_lane_pass(rt: HostRuntime) {
     pass(&rt, &Open);
+}
+
+/// A lane that passes before each of its pieces.
+fn pass_all<R: Wait, G: Gate>(rt: &R, gate: &G, lane: u32, pieces: u64) {
+    for turn in 0..pieces {
+        gate.pass(rt, lane, turn);
+    }
+}
+
+#[test]
+fn two_lanes_meet_at_their_gate(rt: HostRuntime) {
+    let gate = Meet::new(100_000_000);
+    join(
+        &rt,
+        || pass_all(&rt, &gate, 0, 3),
+        || pass_all(&rt, &gate, 1, 3),
+    );
+    assert!(rt; gate.met());
+}
+
+#[test]
+fn a_lane_that_nobody_meets_goes_on(rt: HostRuntime) {
+    let gate = Meet::new(1_000);
+    pass_all(&rt, &gate, 0, 3);
+    assert!(rt; !gate.met());
 }
