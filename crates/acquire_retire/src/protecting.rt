@@ -118,6 +118,8 @@ impl<P: Protocol> Domain<P> {
     /// Reads the next announcement word of the domain. The last one splits the retired entries: of equal ones as many
     /// stay as were announced, and the others become owed; and the dying slots that no word announces for disposal
     /// become ripe.
+    // A collect makes this call for each announcement word of the domain.
+    #[inline(always)]
     pub fn scan(&self, seat: &mut Seat<P>) -> Outcome
         requires seat { IsOf self.now seat.old }
         requires may { May self.now.shape act.Scan seat.old.view.core }

@@ -28,6 +28,8 @@ pub struct Moved {
 /// step found null, and it is the only step then. `Moved` exactly where the place held another content after the
 /// announcement; the announcement is taken back, and nothing has changed but the trail. The first deed holds at the
 /// look where that finds null, else the second one at the check. At most four steps.
+// A load waits for its answer where that is handed over in memory.
+#[inline(always)]
 pub fn acquire<P: Protocol, L: Deed<P>, C: Deed<P>>(
     domain: &Domain<P>,
     seat: &mut Seat<P>,
