@@ -13,3 +13,4 @@ pub mod Root
 pub mod Taken
 pub mod Alive
 pub mod Seats
+pub mod Forgets

@@ -2,6 +2,7 @@
 use Rattle.std.specs.Prelude.{◌≡◌, ◌⊎◌, List, [], ◌∷◌}
 use Rattle.directory_law.specs.declared.view.Ran.{Ran}
 use Rattle.directory_law.specs.declared.view.Rope.{Rope}
+use Rattle.directory_law.specs.declared.view.Seen.{Seen}
 use Rattle.directory_law.specs.declared.view.View.{View as DirectoryView}
 use Rattle.directory_law.specs.Payloads.{Text, IsText}
 use Rattle.directory_law.specs.Views.{In, rope}
@@ -31,3 +32,8 @@ KnowsTexts v (x ∷ xs) (t ∷ ts) = KnowsText v x t × KnowsTexts v xs ts
 pub record KnowsMore (v w : DirectoryView) : Type 0 where
   pub kept : (e : Rope) → In e v.kept → In e w.kept
   pub ran : (e : Ran) → In e v.ran → In e w.ran
+
+-- and it goes on to have seen what that one had
+pub record ForgetsNothing (v w : DirectoryView) : Type 0 where
+  pub knows : KnowsMore v w
+  pub saw : (e : Seen) → In e v.seen → In e w.seen

@@ -17,10 +17,12 @@
 //! ```
 #![tactic(auto)]
 
+mod deeds;
 mod laws;
 mod promises;
 mod shares;
 
+pub use deeds::directory_deeds_forget_nothing;
 pub use laws::{
     each_part_keeps_the_law, items_are_read_in_turn, others_keep_the_law, what_may_be_pushed,
 };

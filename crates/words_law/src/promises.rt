@@ -6,6 +6,7 @@ ghost use Rattle.plain_protocol.specs.Laws.{Meets};
 ghost use Rattle.plain_protocol.specs.Owns.{is_alone};
 ghost use Rattle.queue_law.specs.declared.view.Item.{Item};
 ghost use Rattle.queue_law.specs.declared.view.Taken.{Taken};
+ghost use Rattle.queue_law.specs.declared.view.View.{View as QueueView};
 ghost use Rattle.queue_law.specs.Views as queue;
 ghost use Rattle.queue_law.specs.Chain.{Ends};
 ghost use Rattle.queue_law.specs.Law.{QueueLaw};
@@ -24,8 +25,6 @@ ghost use Rattle.words_law.specs.Owned.{join_directories};
 ghost use Rattle.words_law.specs.Texts.{HasAll, HasOneText, HasRootText, IsAlive, IsOwnList, PushesAre, WordsAgree, all_popped, all_pushed, text_of_item, word_times, words_of};
 ghost use Rattle.words_law.specs.Fold.{File, added, gathered, occurrences_in, taken_pieces};
 ghost use Rattle.words_law.specs.Known.{KnowsMore, KnowsText, KnowsTexts};
-
-use queue_law::View as QueueView;
 
 /// Each item that was pushed has one text, which a view keeps for its slot, in its life. What a view tells of an
 /// item's text is so.

@@ -13,8 +13,8 @@ pub fn counts_add_up()
         → times w (gathered words seats) ≡ added (λ n. times w (words n)) seats }
 {}
 
-/// Worked pieces and reports: a word of 121 bytes is one piece, whose record has two slots; the same word in each of two
-/// files, in three rounds.
+/// Worked pieces and reports: a word of 121 bytes is one piece, whose record has two slots, and a field of 4,097 bytes is
+/// two; two words in two files, in three rounds.
 pub fn worked_reports()
     ensures piece { long_pieces (replicate 121 120) ≡ replicate 121 120 ∷ [] }
     ensures cut { long_cut (replicate 4097 120) ≡ replicate 4096 120 ∷ (120 ∷ []) ∷ [] }
