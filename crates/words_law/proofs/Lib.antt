@@ -14,3 +14,4 @@ pub mod Taken
 pub mod Alive
 pub mod Seats
 pub mod Forgets
+pub mod Pieces

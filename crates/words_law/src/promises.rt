@@ -22,7 +22,7 @@ ghost use Rattle.directory_law.specs.Views as directory;
 ghost use Rattle.words_law.specs.Views.{View, directories, gone, queues};
 ghost use Rattle.words_law.specs.Law.{HasText, WasPopped, WasPushed, WordsLaw, head_of};
 ghost use Rattle.words_law.specs.Owned.{join_directories};
-ghost use Rattle.words_law.specs.Texts.{HasAll, HasOneText, HasRootText, IsAlive, IsOwnList, PushesAre, WordsAgree, all_popped, all_pushed, text_of_item, word_times, words_of};
+ghost use Rattle.words_law.specs.Texts.{AllPieces, HasAll, HasOneText, HasRootText, IsAlive, IsOwnList, PushesAre, WordsAgree, all_popped, all_pushed, text_of_item, word_times, words_of};
 ghost use Rattle.words_law.specs.Fold.{File, added, gathered, occurrences_in, taken_pieces};
 ghost use Rattle.words_law.specs.Known.{KnowsMore, KnowsText, KnowsTexts};
 
@@ -38,7 +38,7 @@ pub fn items_have_texts()
 {}
 
 /// An item that is alive is the live record of its text, in a cell. So two that are alive and have one text are in one
-/// slot.
+/// slot; and where all payloads are those of nodes, heads and parts, two that have one word.
 pub fn living_items_are_records()
     ensures bound { (u : Ends) (z : Area) (p : Plain) (views : List View) → WordsLaw u z p views
         → (x : Item) (text : Text) → IsAlive p x → HasText (directories views) x text
@@ -46,6 +46,11 @@ pub fn living_items_are_records()
     ensures one { (u : Ends) (z : Area) (p : Plain) (views : List View) → WordsLaw u z p views
         → (x y : Item) (text : Text) → IsAlive p x → IsAlive p y
         → HasText (directories views) x text → HasText (directories views) y text
+        → x.slot ≡ y.slot }
+    ensures words { (u : Ends) (z : Area) (p : Plain) (views : List View)
+        → Meets (WordsLaw u z) p views → AllPieces p → (x y : Item) (text other : Text)
+        → IsAlive p x → IsAlive p y → HasText (directories views) x text
+        → HasText (directories views) y other → text_bytes text ≡ text_bytes other
         → x.slot ≡ y.slot }
 {}
 
