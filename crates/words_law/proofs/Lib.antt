@@ -15,3 +15,4 @@ pub mod Alive
 pub mod Seats
 pub mod Forgets
 pub mod Pieces
+pub mod Living

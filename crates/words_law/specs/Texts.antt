@@ -68,6 +68,11 @@ pub record IsAlive (p : Plain) (x : Item) : Type 0 where
   pub mark : (slot_at p (head_of x)).marked ≡ false
   pub life : (slot_at p (head_of x)).life ≡ x.life
 
+-- the item is alive, and has one text
+pub record IsLiving (p : Plain) (views : List DirectoryView) (x : Item) : Type 0 where
+  pub alive : IsAlive p x
+  pub text : HasOneText views x
+
 -- each item was pushed as often as it was popped and stands among the rest together
 abbrev pub PushesAre : List QueueView → List Item → Type 0
 PushesAre views rest = (x : Item) → pushed_times x views ≡ popped_times x views + item_times x rest

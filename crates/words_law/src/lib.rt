@@ -28,6 +28,7 @@ pub use laws::{
 };
 pub use promises::{
     each_list_is_its_seats, items_have_texts, known_texts_stay, living_items_are_records,
-    popped_items_were_pushed, the_root_knows_all, what_was_read_is_what_was_pushed, words_agree,
+    popped_items_were_pushed, slots_tell_words, the_root_knows_all,
+    what_was_read_is_what_was_pushed, words_agree,
 };
 pub use shares::{counts_add_up, worked_reports};
