@@ -1,16 +1,22 @@
 //! What seats that share the files take and count, added up.
-ghost use Rattle.std.specs.Prelude.{◌≡◌, ◌<◌, ◌++◌, ℕ, List, [], ◌∷◌, codes, replicate};
-ghost use Rattle.cdrc_text.specs.Fold.{times};
-ghost use Rattle.words_law.specs.Fold.{File, added, gathered, long_cut, long_pieces, occurrences_in, report_in, taken_pieces};
+ghost use Rattle.std.specs.Prelude.{◌≡◌, ◌<◌, ◌++◌, ℕ, List, [], ◌∷◌, codes, map, replicate};
+ghost use Rattle.cdrc_text.specs.Fold.{holders_of, occurrences_of, times};
+ghost use Rattle.cdrc_text.specs.Pieces.{pieces_of};
+ghost use Rattle.words_law.specs.Fold.{File, added, gathered, holders_in, long_cut, long_pieces, occurrences_in, report_in, taken_pieces};
 
 /// Where each file is some seat's, all seats together take each word as often as it occurs. Words that seats take one
-/// after the other, and those that they count, add up.
+/// after the other, and those that they count, add up. Of files of bytes, cut as `cdrc_text` cuts them, each word's
+/// occurrences and holders are those of that crate.
 pub fn counts_add_up()
     ensures taken { (w : List ℕ) (taker : ℕ → ℕ) (seats rounds : ℕ) (files : List File)
         → ((k : ℕ) → taker k < seats)
         → times w (gathered (taken_pieces taker rounds files) seats) ≡ occurrences_in w rounds files }
     ensures counted { (w : List ℕ) (words : ℕ → List (List ℕ)) (seats : ℕ)
         → times w (gathered words seats) ≡ added (λ n. times w (words n)) seats }
+    ensures occurrences { (w : List ℕ) (rounds : ℕ) (files : List (List ℕ))
+        → occurrences_in w rounds (map pieces_of files) ≡ occurrences_of w rounds files }
+    ensures holders { (w : List ℕ) (files : List (List ℕ))
+        → holders_in w (map pieces_of files) ≡ holders_of w files }
 {}
 
 /// Worked pieces and reports: a word of 121 bytes is one piece, whose record has two slots, and a field of 4,097 bytes is
