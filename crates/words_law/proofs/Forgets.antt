@@ -1,6 +1,6 @@
 -- No deed of a directory forgets what its seat saw, read or bound.
-use Rattle.std.proofs.Common.{inr, ℕ, ◌+◌, ◌-◌, zero, suc, Bool, true, false, ◌∷◌}
 use Rattle.std.specs.Prelude.{◌==◌, if◌then◌else◌, Option, Some, None}
+use Rattle.std.proofs.Common.{inr, ℕ, ◌+◌, ◌-◌, zero, suc, Bool, true, false, ◌∷◌}
 use Rattle.plain_state.specs.declared.act.PlainAct.{PlainAct}
 use Rattle.plain_protocol.specs.Owns.{Object, OwnPart}
 use Rattle.directory_law.specs.declared.view.View.{View}

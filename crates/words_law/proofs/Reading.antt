@@ -10,14 +10,14 @@ use Rattle.plain_state.specs.Lawful.{Lawful}
 use Rattle.plain_protocol.specs.Acts.{IsCalm}
 use Rattle.plain_protocol.specs.Laws.{Keeps}
 use Rattle.plain_protocol.specs.Owns.{OwnPart, own_part}
-use Rattle.directory_law.specs.declared.view.Ran.{Ran}
-use Rattle.directory_law.specs.declared.view.View.{View as DirectoryView}
 use Rattle.queue_law.specs.declared.view.Item.{Item}
 use Rattle.queue_law.specs.declared.view.View.{View as QueueView}
 use Rattle.queue_law.specs.Chain.{Ends}
 use Rattle.queue_law.specs.Lists.{taken_items}
 use Rattle.queue_law.specs.Pops.{popped_item, popped_view}
 use Rattle.queue_law.specs.Law.{WholeLaw}
+use Rattle.directory_law.specs.declared.view.Ran.{Ran}
+use Rattle.directory_law.specs.declared.view.View.{View as DirectoryView}
 use Rattle.directory_law.specs.Payloads.{Text, IsText}
 use Rattle.directory_law.specs.Views.{KeptIn, In}
 use Rattle.directory_law.specs.Views as directory

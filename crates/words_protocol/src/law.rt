@@ -3,8 +3,8 @@ ghost use Rattle.std.specs.Prelude.{◌≡◌, ◌<◌};
 ghost use Rattle.words_law.specs.Views.{gone};
 ghost use Rattle.words_law.specs.Law.{WordsLaw as Law};
 ghost use Rattle.words_law.specs.Owned.{first_view, joined, owns};
-ghost use Rattle.words_protocol.specs.Sides.{area_of, ends_of};
 ghost use Rattle.words_law.proofs.Law.{words_calm, words_foreign, words_leave, words_start};
+ghost use Rattle.words_protocol.specs.Sides.{area_of, ends_of};
 
 use directory_protocol::{DirectoryLaw, RecordKind};
 use plain_protocol::Protocol;
