@@ -57,7 +57,8 @@ ran_at : SlotId → ℕ → List ℕ → Ran
 ran_at s l payload = record { slot = s; life = l; before = payload ∷ []; now = s; now_life = l }
 
 module _ (u : Ends) (z : Area) (p : Plain) (views : List View) (n : ℕ) (low : n < length views)
-    (there : n < length p.seats) (here : (seat_at p n).left ≡ false) (lawful : Lawful p) (law : WordsLaw u z p views) (s : SlotId)
+    (there : n < length p.seats) (here : (seat_at p n).left ≡ false) (lawful : Lawful p)
+    (law : WordsLaw u z p views) (s : SlotId)
     (held : HoldsStrongly (seat_at p n) s)
     (popped : HasPopped (own_part p n) (get_or views n gone).0 s) where
   abbrev ds : List DirectoryView

@@ -10,7 +10,8 @@ ghost use Rattle.words_law.specs.Fold.{File, added, gathered, holders_in, long_c
 pub fn counts_add_up()
     ensures taken { (w : List ℕ) (taker : ℕ → ℕ) (seats rounds : ℕ) (files : List File)
         → ((k : ℕ) → taker k < seats)
-        → times w (gathered (taken_pieces taker rounds files) seats) ≡ occurrences_in w rounds files }
+        → times w (gathered (taken_pieces taker rounds files) seats)
+        ≡ occurrences_in w rounds files }
     ensures counted { (w : List ℕ) (words : ℕ → List (List ℕ)) (seats : ℕ)
         → times w (gathered words seats) ≡ added (λ n. times w (words n)) seats }
     ensures occurrences { (w : List ℕ) (rounds : ℕ) (files : List (List ℕ))
@@ -19,8 +20,8 @@ pub fn counts_add_up()
         → holders_in w (map pieces_of files) ≡ holders_of w files }
 {}
 
-/// Worked pieces and reports: a word of 121 bytes is one piece, whose record has two slots, and a field of 4,097 bytes is
-/// two; two words in two files, in three rounds.
+/// Worked pieces and reports: a word of 121 bytes is one piece, whose record has two slots, and a field of 4,097 bytes
+/// is two; two words in two files, in three rounds.
 pub fn worked_reports()
     ensures piece { long_pieces (replicate 121 120) ≡ replicate 121 120 ∷ [] }
     ensures cut { long_cut (replicate 4097 120) ≡ replicate 4096 120 ∷ (120 ∷ []) ∷ [] }

@@ -47,7 +47,8 @@ impl Protocol for WordsLaw {
 
     ghost owns_cell = { λ it. (owns (ends_of it.pair.left) (area_of it.pair.right)).cell };
 
-    ghost owns_weak_cell = { λ it. (owns (ends_of it.pair.left) (area_of it.pair.right)).weak_cell };
+    ghost owns_weak_cell = { λ it.
+        (owns (ends_of it.pair.left) (area_of it.pair.right)).weak_cell };
 
     ghost owns_payload = { λ it. (owns (ends_of it.pair.left) (area_of it.pair.right)).payload };
 
