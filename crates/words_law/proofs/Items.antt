@@ -1,14 +1,14 @@
 -- Each item that was pushed has a text: where a view of the queue changes, where one of the directory does, and where a
 -- seat leaves.
 use Rattle.std.proofs.Common.{◌≢◌, ◌⊎◌, ⊎_elim, ℕ, ◌<◌, List, length, set, refl, subst, ◌∙◌}
-use Rattle.plain_state.specs.State.{Plain}
 use Rattle.plain_state.specs.declared.slot.SlotId.{SlotId}
-use Rattle.directory_law.specs.declared.view.Rope.{Rope}
-use Rattle.directory_law.specs.declared.view.View.{View as DirectoryView}
+use Rattle.plain_state.specs.State.{Plain}
 use Rattle.queue_law.specs.declared.view.Item.{Item}
 use Rattle.queue_law.specs.declared.view.View.{View as QueueView}
 use Rattle.queue_law.specs.Views as queue
 use Rattle.queue_law.specs.Lists.{taken_items}
+use Rattle.directory_law.specs.declared.view.Rope.{Rope}
+use Rattle.directory_law.specs.declared.view.View.{View as DirectoryView}
 use Rattle.directory_law.specs.Payloads.{Text}
 use Rattle.directory_law.specs.Views.{KeptIn, In}
 use Rattle.directory_law.specs.Views as directory

@@ -1,6 +1,6 @@
 -- The law holds at the start, and is kept by calm and by foreign steps and where a seat leaves.
-use Rattle.std.proofs.Common.{◌≡◌, ◌≢◌, ⊎_elim, ℕ, List, [], get_or, set, map, refl, sym, ap, subst, ◌∙◌, arith}
 use Rattle.std.specs.List.{range_with_len}
+use Rattle.std.proofs.Common.{◌≡◌, ◌≢◌, ⊎_elim, ℕ, List, [], get_or, set, map, refl, sym, ap, subst, ◌∙◌, arith}
 use Rattle.std.proofs.lemmas.List.{get_or_past, length-map, map-set}
 use Rattle.std.proofs.lemmas.List.FromFn.{length-map-range_with_len, get_or-map-range_with_len}
 use Rattle.std.proofs.Math.ListN.{get_or-map}
@@ -13,7 +13,6 @@ use Rattle.plain_protocol.specs.Acts.{IsCalm, IsForeign}
 use Rattle.plain_protocol.specs.Laws.{Meets, Starts, KeptByCalm, KeptByForeign, KeptByLeave}
 use Rattle.protocol_pairs.specs.Parts.{Both}
 use Rattle.protocol_pairs.specs.Both.{both_start, both_calm, both_foreign, both_leave}
-use Rattle.directory_law.specs.declared.view.View.{View as DirectoryView}
 use Rattle.queue_law.specs.declared.view.Taken.{Taken}
 use Rattle.queue_law.specs.declared.view.View.{View as QueueView}
 use Rattle.queue_law.specs.Views.{view_of}
@@ -24,6 +23,7 @@ use Rattle.queue_law.specs.Law.{WholeLaw}
 use Rattle.queue_law.specs.Owned as queue_owned
 use Rattle.queue_law.proofs.Left.{does_left}
 use Rattle.queue_law.proofs.Whole.{whole_calm, whole_foreign, whole_leave, whole_start}
+use Rattle.directory_law.specs.declared.view.View.{View as DirectoryView}
 use Rattle.directory_law.specs.Views.{In}
 use Rattle.directory_law.specs.Views as directory
 use Rattle.directory_law.specs.Cells.{Area}

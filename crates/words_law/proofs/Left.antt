@@ -5,8 +5,8 @@ use Rattle.std.proofs.lemmas.List.{get_or-set_same, get_or-set_other, get_or_pas
 use Rattle.plain_state.specs.declared.act.PlainAct.TheVariants as act
 use Rattle.plain_state.specs.State.{Plain, PlainSeat, empty, new_seat, seat_at}
 use Rattle.plain_state.specs.Steps.{Does}
-use Rattle.directory_law.specs.declared.view.View.{View}
 use Rattle.queue_law.proofs.Left.{LeftSame, left_with, seats_of}
+use Rattle.directory_law.specs.declared.view.View.{View}
 use Rattle.directory_law.specs.Views.{gone, view_at}
 use Rattle.words_law.specs.Law.{Gone}
 use Rattle.words_law.specs.Owned.{join_directories}

@@ -13,3 +13,6 @@ pub mod Root
 pub mod Taken
 pub mod Alive
 pub mod Seats
+pub mod Forgets
+pub mod Pieces
+pub mod Living

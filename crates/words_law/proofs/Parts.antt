@@ -10,8 +10,6 @@ use Rattle.plain_protocol.specs.Owns.{OwnPart, own_part}
 use Rattle.protocol_pairs.specs.Parts.{HasPart, KeepsRest}
 use Rattle.protocol_pairs.specs.Sides.{left_rest, right_rest}
 use Rattle.protocol_pairs.specs.Spared.{IsSpared}
-use Rattle.directory_law.specs.declared.view.Rope.{Rope}
-use Rattle.directory_law.specs.declared.view.View.{View as DirectoryView}
 use Rattle.queue_law.specs.declared.view.Item.{Item}
 use Rattle.queue_law.specs.declared.view.Taken.{Taken}
 use Rattle.queue_law.specs.declared.view.View.{View as QueueView}
@@ -22,6 +20,8 @@ use Rattle.queue_law.specs.Law.{WholeLaw}
 use Rattle.queue_law.specs.Owned as queue_owned
 use Rattle.queue_law.proofs.Left.{does_left}
 use Rattle.queue_law.proofs.Whole.{whole_foreign}
+use Rattle.directory_law.specs.declared.view.Rope.{Rope}
+use Rattle.directory_law.specs.declared.view.View.{View as DirectoryView}
 use Rattle.directory_law.specs.Payloads.{Text}
 use Rattle.directory_law.specs.Views.{In, rope}
 use Rattle.directory_law.specs.Views as directory

@@ -10,14 +10,14 @@ use Rattle.plain_state.specs.Lawful.{Lawful}
 use Rattle.plain_protocol.specs.Acts.{IsCalm}
 use Rattle.plain_protocol.specs.Laws.{Keeps}
 use Rattle.plain_protocol.specs.Owns.{OwnPart, own_part}
-use Rattle.directory_law.specs.declared.view.Ran.{Ran}
-use Rattle.directory_law.specs.declared.view.View.{View as DirectoryView}
 use Rattle.queue_law.specs.declared.view.Item.{Item}
 use Rattle.queue_law.specs.declared.view.View.{View as QueueView}
 use Rattle.queue_law.specs.Chain.{Ends}
 use Rattle.queue_law.specs.Lists.{taken_items}
 use Rattle.queue_law.specs.Pops.{popped_item, popped_view}
 use Rattle.queue_law.specs.Law.{WholeLaw}
+use Rattle.directory_law.specs.declared.view.Ran.{Ran}
+use Rattle.directory_law.specs.declared.view.View.{View as DirectoryView}
 use Rattle.directory_law.specs.Payloads.{Text, IsText}
 use Rattle.directory_law.specs.Views.{KeptIn, In}
 use Rattle.directory_law.specs.Views as directory
@@ -57,7 +57,8 @@ ran_at : SlotId → ℕ → List ℕ → Ran
 ran_at s l payload = record { slot = s; life = l; before = payload ∷ []; now = s; now_life = l }
 
 module _ (u : Ends) (z : Area) (p : Plain) (views : List View) (n : ℕ) (low : n < length views)
-    (there : n < length p.seats) (here : (seat_at p n).left ≡ false) (lawful : Lawful p) (law : WordsLaw u z p views) (s : SlotId)
+    (there : n < length p.seats) (here : (seat_at p n).left ≡ false) (lawful : Lawful p)
+    (law : WordsLaw u z p views) (s : SlotId)
     (held : HoldsStrongly (seat_at p n) s)
     (popped : HasPopped (own_part p n) (get_or views n gone).0 s) where
   abbrev ds : List DirectoryView

@@ -55,7 +55,7 @@ totals_in words files = record {
 -- the report with these distinct words: a line for each, and the closing lines
 abbrev pub report_in : List (List ℕ) → List File → ℕ → List ℕ
 report_in words files rounds =
-    flat_map (λ (w : List ℕ). word_line (occurrences_in w rounds files) (holders_in w files) w) words
+    flat_map (λ w. word_line (occurrences_in w rounds files) (holders_in w files) w) words
     ++ closing_lines (length words) (totals_in words files)
 
 -- the bytes are the report of the files' distinct words
@@ -77,7 +77,8 @@ taken_by taker n k (f ∷ fs) =
 
 -- the pieces that seat n takes in so many rounds
 abbrev pub taken_pieces : (ℕ → ℕ) → ℕ → List File → ℕ → List (List ℕ)
-taken_pieces taker rounds files n = again rounds (flat_map (λ (f : File). f) (taken_by taker n 0 files))
+taken_pieces taker rounds files n =
+    again rounds (flat_map (λ (f : File). f) (taken_by taker n 0 files))
 
 -- a number of each of the first n seats, added up
 unfoldable pub added : (ℕ → ℕ) → ℕ → ℕ

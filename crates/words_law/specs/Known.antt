@@ -1,11 +1,12 @@
 -- What a seat's view of the directory tells of the texts of items.
 use Rattle.std.specs.Prelude.{◌≡◌, ◌⊎◌, List, [], ◌∷◌}
+use Rattle.queue_law.specs.declared.view.Item.{Item}
 use Rattle.directory_law.specs.declared.view.Ran.{Ran}
 use Rattle.directory_law.specs.declared.view.Rope.{Rope}
+use Rattle.directory_law.specs.declared.view.Seen.{Seen}
 use Rattle.directory_law.specs.declared.view.View.{View as DirectoryView}
 use Rattle.directory_law.specs.Payloads.{Text, IsText}
 use Rattle.directory_law.specs.Views.{In, rope}
-use Rattle.queue_law.specs.declared.view.Item.{Item}
 use Rattle.words_law.specs.Law.{head_of}
 
 -- a view tells the item's text: its seat bound it, or read it whole
@@ -31,3 +32,8 @@ KnowsTexts v (x ∷ xs) (t ∷ ts) = KnowsText v x t × KnowsTexts v xs ts
 pub record KnowsMore (v w : DirectoryView) : Type 0 where
   pub kept : (e : Rope) → In e v.kept → In e w.kept
   pub ran : (e : Ran) → In e v.ran → In e w.ran
+
+-- and it goes on to have seen what that one had
+pub record ForgetsNothing (v w : DirectoryView) : Type 0 where
+  pub knows : KnowsMore v w
+  pub saw : (e : Seen) → In e v.seen → In e w.seen

@@ -3,13 +3,13 @@ use Rattle.std.specs.Prelude.{◌≡◌, ◌⊎◌, ℕ, ◌≤◌, true, List, 
 use Rattle.plain_state.specs.declared.slot.SlotId.{SlotId}
 use Rattle.plain_state.specs.State.{Plain, seat_at}
 use Rattle.protocol_pairs.specs.Parts.{Both}
-use Rattle.directory_law.specs.declared.view.View.{View as DirectoryView}
 use Rattle.queue_law.specs.declared.view.Item.{Item}
 use Rattle.queue_law.specs.declared.view.View.{View as QueueView}
 use Rattle.queue_law.specs.Views as queue
 use Rattle.queue_law.specs.Chain.{Ends}
 use Rattle.queue_law.specs.Lists.{taken_items}
 use Rattle.queue_law.specs.Law.{WholeLaw}
+use Rattle.directory_law.specs.declared.view.View.{View as DirectoryView}
 use Rattle.directory_law.specs.Payloads.{Text}
 use Rattle.directory_law.specs.Views.{KeptIn, In}
 use Rattle.directory_law.specs.Views as directory

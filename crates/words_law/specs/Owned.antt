@@ -2,11 +2,11 @@
 use Rattle.std.specs.Prelude.{ℕ, ◌++◌}
 use Rattle.plain_protocol.specs.Acts.{Owned}
 use Rattle.protocol_pairs.specs.Shares.{either_of}
-use Rattle.directory_law.specs.declared.view.View.{View as DirectoryView}
 use Rattle.queue_law.specs.Views.{view_of}
 use Rattle.queue_law.specs.Views as queue
 use Rattle.queue_law.specs.Chain.{Ends}
 use Rattle.queue_law.specs.Owned as queue_owned
+use Rattle.directory_law.specs.declared.view.View.{View as DirectoryView}
 use Rattle.directory_law.specs.Views as directory
 use Rattle.directory_law.specs.Cells.{Area}
 use Rattle.directory_law.specs.Owned as directory_owned

@@ -1,11 +1,11 @@
 -- What a seat may push, and what the one part of a view asks of the other's next view.
 use Rattle.std.specs.Prelude.{◌≡◌, ◌⊎◌}
-use Rattle.directory_law.specs.declared.view.Rope.{Rope}
-use Rattle.directory_law.specs.declared.view.Seen.{Seen}
-use Rattle.directory_law.specs.declared.view.View.{View as DirectoryView}
 use Rattle.queue_law.specs.declared.view.Item.{Item}
 use Rattle.queue_law.specs.declared.view.View.{View as QueueView}
 use Rattle.queue_law.specs.Lists.{taken_items}
+use Rattle.directory_law.specs.declared.view.Rope.{Rope}
+use Rattle.directory_law.specs.declared.view.Seen.{Seen}
+use Rattle.directory_law.specs.declared.view.View.{View as DirectoryView}
 use Rattle.directory_law.specs.Views.{In}
 use Rattle.words_law.specs.Views.{View}
 use Rattle.words_law.specs.Law.{head_of}

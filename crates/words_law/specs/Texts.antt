@@ -4,14 +4,16 @@ use Rattle.std.specs.List.{flat_map}
 use Rattle.cdrc_text.specs.Fold.{times}
 use Rattle.plain_state.specs.declared.slot.SlotId.{SlotId}
 use Rattle.plain_state.specs.declared.slot.Stage.TheVariants.{Live}
-use Rattle.plain_state.specs.State.{Plain, slot_at, stage_at}
+use Rattle.plain_state.specs.State.{Plain, no_payload, slot_at, stage_at}
+use Rattle.plain_state.specs.Fits.{AllFit}
+use Rattle.protocol_pairs.specs.Shares.{FitsItsPart}
 use Rattle.queue_law.specs.declared.view.Item.{Item}
 use Rattle.queue_law.specs.declared.view.Taken.{Taken}
 use Rattle.queue_law.specs.declared.view.View.{View as QueueView}
 use Rattle.queue_law.specs.Lists.{pushed_times, popped_times, item_times, tagged, taken_items}
 use Rattle.directory_law.specs.declared.view.Rope.{Rope}
 use Rattle.directory_law.specs.declared.view.View.{View as DirectoryView}
-use Rattle.directory_law.specs.Bytes.{text_bytes}
+use Rattle.directory_law.specs.Bytes.{IsPiece, text_bytes}
 use Rattle.directory_law.specs.Payloads.{Text, IsText}
 use Rattle.directory_law.specs.Views.{In, is_of, rope}
 use Rattle.words_law.specs.Views.{View, queues, directories}
@@ -52,6 +54,10 @@ pub record HasOneText (views : List DirectoryView) (x : Item) : Type 0 where
   pub is : IsText (text_of_item (all_kept views) x)
   pub one : (text : Text) → HasText views x text → text ≡ text_of_item (all_kept views) x
 
+-- the payloads of all objects are those of nodes, of heads and of parts
+abbrev pub AllPieces : Plain → Type 0
+AllPieces p = AllFit (FitsItsPart (λ words. words ≡ no_payload) IsPiece) p
+
 -- all in the list was pushed, or popped, by seat n
 abbrev pub IsOwnList : ℕ → List Taken → Type 0
 IsOwnList n taken = tagged n taken ≡ taken_items taken
@@ -61,6 +67,11 @@ pub record IsAlive (p : Plain) (x : Item) : Type 0 where
   pub stage : stage_at p (head_of x) ≡ Live
   pub mark : (slot_at p (head_of x)).marked ≡ false
   pub life : (slot_at p (head_of x)).life ≡ x.life
+
+-- the item is alive, and has one text
+pub record IsLiving (p : Plain) (views : List DirectoryView) (x : Item) : Type 0 where
+  pub alive : IsAlive p x
+  pub text : HasOneText views x
 
 -- each item was pushed as often as it was popped and stands among the rest together
 abbrev pub PushesAre : List QueueView → List Item → Type 0

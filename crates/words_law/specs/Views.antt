@@ -1,8 +1,8 @@
 -- The views of seats that share a queue and a directory: what each knows of the one, and what of the other.
 use Rattle.std.specs.Prelude.{List, map}
-use Rattle.directory_law.specs.declared.view.View.{View as DirectoryView}
 use Rattle.queue_law.specs.declared.view.View.{View as QueueView}
 use Rattle.queue_law.specs.Views as queue
+use Rattle.directory_law.specs.declared.view.View.{View as DirectoryView}
 use Rattle.directory_law.specs.Views as directory
 
 abbrev pub View : Type 0

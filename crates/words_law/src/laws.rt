@@ -8,13 +8,14 @@ ghost use Rattle.plain_protocol.specs.Laws.{Starts, KeptByCalm, KeptByForeign, K
 ghost use Rattle.plain_protocol.specs.Owns.{OwnPart};
 ghost use Rattle.protocol_pairs.specs.Parts.{KeepsRest};
 ghost use Rattle.protocol_pairs.specs.Spared.{IsSpared};
-ghost use Rattle.directory_law.specs.declared.view.View.{View as DirectoryView};
 ghost use Rattle.queue_law.specs.declared.view.Item.{Item};
 ghost use Rattle.queue_law.specs.declared.view.Taken.{Taken};
 ghost use Rattle.queue_law.specs.declared.view.View.{View as QueueView};
 ghost use Rattle.queue_law.specs.Chain.{Ends};
 ghost use Rattle.queue_law.specs.Law.{WholeLaw};
 ghost use Rattle.queue_law.specs.Owned as queue_owned;
+ghost use Rattle.queue_law.specs.Pops.{popped_view};
+ghost use Rattle.directory_law.specs.declared.view.View.{View as DirectoryView};
 ghost use Rattle.directory_law.specs.Cells.{Area};
 ghost use Rattle.directory_law.specs.Law.{DirectoryLaw};
 ghost use Rattle.directory_law.specs.Lessons.{HasSeen, ReadReady};
@@ -25,7 +26,6 @@ ghost use Rattle.directory_law.specs.Views.{In, rope};
 ghost use Rattle.words_law.specs.Views.{View, gone};
 ghost use Rattle.words_law.specs.Law.{WordsLaw, head_of};
 ghost use Rattle.words_law.specs.Owned.{owns, first_view, joined};
-ghost use Rattle.queue_law.specs.Pops.{popped_view};
 ghost use Rattle.words_law.specs.Reading.{HasPopped, begin_next};
 ghost use Rattle.words_law.specs.Pushes.{KeepsAll, MayPush, PushesBound, SawAll};
 

@@ -17,15 +17,18 @@
 //! ```
 #![tactic(auto)]
 
+mod deeds;
 mod laws;
 mod promises;
 mod shares;
 
+pub use deeds::directory_deeds_forget_nothing;
 pub use laws::{
     each_part_keeps_the_law, items_are_read_in_turn, others_keep_the_law, what_may_be_pushed,
 };
 pub use promises::{
     each_list_is_its_seats, items_have_texts, known_texts_stay, living_items_are_records,
-    popped_items_were_pushed, the_root_knows_all, what_was_read_is_what_was_pushed, words_agree,
+    popped_items_were_pushed, slots_tell_words, the_root_knows_all,
+    what_was_read_is_what_was_pushed, words_agree,
 };
-pub use shares::counts_add_up;
+pub use shares::{counts_add_up, worked_reports};

@@ -1,11 +1,13 @@
 //! What the law gives a caller.
-ghost use Rattle.std.specs.Prelude.{◌≡◌, ◌≢◌, ◌+◌, ◌<◌, ◌≤◌, ◌++◌, ℕ, List, [], map, slice_index_or, true};
+ghost use Rattle.std.specs.Prelude.{◌≡◌, ◌≢◌, ◌+◌, ◌<◌, ◌≤◌, ◌++◌, ◌==◌, ℕ, List, [], map, slice_index_or, true};
+ghost use Rattle.std.specs.List.{count_by};
 ghost use Rattle.cdrc_text.specs.Fold.{times};
 ghost use Rattle.plain_state.specs.State.{Plain};
 ghost use Rattle.plain_protocol.specs.Laws.{Meets};
 ghost use Rattle.plain_protocol.specs.Owns.{is_alone};
 ghost use Rattle.queue_law.specs.declared.view.Item.{Item};
 ghost use Rattle.queue_law.specs.declared.view.Taken.{Taken};
+ghost use Rattle.queue_law.specs.declared.view.View.{View as QueueView};
 ghost use Rattle.queue_law.specs.Views as queue;
 ghost use Rattle.queue_law.specs.Chain.{Ends};
 ghost use Rattle.queue_law.specs.Law.{QueueLaw};
@@ -16,16 +18,14 @@ ghost use Rattle.directory_law.specs.Bytes.{text_bytes};
 ghost use Rattle.directory_law.specs.Cells.{Area};
 ghost use Rattle.directory_law.specs.Law.{IsBound};
 ghost use Rattle.directory_law.specs.Payloads.{Text};
-ghost use Rattle.directory_law.specs.Views.{In};
+ghost use Rattle.directory_law.specs.Views.{Each, In};
 ghost use Rattle.directory_law.specs.Views as directory;
 ghost use Rattle.words_law.specs.Views.{View, directories, gone, queues};
 ghost use Rattle.words_law.specs.Law.{HasText, WasPopped, WasPushed, WordsLaw, head_of};
 ghost use Rattle.words_law.specs.Owned.{join_directories};
-ghost use Rattle.words_law.specs.Texts.{HasAll, HasOneText, HasRootText, IsAlive, IsOwnList, PushesAre, WordsAgree, all_popped, all_pushed, text_of_item, word_times, words_of};
+ghost use Rattle.words_law.specs.Texts.{AllPieces, HasAll, HasOneText, HasRootText, IsAlive, IsLiving, IsOwnList, PushesAre, WordsAgree, all_kept, all_popped, all_pushed, text_of_item, word_of_item, word_times, words_of};
 ghost use Rattle.words_law.specs.Fold.{File, added, gathered, occurrences_in, taken_pieces};
 ghost use Rattle.words_law.specs.Known.{KnowsMore, KnowsText, KnowsTexts};
-
-use queue_law::View as QueueView;
 
 /// Each item that was pushed has one text, which a view keeps for its slot, in its life. What a view tells of an
 /// item's text is so.
@@ -39,7 +39,7 @@ pub fn items_have_texts()
 {}
 
 /// An item that is alive is the live record of its text, in a cell. So two that are alive and have one text are in one
-/// slot.
+/// slot; and where all payloads are those of nodes, heads and parts, two that have one word.
 pub fn living_items_are_records()
     ensures bound { (u : Ends) (z : Area) (p : Plain) (views : List View) → WordsLaw u z p views
         → (x : Item) (text : Text) → IsAlive p x → HasText (directories views) x text
@@ -48,6 +48,21 @@ pub fn living_items_are_records()
         → (x y : Item) (text : Text) → IsAlive p x → IsAlive p y
         → HasText (directories views) x text → HasText (directories views) y text
         → x.slot ≡ y.slot }
+    ensures words { (u : Ends) (z : Area) (p : Plain) (views : List View)
+        → Meets (WordsLaw u z) p views → AllPieces p → (x y : Item) (text other : Text)
+        → IsAlive p x → IsAlive p y → HasText (directories views) x text
+        → HasText (directories views) y other → text_bytes text ≡ text_bytes other
+        → x.slot ≡ y.slot }
+{}
+
+/// Of items that are alive and have a text, those in the slot of one of them are those that have its word: so a count
+/// of references to that slot tells how many of them have the word.
+pub fn slots_tell_words()
+    ensures { (u : Ends) (z : Area) (p : Plain) (views : List View)
+        → Meets (WordsLaw u z) p views → AllPieces p → let ds = directories views in
+        (y : Item) → IsLiving p ds y → (xs : List Item) → Each (IsLiving p ds) xs
+        → count_by (λ (x : Item). x.slot == y.slot) xs
+        ≡ word_times (all_kept ds) (word_of_item (all_kept ds) y) xs }
 {}
 
 /// A view that keeps and has read what another one does tells what that one tells. Where a seat leaves, seat 0's view

@@ -3,8 +3,8 @@ ghost use Rattle.std.specs.Prelude.{◌≡◌, ◌<◌};
 ghost use Rattle.words_law.specs.Views.{gone};
 ghost use Rattle.words_law.specs.Law.{WordsLaw as Law};
 ghost use Rattle.words_law.specs.Owned.{first_view, joined, owns};
-ghost use Rattle.words_protocol.specs.Sides.{area_of, ends_of};
 ghost use Rattle.words_law.proofs.Law.{words_calm, words_foreign, words_leave, words_start};
+ghost use Rattle.words_protocol.specs.Sides.{area_of, ends_of};
 
 use directory_protocol::{DirectoryLaw, RecordKind};
 use plain_protocol::Protocol;
@@ -47,7 +47,8 @@ impl Protocol for WordsLaw {
 
     ghost owns_cell = { λ it. (owns (ends_of it.pair.left) (area_of it.pair.right)).cell };
 
-    ghost owns_weak_cell = { λ it. (owns (ends_of it.pair.left) (area_of it.pair.right)).weak_cell };
+    ghost owns_weak_cell = { λ it.
+        (owns (ends_of it.pair.left) (area_of it.pair.right)).weak_cell };
 
     ghost owns_payload = { λ it. (owns (ends_of it.pair.left) (area_of it.pair.right)).payload };
 

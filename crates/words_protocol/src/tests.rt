@@ -37,10 +37,16 @@ fn intern<S, P: Part<DirectoryLaw, S>>(of: P) -> P {
     of
 }
 
+/// What threads may share.
+fn share<T: Send + Sync>(value: T) -> T {
+    value
+}
+
 #[test]
 fn it_has_the_deeds_of_both(rt: HostRuntime) {
     let directory = DirectoryLaw::new(0, 10, Vec::new(rt.alloc()));
-    let (of, _) = cite(WordsLaw::new(QueueLaw::linked(0, 1), directory), Still);
+    let of = share(WordsLaw::new(QueueLaw::linked(0, 1), directory));
+    let (of, _) = cite(of, Still);
     let (of, _) = cite(push(of), BeginRead);
     let (_, _) = cite(intern(of), BeginRead);
     let directory = DirectoryLaw::granted(3, 7, Vec::new(rt.alloc()));
