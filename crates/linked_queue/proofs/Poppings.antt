@@ -142,24 +142,22 @@ popped_again : (found : Option SlotId) (c : SeatState View) (v w : View) → v �
     → popped_in found c v ≡ popped_in found c w
 popped_again found c v w same = ap (popped_in found c) same
 
+pub leaves_then : (found : Option SlotId) (a b c : SeatState View) → Leaves a.view.core.owned a b
+    → Leaves (with_found found b.view.core.owned) b c → Leaves (with_found found a.view.core.owned) a c
+leaves_then found a b c none leaves = record {
+  owns = λ x. leaves.owns x
+      ∙ found_again found x b.view.core.owned a.view.core.owned (none.owns x);
+  same = leaves.same ∙ none.same;
+  knows = λ x was is.
+      let first = none.owns x in
+      let mid = holds_more x a.view.core b.view.core (sym none.same) (omega arith) was in
+      leaves.knows x mid is ∙ none.knows x was mid;
+}
+
 pub pops_then : (found : Option SlotId) (a b c : SeatState View) → Pops None a b → Pops found b c
     → Pops found a c
 pops_then found a b c none pops = record {
-  leaves = record {
-    owns = λ x. pops.leaves.owns x
-        ∙ found_again found x b.view.core.owned a.view.core.owned (none.leaves.owns x);
-    same = pops.leaves.same ∙ none.leaves.same;
-    knows = λ x was is.
-        let first = none.leaves.owns x in
-        let mid = holds_more x a.view.core b.view.core (sym none.leaves.same) (omega arith) was in
-        pops.leaves.knows x mid is ∙ none.leaves.knows x was mid;
-  };
+  leaves = leaves_then found a b c none.leaves pops.leaves;
   deeds = pops.deeds ∙ popped_again found c (deeds_in b.view.client) (deeds_in a.view.client)
       none.deeds;
-}
-
-pub pops_none : (a : SeatState View) → Pops None a a
-pops_none a = record {
-  leaves = record { owns = λ x. refl; same = refl; knows = λ x was is. refl };
-  deeds = refl;
 }

@@ -156,6 +156,12 @@ module _ (fits : List ℕ → Type 0) (d : DomainState QueueLaw) where
         first old seen
     pub which : Stays first last seen new ⊎ GoesOn first last seen new
 
+  -- It found the last node, and linked its own behind it.
+  pub record LinksLast (last node : SlotId) (old new : SeatState View) : Type 0 where
+    pub found : SeatState View
+    pub finds : FindsEnd last old found
+    pub links : Links last node found new
+
   -- It found the last node, linked its own behind it, advanced the tail cell, and gave the last node up.
   pub record PushesNode (node : SlotId) (old new : SeatState View) : Type 0 where
     pub last : SlotId

@@ -1,5 +1,10 @@
 -- What calls do that try again until no other seat is quicker.
-use Rattle.std.specs.Prelude.{ℕ, ◌≡◌, true, List, Option, None}
+use Rattle.linked_queue.specs.Queues.{beside_eyes}
+use Rattle.linked_queue.specs.Pushes.{Advances, IsWhyRefused, LinksLast, LoadsNode}
+use Rattle.slot_store.specs.declared.making.MakeError.{MakeError}
+use Rattle.slot_store.specs.declared.making.MakeError.TheVariants as refused
+use Rattle.control_word.specs.Calls.{DropsStrong}
+use Rattle.std.specs.Prelude.{ℕ, ◌≡◌, true, List, Option, None, ◌⊎◌}
 use Rattle.plain_state.specs.declared.slot.SlotId.{SlotId}
 use Rattle.acquire_retire.specs.Domains.{DomainState}
 use Rattle.acquire_retire.specs.Seats.{SeatState}
@@ -31,3 +36,46 @@ pub record AttachesAtLast (fits : List ℕ → Type 0) (d : DomainState QueueLaw
   pub found : Option SlotId
   pub slot : is_slot found ≡ true
   pub looks : LooksAtHead fits d found last new
+
+-- A try linked nothing: the seat has what it had, and of its view all is as it was but what it sees.
+pub record LinksNothing (old new : SeatState View) : Type 0 where
+  pub leaves : Leaves old.view.core.owned old new
+  pub beside : beside_eyes new.view.client ≡ beside_eyes old.view.client
+
+-- Its tries linked nothing; at the last one at most so many adds were left.
+pub record LinksTooFew (n : ℕ) (old : SeatState View) : Type 0 where
+  pub last : SeatState View
+  pub lost : LinksNothing old last
+  pub few : HasFewAdds n last.view.core
+
+module _ (fits : List ℕ → Type 0) (d : DomainState QueueLaw) where
+  -- Its tries linked nothing, and at the last one it linked its node behind the last node.
+  pub record LinksAtLast (last node : SlotId) (old new : SeatState View) : Type 0 where
+    pub before : SeatState View
+    pub lost : LinksNothing old before
+    pub links : LinksLast fits d last node before new
+
+  -- It did so, advanced the tail cell, and gave the last node up.
+  pub record PushesNodeAtLast (node : SlotId) (old new : SeatState View) : Type 0 where
+    pub last : SlotId
+    pub linked : SeatState View
+    pub late : SeatState View
+    pub links : LinksAtLast last node old linked
+    pub advances : Advances fits d last node linked late
+    pub drops : DropsStrong fits d last late new
+
+  -- It did so with one node, which carries a reference of its own to the item, and gave up the reference that it was
+  -- called with.
+  pub record PushesAtLast (item : SlotId) (old new : SeatState View) : Type 0 where
+    pub node : SlotId
+    pub loaded : SeatState View
+    pub pushed : SeatState View
+    pub loads : LoadsNode fits d item node old loaded
+    pub pushes : PushesNodeAtLast node loaded pushed
+    pub drops : DropsStrong fits d item pushed new
+
+  -- why it pushed nothing: no node could be made that carries the item, or its last try had at most three adds left
+  abbrev pub IsWhyNeverPushed : MakeError → SeatState View → Type 0
+  IsWhyNeverPushed error old =
+      IsWhyRefused fits d 1 error old
+      ⊎ ((error ≡ refused.AddsSpent) × (loaded : SeatState View) × LinksTooFew 3 loaded)

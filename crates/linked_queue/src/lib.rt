@@ -20,11 +20,13 @@
 
 mod attaching;
 mod carrying;
+mod chaining;
 mod deeds;
 mod laying;
 mod linking;
 mod popping;
 mod pushing;
+mod pushing_waits;
 mod queue;
 mod seeing;
 mod shutting;

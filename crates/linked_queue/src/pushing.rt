@@ -20,8 +20,9 @@ ghost use Rattle.linked_queue.specs.NotPushed.{IsWhyNotPushed};
 ghost use Rattle.linked_queue.specs.Queues.{IsAttached, IsQueueOf, deeds_in};
 
 use crate::carrying::carry;
+use crate::chaining::link_last;
 use crate::laying::make_node;
-use crate::linking::{advance, find_last, link};
+use crate::linking::advance;
 use crate::queue::{LinkedQueue, PushError, PushRefused};
 use acquire_retire::{Domain, Seat};
 use atomic_shared::LoadError;
@@ -149,7 +150,7 @@ fn push_copy<S, P: HasQueue<S>>(
 }
 
 /// Makes a node with a reference of its own to the item.
-fn load_node<S, P: HasQueue<S>>(
+pub(crate) fn load_node<S, P: HasQueue<S>>(
     domain: &Domain<P>,
     seat: &mut Seat<P>,
     item: &Strong,
@@ -207,19 +208,15 @@ fn push_node<S, P: HasQueue<S>>(
     ensures room { HasRoom seat.new.view.core }
     ensures rest { IsAtRest domain.now seat.new }
 {
-    let last = match find_last(domain, seat, tail) {
-        Ok(last) => last,
+    match link_last(domain, seat, tail, node.slot()) {
+        Ok(last) => {
+            advance(domain, seat, tail, last.slot(), node);
+            drop_strong::<QueueLaw, S, P>(domain, seat, last);
+            Ok(())
+        }
         Err(error) => {
             drop_strong::<QueueLaw, S, P>(domain, seat, node);
-            return Err(error);
+            Err(error)
         }
-    };
-    if let Err(error) = link(domain, seat, last.slot(), node.slot()) {
-        drop_strong::<QueueLaw, S, P>(domain, seat, node);
-        drop_strong::<QueueLaw, S, P>(domain, seat, last);
-        return Err(error);
     }
-    advance(domain, seat, tail, last.slot(), node);
-    drop_strong::<QueueLaw, S, P>(domain, seat, last);
-    Ok(())
 }

@@ -123,7 +123,7 @@ fn a_record_that_was_pushed_is_popped_once(rt: HostRuntime) -> Result<(), Fail> 
     };
     let item = make_record(&domain, &mut seat).expect(&rt, "a free slot");
     let slot = item.slot();
-    assert!(rt; queue.try_push(&domain, &mut seat, item).is_ok());
+    assert!(rt; queue.push(&rt, &domain, &mut seat, item).is_ok());
     let Ok(Some(popped)) = queue.pop(&rt, &domain, &mut seat) else {
         panic!(rt; "an item")
     };

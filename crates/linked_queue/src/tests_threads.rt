@@ -6,7 +6,7 @@ ghost use Rattle.control_word.specs.Resting.{IsAtRest};
 ghost use Rattle.linked_queue.specs.Queues.{CanLay, IsAttached, IsQueueOf};
 
 use crate::laying::make_node;
-use crate::{LinkedQueue, PopError, PushError, Strong};
+use crate::LinkedQueue;
 use acquire_retire::{Domain, OpenError, Quota, Seat, Shape, open_domain};
 use control_word::drop_strong;
 use deleter::Deleter;
@@ -82,15 +82,7 @@ fn push<R: Wait>(
     let Ok(item) = make_node(domain, seat) else {
         return false;
     };
-    let mut item = item;
-    for _try in rt.forever() {
-        match queue.try_push(domain, seat, item) {
-            Ok(()) => return true,
-            Err(PushError::Again { back, .. }) => item = back,
-            Err(PushError::Refused(_)) => return false,
-        }
-    }
-    unreachable!()
+    queue.push(rt, domain, seat, item).is_ok()
 }
 
 /// Pops one item, however often another seat is quicker, and drops it. Whether there was one.
@@ -108,17 +100,11 @@ fn pop<R: Wait>(
     ensures room { HasRoom seat.new.view.core }
     ensures rest { IsAtRest domain.now seat.new }
 {
-    for _try in rt.forever() {
-        match queue.try_pop(domain, seat) {
-            Ok(Some(item)) => {
-                drop_strong(domain, seat, item);
-                return true;
-            }
-            Ok(None) | Err(PopError::Spent) => return false,
-            Err(PopError::Again { .. }) => {}
-        }
-    }
-    unreachable!()
+    let Ok(Some(item)) = queue.pop(rt, domain, seat) else {
+        return false;
+    };
+    drop_strong(domain, seat, item);
+    true
 }
 
 /// Attaches a seat, if the queue is laid.

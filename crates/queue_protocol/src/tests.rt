@@ -1,11 +1,13 @@
+ghost use Rattle.queue_protocol.specs.Pushable.{AcceptsKept, AcceptsPush, StaysPushable};
 ghost use Rattle.plain_protocol.specs.Laws.{Starts, KeptByCalm, KeptByLeave, KeptByForeign, Keeps};
 
 use crate::{
-    AdvanceTail, AttachSeat, CarryItem, EmptyDummy, ExchangeTail, FindEnded, FindSet, HelpLink,
-    LandPush, LayHead, LayTail, LearnBefore, LearnHead, LearnItem, LearnNext, LearnTail, LinkBack,
+    AdvanceTail, AttachSeat, CarryItem, EmptyDummy, ExchangeTail, FindEnded, FindSet, HasQueue,
+    HelpLink, LandPush, LayHead, LayTail, LearnBefore, LearnHead, LearnItem, LearnNext, LearnTail, LinkBack,
     LinkNode, LookAhead, MakeNode, NodeKind, QueueLaw, ShutHead, ShutTail, TakeItem,
 };
-use plain_protocol::{Deed, Protocol, Still, fits_stay};
+use plain_protocol::{Deed, NoLaw, Protocol, Still, fits_stay};
+use protocol_pairs::Pair;
 
 /// What a domain cites of a protocol and a deed, by their bounds alone.
 fn cite<P: Protocol, D: Deed<P>>(of: P, it: D) -> (P, D)
@@ -50,4 +52,20 @@ fn each_deed_goes_with_the_protocol(rt: HostRuntime) {
     let (of, _) = cite(of, ShutHead);
     let (_, _) = cite(of, ShutTail);
     fits_stay::<NodeKind>();
+}
+
+/// What a call on a queue cites of a protocol that has one, by its bounds alone.
+fn cite_queue<S, P: HasQueue<S>>(of: P) -> P
+    ensures stays { StaysPushable P.may_push P.with_seen }
+    ensures accepts { AcceptsKept P.seen P.suits }
+    ensures accepts_push { AcceptsPush P.may_push P.seen P.suits }
+{
+    of
+}
+
+#[test]
+fn a_queue_and_a_pair_have_a_queue(rt: HostRuntime) {
+    let _law = cite_queue(QueueLaw::linked(0, 1));
+    let pair = Pair::new(QueueLaw::linked(0, 1), NoLaw::<NodeKind>::new(), 2, 0);
+    let _pair = cite_queue(pair);
 }

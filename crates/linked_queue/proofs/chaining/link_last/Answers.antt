@@ -1,0 +1,102 @@
+use Rattle.linked_queue.specs.Queues.{beside_eyes}
+use Rattle.std.proofs.Common.{◌≡◌, ◌<◌, [], ◌∷◌, ◌++◌, refl, ap, sym, ◌∙◌, subst, arith}
+use Rattle.std.specs.Prelude.{None}
+use Rattle.plain_state.specs.declared.slot.SlotId.{SlotId}
+use Rattle.core_events.specs.declared.view.CoreView.{CoreView}
+use Rattle.core_invariant.proofs.Kit.{one_same, times_push}
+use Rattle.queue_law.specs.Pushes.{carried_item}
+use Rattle.part_calls.specs.Parts.{as_part, seen_by}
+use Rattle.linked_queue.specs.Pushes.{Links, SeesBehind}
+use Rattle.linked_queue.proofs.Accepting.{may_still}
+use Rattle.linked_queue.proofs.Leavings.{drop_leaves}
+use Rattle.linked_queue.proofs.Linkings.{why_later}
+use Rattle.linked_queue.proofs.Owning.{through}
+use Rattle.linked_queue.proofs.Poppings.{leaves_on, some_found}
+use Rattle.linked_queue.proofs.Pushings.{load_still}
+use Rattle.linked_queue.proofs.chaining.link_last.Goals as goal
+
+pub link-requires-clause-load : goal.link-requires-clause-load
+link-requires-clause-load g c =
+    let node = c.args.node in
+    let leaves = c.in-Ok.ensures.leaves in
+    let is = leaves.owns node in
+    let push = times_push node c.in-Ok.last.slot c.args.seat.now.view.core.owned in
+    let some' = c.requires.load.owns in
+    load_still node (seen_by g.P.Part.seen c.args.seat.now) (seen_by g.P.Part.seen c.find_last.new.seat) c.requires.load (omega arith)
+    (leaves.knows node (omega arith) (omega arith)) c.find_last.ensures.beside
+
+pub link-requires-clause-may : goal.link-requires-clause-may
+link-requires-clause-may g c =
+    may_still g.P.Part.seen g.P.Part.with_seen g.P.Part.puts_back g.P.Part.puts_over
+    g.P.HasQueue.may_push g.met.P.HasQueue.stays c.args.domain.now.protocol c.args.seat.now
+    c.find_last.new.seat (carried_item (g.P.Part.seen c.args.seat.now.view.client))
+    (carried_item (g.P.Part.seen c.find_last.new.seat.view.client)) c.find_last.ensures.beside_part
+    (ap carried_item (sym c.find_last.ensures.beside)) c.requires.may
+
+pub drop_strong-requires-clause-owned : goal.drop_strong-requires-clause-owned
+drop_strong-requires-clause-owned g c =
+    let last = c.in-Ok.last.slot in
+    let a = c.in-Ok.ensures.leaves.owns last in
+    let b = c.link.ensures.leaves.owns last in
+    let some' = some_found last c.args.seat.now.view.core.owned in omega arith
+
+pub returns-in-Err-clause-load : goal.returns-in-Err-clause-load
+returns-in-Err-clause-load g c =
+    let node = c.args.node in
+    let leaves = c.in-Err.ensures.leaves in
+    let is = leaves.owns node in
+    let some' = c.requires.load.owns in
+    load_still node (seen_by g.P.Part.seen c.args.seat.now) (seen_by g.P.Part.seen c.find_last.new.seat) c.requires.load (omega arith)
+    (leaves.knows node (omega arith) (omega arith)) c.find_last.ensures.beside
+
+pub returns-in-Err-link-clause-leaves : goal.returns-in-Err-link-clause-leaves
+returns-in-Err-link-clause-leaves g c =
+    through c.in-Ok.last.slot None (seen_by g.P.Part.seen c.args.seat.now) (seen_by g.P.Part.seen c.find_last.new.seat)
+    (seen_by g.P.Part.seen c.link.new.seat) (seen_by g.P.Part.seen c.drop_strong.new.seat) c.in-Ok.ensures.leaves
+    c.link.ensures.leaves
+    (drop_leaves c.in-Ok.last.slot (seen_by g.P.Part.seen c.link.new.seat) (seen_by g.P.Part.seen c.drop_strong.new.seat)
+    c.drop_strong.ensures.dropped c.drop_strong.ensures.objects)
+
+pub returns-in-Err-link-clause-load : goal.returns-in-Err-link-clause-load
+returns-in-Err-link-clause-load g c =
+    let node = c.args.node in
+    let leaves = through c.in-Ok.last.slot None (seen_by g.P.Part.seen c.args.seat.now) (seen_by g.P.Part.seen c.find_last.new.seat)
+    (seen_by g.P.Part.seen c.link.new.seat) (seen_by g.P.Part.seen c.drop_strong.new.seat) c.in-Ok.ensures.leaves
+    c.link.ensures.leaves
+    (drop_leaves c.in-Ok.last.slot (seen_by g.P.Part.seen c.link.new.seat) (seen_by g.P.Part.seen c.drop_strong.new.seat)
+    c.drop_strong.ensures.dropped c.drop_strong.ensures.objects) in
+    let is = leaves.owns node in
+    let some' = c.requires.load.owns in
+    load_still node (seen_by g.P.Part.seen c.args.seat.now) (seen_by g.P.Part.seen c.drop_strong.new.seat) c.requires.load (omega arith)
+    (leaves.knows node (omega arith) (omega arith))
+    (ap beside_eyes (c.drop_strong.ensures.seen ∙ c.in-Err-link.ensures.refused)
+    ∙ c.find_last.ensures.beside)
+
+pub returns-in-Err-link-clause-refused : goal.returns-in-Err-link-clause-refused
+returns-in-Err-link-clause-refused g c =
+    ap beside_eyes (c.drop_strong.ensures.seen ∙ c.in-Err-link.ensures.refused)
+    ∙ c.find_last.ensures.beside
+
+pub returns-in-Err-link-clause-why : goal.returns-in-Err-link-clause-why
+returns-in-Err-link-clause-why g c =
+    why_later g.P.Kind.PayloadKind.fits (as_part g.P.Part.part c.args.domain.now) 0 3 3 refl c.in-Err-link.error
+    (seen_by g.P.Part.seen c.args.seat.now) (seen_by g.P.Part.seen c.find_last.new.seat) c.find_last.ensures.adds
+    (ap (λ (v : CoreView). v.quota.adds) c.in-Ok.ensures.leaves.same) c.in-Err-link.ensures.why
+
+pub returns-clause-leaves : goal.returns-clause-leaves
+returns-clause-leaves g c =
+    leaves_on (c.args.seat.now.view.core.owned ++ c.in-Ok.last.slot ∷ []) (seen_by g.P.Part.seen c.args.seat.now)
+    (seen_by g.P.Part.seen c.find_last.new.seat) (seen_by g.P.Part.seen c.link.new.seat) c.in-Ok.ensures.leaves c.link.ensures.leaves
+
+pub returns-clause-events : goal.returns-clause-events
+returns-clause-events g c = record {
+  found = (seen_by g.P.Part.seen c.find_last.new.seat);
+  finds = c.in-Ok.ensures.events;
+  links = subst (λ (s : SlotId). Links g.P.Kind.PayloadKind.fits (as_part g.P.Part.part c.args.domain.now) s c.args.node
+      (seen_by g.P.Part.seen c.find_last.new.seat) (seen_by g.P.Part.seen c.link.new.seat)) c.slot.ensures c.in_default.ensures.links;
+}
+
+pub returns-clause-behind : goal.returns-clause-behind
+returns-clause-behind g c =
+    subst (λ (s : SlotId). SeesBehind s c.args.node (seen_by g.P.Part.seen c.link.new.seat)) c.slot.ensures
+    c.in_default.ensures.behind

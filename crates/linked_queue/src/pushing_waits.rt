@@ -1,0 +1,167 @@
+//! A push that tries again until no other seat is quicker. It keeps its one node through its tries.
+ghost use Rattle.std.specs.Prelude.{◌≡◌, ◌<◌, IfErr, IfOk, OnErr};
+ghost use Rattle.plain_state.specs.Lists.{times};
+ghost use Rattle.core_events.specs.Steps.{HasRoom};
+ghost use Rattle.core_events.specs.Views.{without};
+ghost use Rattle.control_word.specs.Resting.{IsAtRest};
+ghost use Rattle.queue_law.specs.declared.view.Form.TheVariants.{Linked};
+ghost use Rattle.queue_law.specs.Pushes.{carried_item};
+ghost use Rattle.queue_law.specs.Views.{first_view};
+ghost use Rattle.part_calls.specs.Parts.{HasBeside, StaysBeside, as_part, seen_by};
+ghost use Rattle.linked_queue.specs.Leaving.{Leaves, handle_by, with_found};
+ghost use Rattle.linked_queue.specs.Pops.{item_in};
+ghost use Rattle.linked_queue.specs.Pushes.{HasLoad, Pushes, PushesNothing, SeesBehind, pushed_too};
+ghost use Rattle.linked_queue.specs.Queues.{IsAttached, IsQueueOf, beside_eyes, deeds_in};
+ghost use Rattle.linked_queue.specs.Waits.{IsWhyNeverPushed, LinksAtLast, LinksTooFew, PushesAtLast, PushesNodeAtLast};
+
+use crate::chaining::link_last;
+use crate::linking::advance;
+use crate::pushing::load_node;
+use crate::queue::{LinkedQueue, PushRefused};
+use acquire_retire::{Domain, Seat, SlotId};
+use atomic_shared::LoadError;
+use counted_handles::{Spent, Strong};
+use crossbeam_utils::Backoff;
+use part_calls::drop_strong;
+use queue_protocol::{HasQueue, QueueLaw};
+use slot_store::MakeError;
+use std::sync::Wait;
+
+impl LinkedQueue {
+    /// Appends an item to the queue, and gives the seat's reference to it. It tries again as long as another seat is
+    /// quicker, with the node that it made first, so it may wait for other threads. It is refused with the causes of
+    /// `make`; `AddsSpent` may come of a later increment of the call, and at most three adds were left at the last try
+    /// then. Then nothing is pushed, and the item is handed back.
+    pub fn push<S, P: HasQueue<S>, R: Wait>(
+        &self,
+        rt: &R,
+        domain: &Domain<P>,
+        seat: &mut Seat<P>,
+        item: Strong,
+    ) -> Result<(), PushRefused>
+        requires rest { IsAtRest domain.now seat.old }
+        requires room { HasRoom seat.old.view.core }
+        requires queue { IsQueueOf self.now.head self.now.tail (as_part P.part domain.now) }
+        requires attached { IsAttached (P.seen seat.old.view.client) }
+        requires item { 0 < times item.slot seat.old.view.core.owned }
+        requires may { P.may_push domain.now.protocol seat.old.view.client
+            (item_in (seen_by P.seen seat.old) item.slot) }
+        ensures events { IfOk result (λ done. PushesAtLast P.Kind.fits (as_part P.part domain.now)
+            item.slot (seen_by P.seen seat.old) (seen_by P.seen seat.new)) }
+        ensures pushed { IfOk result (λ done. Pushes item.slot (seen_by P.seen seat.old)
+            (seen_by P.seen seat.new)) }
+        ensures refused { OnErr result (PushesNothing (seen_by P.seen seat.old)
+            (seen_by P.seen seat.new)) }
+        ensures back { IfErr result (λ refused. refused.back ≡ item) }
+        ensures why { IfErr result (λ refused. IsWhyNeverPushed P.Kind.fits
+            (as_part P.part domain.now) refused.why (seen_by P.seen seat.old)) }
+        ensures attached { IsAttached (P.seen seat.new.view.client) }
+        ensures beside { StaysBeside P.seen P.with_seen seat.old seat.new }
+        ensures room { HasRoom seat.new.view.core }
+        ensures rest { IsAtRest domain.now seat.new }
+    {
+        let node = match load_node(domain, seat, &item) {
+            Ok(node) => node,
+            Err(why) => return Err(PushRefused { why, back: item }),
+        };
+        match push_at_last(rt, domain, seat, self.tail, node) {
+            Ok(()) => {
+                drop_strong::<QueueLaw, S, P>(domain, seat, item);
+                Ok(())
+            }
+            Err(Spent) => Err(PushRefused {
+                why: MakeError::AddsSpent,
+                back: item,
+            }),
+        }
+    }
+}
+
+/// Links a node that carries its item behind the last one, however often another seat is quicker, or gives it up.
+fn push_at_last<S, P: HasQueue<S>, R: Wait>(
+    rt: &R,
+    domain: &Domain<P>,
+    seat: &mut Seat<P>,
+    tail: u32,
+    node: Strong,
+) -> Result<(), Spent>
+    requires rest { IsAtRest domain.now seat.old }
+    requires room { HasRoom seat.old.view.core }
+    requires queue { (P.part domain.now.protocol).form ≡ Linked }
+    requires tail { tail ≡ (P.part domain.now.protocol).tail }
+    requires there { tail < domain.now.shape.cells }
+    requires attached { IsAttached (P.seen seat.old.view.client) }
+    requires load { HasLoad node.slot (seen_by P.seen seat.old) }
+    requires may { P.may_push domain.now.protocol seat.old.view.client
+        (carried_item (P.seen seat.old.view.client)) }
+    ensures events { IfOk result (λ done. PushesNodeAtLast P.Kind.fits
+        (as_part P.part domain.now) node.slot (seen_by P.seen seat.old)
+        (seen_by P.seen seat.new)) }
+    ensures pushed { IfOk result (λ done. deeds_in (P.seen seat.new.view.client)
+        ≡ pushed_too (carried_item (P.seen seat.old.view.client))
+        (deeds_in (P.seen seat.old.view.client))) }
+    ensures refused { OnErr result (deeds_in (P.seen seat.new.view.client)
+        ≡ deeds_in (P.seen seat.old.view.client)) }
+    ensures leaves { Leaves (without node.slot seat.old.view.core.owned)
+        (seen_by P.seen seat.old) (seen_by P.seen seat.new) }
+    ensures why { IfErr result (λ spent. LinksTooFew 3 (seen_by P.seen seat.old)) }
+    ensures beside_part { HasBeside P.with_seen first_view seat.old seat.new }
+    ensures room { HasRoom seat.new.view.core }
+    ensures rest { IsAtRest domain.now seat.new }
+{
+    match link_at_last(rt, domain, seat, tail, node.slot()) {
+        Ok(last) => {
+            advance(domain, seat, tail, last.slot(), node);
+            drop_strong::<QueueLaw, S, P>(domain, seat, last);
+            Ok(())
+        }
+        Err(Spent) => {
+            drop_strong::<QueueLaw, S, P>(domain, seat, node);
+            Err(Spent)
+        }
+    }
+}
+
+/// Links it so, and answers a reference to the node that was the last one.
+fn link_at_last<S, P: HasQueue<S>, R: Wait>(
+    rt: &R,
+    domain: &Domain<P>,
+    seat: &mut Seat<P>,
+    tail: u32,
+    node: SlotId,
+) -> Result<Strong, Spent>
+    requires rest { IsAtRest domain.now seat.old }
+    requires room { HasRoom seat.old.view.core }
+    requires queue { (P.part domain.now.protocol).form ≡ Linked }
+    requires tail { tail ≡ (P.part domain.now.protocol).tail }
+    requires there { tail < domain.now.shape.cells }
+    requires attached { IsAttached (P.seen seat.old.view.client) }
+    requires load { HasLoad node (seen_by P.seen seat.old) }
+    requires may { P.may_push domain.now.protocol seat.old.view.client
+        (carried_item (P.seen seat.old.view.client)) }
+    ensures events { IfOk result (λ last. LinksAtLast P.Kind.fits (as_part P.part domain.now)
+        last.slot node (seen_by P.seen seat.old) (seen_by P.seen seat.new)) }
+    ensures pushed { IfOk result (λ last. deeds_in (P.seen seat.new.view.client)
+        ≡ pushed_too (carried_item (P.seen seat.old.view.client))
+        (deeds_in (P.seen seat.old.view.client))) }
+    ensures behind { IfOk result (λ last. SeesBehind last.slot node
+        (seen_by P.seen seat.new)) }
+    ensures refused { OnErr result (beside_eyes (P.seen seat.new.view.client)
+        ≡ beside_eyes (P.seen seat.old.view.client)) }
+    ensures leaves { Leaves (with_found (handle_by result) seat.old.view.core.owned)
+        (seen_by P.seen seat.old) (seen_by P.seen seat.new) }
+    ensures why { IfErr result (λ spent. LinksTooFew 3 (seen_by P.seen seat.old)) }
+    ensures beside_part { HasBeside P.with_seen first_view seat.old seat.new }
+    ensures room { HasRoom seat.new.view.core }
+    ensures rest { IsAtRest domain.now seat.new }
+{
+    let backoff = Backoff::new();
+    for _try in rt.forever() {
+        match link_last(domain, seat, tail, node) {
+            Ok(last) => return Ok(last),
+            Err(LoadError::Spent) => return Err(Spent),
+            Err(LoadError::Moved { .. }) => backoff.spin(),
+        }
+    }
+    unreachable!()
+}
