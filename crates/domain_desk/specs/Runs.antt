@@ -22,7 +22,7 @@ Begins d c answer f = (e : Desk) × Acts d c answer e × Tidied e f
 abbrev pub Runs : Desk → Command → Said → Desk → Type 0
 Runs d c answer f = Begins d c answer f × IsSettled f.plain
 
--- the commands on references and on what is told of them
+-- the commands that this desk has
 abbrev pub IsHere : Command → Type 0
 IsHere (command.Make name weight) = Unit {0}
 IsHere (command.Copy name new) = Unit {0}
@@ -30,7 +30,4 @@ IsHere (command.Drop name) = Unit {0}
 IsHere (command.Weaken name new) = Unit {0}
 IsHere (command.CopyWeak name new) = Unit {0}
 IsHere (command.DropWeak name) = Unit {0}
-IsHere (command.Upgrade name new) = Unit {0}
-IsHere (command.Read name word) = Unit {0}
-IsHere (command.Counts name) = Unit {0}
 IsHere _ = ⊥

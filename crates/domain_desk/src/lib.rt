@@ -16,7 +16,10 @@
 
 mod desk;
 mod laws;
+mod making;
+mod opening;
 mod references;
+mod running;
 
 pub use desk::DomainDesk;
 pub use laws::plain_desks_run_so;
