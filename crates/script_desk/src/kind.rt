@@ -21,7 +21,7 @@ impl PayloadKind for ScriptKind {
 }
 
 /// The payload of an object of this weight.
-pub(crate) fn payload_of(weight: u64) -> [u64; 16]
+pub fn payload_of(weight: u64) -> [u64; 16]
     ensures { result ≡ script_payload weight }
 {
     let mut payload = [0; 16];

@@ -44,5 +44,8 @@ mod wanted;
 
 pub use desk::Desk;
 pub use handle::Handle;
-pub use kind::ScriptKind;
+pub use kind::{ScriptKind, payload_of};
+pub use maker::Make;
+pub use names::NameTable;
+pub use opening::no_makers;
 pub use said::{Said, Shown};

@@ -6,9 +6,9 @@ use std::marker::Model;
 
 /// A make: its number, and the name that it bound.
 #[derive(Drop)]
-pub(crate) struct Make {
-    pub(crate) number: u64,
-    pub(crate) name: String,
+pub struct Make {
+    pub number: u64,
+    pub name: String,
 }
 
 impl Model for Make {

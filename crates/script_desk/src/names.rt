@@ -14,7 +14,7 @@ use std::marker::Model;
 
 /// What each name is bound to. Contracts see the bound names, each with its handle.
 #[derive(Drop)]
-pub(crate) struct NameTable {
+pub struct NameTable {
     map: BTreeMap<String, Handle>,
 }
 

@@ -15,7 +15,7 @@ use out_of_memory::OutOfMemory;
 use std::alloc::Global;
 
 /// A maker for each slot, none of which was made.
-fn no_makers(alloc: Global, slots: u32) -> Result<Vec<Make>, OutOfMemory>
+pub fn no_makers(alloc: Global, slots: u32) -> Result<Vec<Make>, OutOfMemory>
     ensures size { IfOk result (λ makers. length makers.items ≡ slots) }
     ensures each { IfOk result (λ makers. All (λ maker. maker ≡ nobody) makers.items) }
 {

@@ -1,0 +1,281 @@
+-- What the desk's seat has after each call, and what was begun.
+use Rattle.std.proofs.Common.{◌≡◌, ℕ, ◌+◌, ◌<◌, List, [], ◌∷◌, length, refl, ap, sym, ◌∙◌, subst, arith, Option, Some, None, IfSome}
+use Rattle.std.specs.Map.{values_of}
+use Rattle.std.specs.Prelude.{slice_set}
+use Rattle.plain_state.specs.declared.act.EventPlace.{EventPlace}
+use Rattle.plain_state.specs.declared.act.PlainAct.{PlainAct}
+use Rattle.plain_state.specs.declared.act.PlainAct.TheVariants as act
+use Rattle.plain_state.specs.declared.slot.SlotId.{SlotId}
+use Rattle.plain_state.specs.State.{Plain, empty, new_slot, seat_at}
+use Rattle.plain_state.proofs.Kit.{entry_none, times_none}
+use Rattle.plain_state.specs.declared.slot.Kind.TheVariants as kind
+use Rattle.std.proofs.lemmas.List.{length-replicate}
+use Rattle.plain_state.specs.Steps.{Does}
+use Rattle.plain_store.specs.Calls.{Gains, WeaklyGains}
+use Rattle.plain_store.specs.Heaps.{Makes, Owns, OwnsWeakly}
+use Rattle.plain_store.specs.Settling.{IsSettled, SettlesTo, freed}
+use Rattle.plain_store.specs.Settling.{Settles as PlainSettles}
+use Rattle.plain_settling.specs.Settling.{Tidies, TidiesBy, TidiesTo}
+use Rattle.plain_settling.proofs.Settling.{tidies_none, tidies_on}
+use Rattle.acquire_retire.specs.Seats.{SeatState}
+use Rattle.lone_heap.specs.Lone.{IsReady, ThenTidies, known_plain}
+use Rattle.script_lines.specs.declared.command.Command.{Command}
+use Rattle.script_lines.specs.declared.command.Command.TheVariants as command
+use Rattle.script_desk.specs.declared.handle.Handle.{Handle}
+use Rattle.script_desk.specs.declared.handle.Handle.TheVariants.{Strong, Weak}
+use Rattle.script_desk.specs.declared.said.Said.{Said}
+use Rattle.script_desk.specs.declared.said.Said.TheVariants as said
+use Rattle.script_desk.specs.Desks.{Binds, Desk, Maker, Names, bound}
+use Rattle.script_desk.specs.Effects.{Acts, MakesOne}
+use Rattle.script_desk.specs.Holding.{CountsMore, HasMore, HasSame, Kept, giving}
+use Rattle.script_desk.specs.Kinds.{script_payload, script_weight}
+use Rattle.script_desk.proofs.Gaining.{gains_more, gives_fewer, makes_more, weakly_gains_more}
+use Rattle.script_desk.proofs.Told.{kept_made, makes_told, named}
+use Rattle.script_desk.proofs.Grows.{same_by}
+use Rattle.script_desk.proofs.Steps.{same_as, same_then, settles_same}
+use Rattle.script_desk.proofs.Sums.{has_bound, kept_fewer, kept_more, kept_same}
+use Rattle.domain_desk.specs.Desks.{DeskState, IsKept, desk_of, plain_of}
+use Rattle.domain_desk.specs.Runs.{Begins, Runs, Tidied}
+
+-- tidying leaves what the seat has
+one_settles : (p q : Plain) (a : PlainAct) (found : ℕ) → PlainSettles p a q → Does p 0 a found q
+    → HasSame p q
+one_settles p q a found may does =
+    settles_same script_weight p q (freed script_weight p a + 0)
+    (a ∷ [], (q, found, 0, may, does, (refl, refl), refl))
+
+tidy_step : (p q : Plain) (a : PlainAct) (found : ℕ) → Tidies p a → Does p 0 a found q → HasSame p q
+tidy_step p q (act.Eject k s) found may (here, (es, l, z, e, covered)) =
+    same_by p q (record (seat_at p 0) { deferred = es }) here.0 e refl refl refl
+tidy_step p q act.Split found may (here, (z, (es, order, e))) =
+    same_by p q (record (seat_at p 0) { deferred = es }) here.0 e refl refl refl
+tidy_step p q (act.End s) found may does = one_settles p q (act.End s) found tt does
+tidy_step p q (act.Clear place) found may does = one_settles p q (act.Clear place) found tt does
+tidy_step p q (act.Destroy s) found may does = one_settles p q (act.Destroy s) found tt does
+tidy_step p q (act.Give s) found may does = one_settles p q (act.Give s) found tt does
+tidy_step p q _ found may does = absurd may
+
+tidied_by : (acts : List PlainAct) (p q : Plain) → TidiesBy acts p q → HasSame p q
+tidied_by [] p q same = same_as p q same
+tidied_by (a ∷ more) p q (m, found, may, does, by) =
+    same_then p m q (tidy_step p m a found may does) (tidied_by more m q by)
+
+pub tidied_same : (p q : Plain) → TidiesTo p q → HasSame p q
+tidied_same p q by = tidied_by by.0 p q by.1
+
+module _ {P : Type 0} (i d : DeskState P) (is : i ≡ d) (kept : IsKept d) where
+  has_kept : IsKept i
+  has_kept = subst IsKept (sym is) kept
+
+  pub owns_strong : (name : List ℕ) (s t : SlotId) → bound d.names name ≡ Some (Strong s) → t ≡ s
+      → Owns (plain_of i) t
+  owns_strong name s t named same =
+      subst (λ (x : SlotId). Owns (plain_of i) x) (sym same)
+      (subst (λ (x : DeskState P). Owns (plain_of x) s) (sym is)
+      (has_bound (plain_of d) d.names name (Strong s) kept.kept.holds named))
+
+  pub owns_weak : (name : List ℕ) (s t : SlotId) → bound d.names name ≡ Some (Weak s) → t ≡ s
+      → OwnsWeakly (plain_of i) t
+  owns_weak name s t named same =
+      subst (λ (x : SlotId). OwnsWeakly (plain_of i) x) (sym same)
+      (subst (λ (x : DeskState P). OwnsWeakly (plain_of x) s) (sym is)
+      (has_bound (plain_of d) d.names name (Weak s) kept.kept.holds named))
+
+  -- what a name was bound to
+  pub was_strong : (name : List ℕ) (s t : SlotId) (found : Option Handle)
+      → found ≡ bound i.names name → bound d.names name ≡ Some (Strong s) → t ≡ s
+      → found ≡ Some (Strong t)
+  was_strong name s t found was named same =
+      was ∙ ap (λ (x : DeskState P). bound x.names name) is ∙ named
+      ∙ ap (λ (x : SlotId). Some (Strong x)) (sym same)
+
+  pub was_weak : (name : List ℕ) (s t : SlotId) (found : Option Handle)
+      → found ≡ bound i.names name → bound d.names name ≡ Some (Weak s) → t ≡ s
+      → found ≡ Some (Weak t)
+  was_weak name s t found was named same =
+      was ∙ ap (λ (x : DeskState P). bound x.names name) is ∙ named
+      ∙ ap (λ (x : SlotId). Some (Weak x)) (sym same)
+
+  pub ready_here : IsReady i.domain i.seat
+  ready_here = has_kept.ready
+
+  module _ (seat : SeatState (Unit {0})) (names : Names) (ready : IsReady i.domain seat) where
+    abbrev later : DeskState P
+    later = record i { seat = seat; names = names }
+
+    of_kept : Kept (plain_of later) names i.makers (length (plain_of i).cells)
+        (length (plain_of i).weak_cells) → IsKept later
+    of_kept k = record {
+      ready = ready;
+      kept = record {
+        holds = k.holds;
+        makers = k.makers;
+        cells = refl;
+        weak_cells = refl;
+      };
+    }
+
+    kept_gained : (h : Handle) → HasMore (plain_of i) h (plain_of later)
+        → CountsMore (values_of i.names) h (values_of names) → IsKept later
+    kept_gained h more counts =
+        of_kept (kept_more (plain_of i) i.names i.makers _ _ has_kept.kept (plain_of later) h names more
+        counts)
+
+    pub kept_strong : (s t u v : SlotId) → Gains (plain_of i) s t (plain_of later) → u ≡ t → v ≡ u
+        → CountsMore (values_of i.names) (Strong v) (values_of names) → IsKept later
+    kept_strong s t u v gains first second counts =
+        kept_gained (Strong v)
+        (subst (λ (x : SlotId). HasMore (plain_of i) (Strong x) (plain_of later))
+        (sym (second ∙ first)) (gains_more (plain_of i) (plain_of later) s t gains))
+        counts
+
+    pub kept_weak : (s t u v : SlotId) → WeaklyGains (plain_of i) s t (plain_of later) → u ≡ t → v ≡ u
+        → CountsMore (values_of i.names) (Weak v) (values_of names) → IsKept later
+    kept_weak s t u v gains first second counts =
+        kept_gained (Weak v)
+        (subst (λ (x : SlotId). HasMore (plain_of i) (Weak x) (plain_of later))
+        (sym (second ∙ first)) (weakly_gains_more (plain_of i) (plain_of later) s t gains))
+        counts
+
+    -- a handle that was given up, and its name
+    module _ (h : Handle) (gives : ThenTidies (Does (plain_of i) 0 (giving h) 0) (plain_of later))
+        (found : Option Handle) (named : found ≡ Some h)
+        (fewer : IfSome found (λ x. CountsMore (values_of names) x (values_of i.names))) where
+      pub kept_given : IsKept later
+      kept_given =
+          let counts = subst (λ (o : Option Handle).
+          IfSome o (λ x. CountsMore (values_of names) x (values_of i.names))) named fewer in
+          let one = kept_fewer (plain_of i) i.names i.makers _ _ has_kept.kept gives.0 h names
+          (gives_fewer (plain_of i) gives.0 h gives.1) counts in
+          of_kept (kept_same gives.0 names i.makers _ _ one (plain_of later)
+          (tidied_same gives.0 (plain_of later) gives.2))
+
+    module _ (name : List ℕ) (s : SlotId) (binds : Binds i.names name None names) where
+      pub drop_begins : bound d.names name ≡ Some (Strong s) → (t : SlotId) → t ≡ s
+          → ThenTidies (Does (plain_of i) 0 (act.Drop t) 0) (plain_of later)
+          → Begins (desk_of d) (command.Drop name) said.Nothing (desk_of later)
+      drop_begins named t same gives =
+          let gives = subst (λ (x : SlotId).
+          ThenTidies (Does (plain_of i) 0 (act.Drop x) 0) (plain_of later)) same gives in
+          subst (λ (x : DeskState P). bound x.names name ≡ Some (Strong s)
+          → Begins (desk_of x) (command.Drop name) said.Nothing (desk_of later)) is
+          (λ was. (
+            record { plain = gives.0; names = names; makers = i.makers; makes = i.makes },
+            (refl, (s, was, gives.1, (binds, (refl, refl)))),
+            record { tidies = gives.2; names = refl; makers = (refl, refl) },
+          ))
+          named
+
+      pub weak_drop_begins : bound d.names name ≡ Some (Weak s) → (t : SlotId) → t ≡ s
+          → ThenTidies (Does (plain_of i) 0 (act.WeakDrop t) 0) (plain_of later)
+          → Begins (desk_of d) (command.DropWeak name) said.Nothing (desk_of later)
+      weak_drop_begins named t same gives =
+          let gives = subst (λ (x : SlotId).
+          ThenTidies (Does (plain_of i) 0 (act.WeakDrop x) 0) (plain_of later)) same gives in
+          subst (λ (x : DeskState P). bound x.names name ≡ Some (Weak s)
+          → Begins (desk_of x) (command.DropWeak name) said.Nothing (desk_of later)) is
+          (λ was. (
+            record { plain = gives.0; names = names; makers = i.makers; makes = i.makes },
+            (refl, (s, was, gives.1, (binds, (refl, refl)))),
+            record { tidies = gives.2; names = refl; makers = (refl, refl) },
+          ))
+          named
+
+  -- an object that was made, and its maker
+  module _ (seat : SeatState (Unit {0})) (names : Names) (ready : IsReady i.domain seat)
+      (payload : List ℕ) (s u v : SlotId) (makes : Makes (plain_of i) s payload (known_plain i.domain seat))
+      (first : u ≡ s) (second : v ≡ u) (at : SlotId) (third : at ≡ v) (maker : Maker) (count : ℕ) where
+    abbrev made : DeskState P
+    made = record i { seat = seat; names = names; makers = slice_set i.makers at.0 maker; makes = count }
+
+    of_hand : v ≡ s
+    of_hand = second ∙ first
+
+    pub made_kept : CountsMore (values_of i.names) (Strong v) (values_of names) → IsKept made
+    made_kept counts =
+        let more = subst (λ (x : SlotId). HasMore (plain_of i) (Strong x) (plain_of made)) (sym of_hand)
+        (makes_more (plain_of i) (plain_of made) s payload makes) in
+        let k = kept_made (plain_of made) names i.makers _ _ at.0 maker
+        (kept_more (plain_of i) i.names i.makers _ _ has_kept.kept (plain_of made) (Strong v) names more
+        counts) in
+        record {
+          ready = ready;
+          kept = record {
+            holds = k.holds;
+            makers = k.makers;
+            cells = refl;
+            weak_cells = refl;
+          };
+        }
+
+    pub made_told : (name : List ℕ) (weight : ℕ) → payload ≡ script_payload weight
+        → Binds i.names name (Some (Strong v)) names → count ≡ i.makes + 1
+        → maker ≡ named i.makes name → MakesOne (desk_of d) name weight said.Made (desk_of made)
+    made_told name weight is_payload binds next is_maker =
+        makes_told (plain_of i) i.names i.makers i.makes (desk_of d) (ap desk_of is) _ _ has_kept.kept
+        name weight payload s (plain_of made) (plain_of made) names at count maker makes is_payload refl
+        (subst (λ (x : SlotId). Binds i.names name (Some (Strong x)) names) of_hand binds)
+        (third ∙ of_hand) next is_maker
+
+  -- a settle
+  module _ (seat : SeatState (Unit {0})) (ready : IsReady i.domain seat)
+      (tidies : TidiesTo (plain_of i) (known_plain i.domain seat)) where
+    abbrev settled : DeskState P
+    settled = record i { seat = seat }
+
+    pub settle_kept : IsKept settled
+    settle_kept =
+        of_kept seat i.names ready
+        (kept_same (plain_of i) i.names i.makers _ _ has_kept.kept (plain_of settled)
+        (tidied_same (plain_of i) (plain_of settled) tidies))
+
+    pub settle_tidied : Tidied (desk_of d) (desk_of settled)
+    settle_tidied =
+        subst (λ (x : DeskState P). Tidied (desk_of x) (desk_of settled)) is
+        (record { tidies = tidies; names = refl; makers = (refl, refl) })
+
+-- a desk that has just been opened
+pub opened_kept : (p : Plain) (slots cells weak_cells : ℕ) (made : List Maker)
+    → p ≡ empty 1 slots cells weak_cells → length made ≡ slots
+    → Kept p [] made (length p.cells) (length p.weak_cells)
+opened_kept p slots cells weak_cells made is count =
+    subst (λ (x : Plain). Kept x [] made (length x.cells) (length x.weak_cells)) (sym is) (record {
+      holds = record {
+        owned = λ s. times_none s;
+        weaks = λ s. times_none s;
+        snapshots = λ s. entry_none kind.Strong s;
+        weak_snapshots = λ s.
+            let one = entry_none kind.Weak s in
+            let two = entry_none kind.Disposal s in omega arith;
+      };
+      makers = count ∙ sym (length-replicate slots new_slot);
+      cells = refl;
+      weak_cells = refl;
+    })
+
+-- a command that made its row alone has begun so
+pub acts_begin : (d : Desk) (c : Command) (answer : Said) (e : Desk) → Acts d c answer e
+    → Begins d c answer e
+acts_begin d c answer e acts = (
+  e,
+  acts,
+  record { tidies = tidies_none e.plain e.plain refl; names = refl; makers = (refl, refl) },
+)
+
+-- what has begun, and is tidied until nothing more may go, has run
+pub begun_runs : (d : Desk) (c : Command) (answer : Said) (e f : Desk) → Begins d c answer e
+    → Tidied e f → IsSettled f.plain → Runs d c answer f
+begun_runs d c answer e f begins tidied settled =
+    let m = begins.0 in
+    let first = begins.2 in (
+      (
+        m,
+        begins.1,
+        record {
+          tidies = tidies_on m.plain e.plain f.plain first.tidies tidied.tidies;
+          names = tidied.names ∙ first.names;
+          makers = (tidied.makers.0 ∙ first.makers.0, tidied.makers.1 ∙ first.makers.1);
+        },
+      ),
+      settled,
+    )

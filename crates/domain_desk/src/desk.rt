@@ -1,0 +1,34 @@
+//! What a script has between two commands.
+ghost use Rattle.plain_protocol.specs.declared.no_law.NoLaw.{NoLaw as NoLawOf};
+ghost use Rattle.script_desk.specs.declared.kind.ScriptKind.{ScriptKind as Kind};
+ghost use Rattle.domain_desk.specs.Desks.{DeskState};
+
+use acquire_retire::{Domain, Seat};
+use plain_protocol::NoLaw;
+use script_desk::{Make, NameTable, ScriptKind};
+use std::alloc::Global;
+use std::marker::Model;
+
+/// A domain and its one seat, names that are bound to handles of it, and of each slot the make that made it last.
+/// Contracts see it as a value of `specs/Desks`.
+#[derive(Drop)]
+pub struct DomainDesk {
+    pub(crate) alloc: Global,
+    pub(crate) domain: Domain<NoLaw<ScriptKind>>,
+    pub(crate) seat: Seat<NoLaw<ScriptKind>>,
+    pub(crate) names: NameTable,
+    pub(crate) makers: Vec<Make>,
+    pub(crate) makes: u64,
+}
+
+impl Model for DomainDesk {
+    ghost Value = { DeskState (NoLawOf Kind) };
+
+    ghost view = { λ d. record {
+      domain = d.domain;
+      seat = d.seat;
+      names = d.names;
+      makers = d.makers.items;
+      makes = d.makes;
+    } };
+}

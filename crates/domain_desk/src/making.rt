@@ -1,0 +1,46 @@
+//! Objects are made.
+ghost use Rattle.std.specs.Prelude.{◌≡◌, ◌≤◌, ◌^◌, IfOk, OnOk, None};
+ghost use Rattle.script_desk.specs.Desks.{bound};
+ghost use Rattle.script_desk.specs.Effects.{MakesOne};
+ghost use Rattle.domain_desk.specs.Desks.{IsKept, desk_of};
+
+use crate::desk::DomainDesk;
+use lone_heap::{MakeError, make};
+use out_of_memory::OutOfMemory;
+use plain_store::Hand;
+use script_desk::{Handle, Make, Said, payload_of};
+use script_lines::Name;
+
+impl DomainDesk {
+    /// A new object of this weight, or none where no slot is free.
+    pub(crate) fn make(&mut self, name: &Name, weight: u64) -> Result<Said, OutOfMemory>
+        requires kept { IsKept self.old }
+        requires weight { weight ≤ 2 ^ 32 }
+        requires unbound { bound self.old.names name.now ≡ None }
+        ensures makes { IfOk result (λ answer.
+            MakesOne (desk_of self.old) name.now weight answer (desk_of self.new)) }
+        ensures kept { OnOk result (IsKept self.new) }
+    {
+        let number = self.makes;
+        let Some(makes) = number.checked_add(1) else {
+            return Err(OutOfMemory);
+        };
+        let maker = Make {
+            number,
+            name: String::from_str(self.alloc, name.as_str())?,
+        };
+        let more = match make(&self.domain, &mut self.seat, &payload_of(weight)) {
+            Ok(more) => more,
+            Err(MakeError::Full) => return Ok(Said::Full),
+            Err(_spent) => return Err(OutOfMemory),
+        };
+        let hand = Hand::of(more.slot());
+        let slot = hand.slot();
+        let Ok(()) = self.names.bind(self.alloc, name, Handle::Strong(hand)) else {
+            return Err(OutOfMemory);
+        };
+        self.makers[slot.0 as usize] = maker;
+        self.makes = makes;
+        Ok(Said::Made)
+    }
+}

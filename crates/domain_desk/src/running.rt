@@ -1,0 +1,74 @@
+//! A command is run.
+ghost use Rattle.std.specs.Prelude.{IfOk, OnOk};
+ghost use Rattle.deleter.specs.Weighing.{Weighs};
+ghost use Rattle.plain_store.specs.Settling.{IsSettled};
+ghost use Rattle.script_desk.specs.Faults.{IsFaultless};
+ghost use Rattle.script_desk.specs.Kinds.{IsScriptPayload, script_weight};
+ghost use Rattle.domain_desk.specs.Desks.{IsKept, desk_of, plain_of};
+ghost use Rattle.domain_desk.specs.Runs.{Begins, IsHere, Runs, Tidied};
+
+use crate::desk::DomainDesk;
+use deleter::Deleter;
+use lone_heap::settle_all;
+use out_of_memory::OutOfMemory;
+use script_desk::{Said, ScriptKind};
+use script_lines::Command;
+
+impl DomainDesk {
+    /// Does what the command says, lets the seat settle, and answers what the command answers. After an allocation
+    /// failure, or where the seat's adds or makes are used up, nothing is promised of the desk.
+    pub fn run<F: Fn(&[u64; 16]) -> u64>(
+        &mut self,
+        command: &Command,
+        weigh: &Deleter<ScriptKind, F>,
+    ) -> Result<Said, OutOfMemory>
+        requires kept { IsKept self.old }
+        requires here { IsHere command.now }
+        requires faultless { IsFaultless (desk_of self.old) command.now }
+        requires settled { IsSettled (plain_of self.old) }
+        requires weighs { Weighs IsScriptPayload script_weight F.Fn weigh.now }
+        ensures runs { IfOk result (λ answer.
+            Runs (desk_of self.old) command.now answer (desk_of self.new)) }
+        ensures kept { OnOk result (IsKept self.new) }
+    {
+        let said = self.act(command)?;
+        self.settle(weigh);
+        Ok(said)
+    }
+
+    fn act(&mut self, command: &Command) -> Result<Said, OutOfMemory>
+        requires kept { IsKept self.old }
+        requires here { IsHere command.now }
+        requires faultless { IsFaultless (desk_of self.old) command.now }
+        requires settled { IsSettled (plain_of self.old) }
+        ensures begins { IfOk result (λ answer.
+            Begins (desk_of self.old) command.now answer (desk_of self.new)) }
+        ensures kept { OnOk result (IsKept self.new) }
+    {
+        match command {
+            Command::Make(name, weight) => self.make(name, *weight as u64),
+            Command::Copy(name, new) => self.copy(name, new),
+            Command::Weaken(name, new) => self.weaken(name, new),
+            Command::CopyWeak(name, new) => self.copy_weak(name, new),
+            Command::Drop(name) => {
+                self.drop(name);
+                Ok(Said::Nothing)
+            }
+            Command::DropWeak(name) => {
+                self.drop_weak(name);
+                Ok(Said::Nothing)
+            }
+            _ => unreachable!(),
+        }
+    }
+
+    fn settle<F: Fn(&[u64; 16]) -> u64>(&mut self, weigh: &Deleter<ScriptKind, F>)
+        requires kept { IsKept self.old }
+        requires weighs { Weighs IsScriptPayload script_weight F.Fn weigh.now }
+        ensures tidied { Tidied (desk_of self.old) (desk_of self.new) }
+        ensures settled { IsSettled (plain_of self.new) }
+        ensures kept { IsKept self.new }
+    {
+        settle_all(&self.domain, &mut self.seat, weigh);
+    }
+}
