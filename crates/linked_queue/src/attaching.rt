@@ -20,10 +20,13 @@ impl LinkedQueue {
         requires rest { IsAtRest domain.now seat.old }
         requires queue { IsQueueOf self.now.head self.now.tail (as_part P.part domain.now) }
         ensures looks { (found : _) × (result ≡ is_slot found)
-            × LooksAtHead P.Kind.fits (as_part P.part domain.now) found (seen_by P.seen seat.old) (seen_by P.seen seat.new) }
+            × LooksAtHead P.Kind.fits (as_part P.part domain.now) found (seen_by P.seen seat.old)
+            (seen_by P.seen seat.new) }
         ensures attached { (P.seen seat.new.view.client)
-            ≡ (if result then attached_in (P.seen seat.old.view.client) else (P.seen seat.old.view.client)) }
-        ensures leaves { Leaves seat.old.view.core.owned (seen_by P.seen seat.old) (seen_by P.seen seat.new) }
+            ≡ (if result then attached_in (P.seen seat.old.view.client)
+            else (P.seen seat.old.view.client)) }
+        ensures leaves { Leaves seat.old.view.core.owned (seen_by P.seen seat.old)
+            (seen_by P.seen seat.new) }
         ensures beside { StaysBeside P.seen P.with_seen seat.old seat.new }
         ensures room { HasRoom seat.old.view.core → HasRoom seat.new.view.core }
         ensures rest { IsAtRest domain.now seat.new }
@@ -33,14 +36,21 @@ impl LinkedQueue {
 }
 
 /// What the head cell holds. Where it isn't null the seat is attached.
-fn look_at_head<S, P: HasQueue<S>>(domain: &Domain<P>, seat: &mut Seat<P>, head: u32) -> Option<SlotId>
+fn look_at_head<S, P: HasQueue<S>>(
+    domain: &Domain<P>,
+    seat: &mut Seat<P>,
+    head: u32,
+) -> Option<SlotId>
     requires rest { IsAtRest domain.now seat.old }
     requires head { head ≡ (P.part domain.now.protocol).head }
     requires there { head < domain.now.shape.cells }
-    ensures looks { LooksAtHead P.Kind.fits (as_part P.part domain.now) result (seen_by P.seen seat.old) (seen_by P.seen seat.new) }
+    ensures looks { LooksAtHead P.Kind.fits (as_part P.part domain.now) result
+        (seen_by P.seen seat.old) (seen_by P.seen seat.new) }
     ensures attached { (P.seen seat.new.view.client)
-        ≡ (if is_slot result then attached_in (P.seen seat.old.view.client) else (P.seen seat.old.view.client)) }
-    ensures leaves { Leaves seat.old.view.core.owned (seen_by P.seen seat.old) (seen_by P.seen seat.new) }
+        ≡ (if is_slot result then attached_in (P.seen seat.old.view.client)
+        else (P.seen seat.old.view.client)) }
+    ensures leaves { Leaves seat.old.view.core.owned (seen_by P.seen seat.old)
+        (seen_by P.seen seat.new) }
     ensures beside_part { HasBeside P.with_seen first_view seat.old seat.new }
     ensures room { HasRoom seat.old.view.core → HasRoom seat.new.view.core }
     ensures rest { IsAtRest domain.now seat.new }

@@ -36,12 +36,16 @@ pub(crate) fn carry<S, P: HasQueue<S>>(
     requires node { HasNode node (seen_by P.seen seat.old) }
     requires item { 0 < times item.slot seat.old.view.core.owned }
     requires left { 0 < times node (without item.slot seat.old.view.core.owned) }
-    ensures stores { Stores P.Kind.fits (as_part P.part domain.now) (next_unless carry_next) TellsNothing
+    ensures stores { Stores P.Kind.fits (as_part P.part domain.now) (next_unless carry_next)
+        TellsNothing
         (Field node 1) (Some item.slot) (seen_by P.seen seat.old) (seen_by P.seen seat.new) }
     ensures load { HasLoad node (seen_by P.seen seat.new) }
-    ensures carried { carried_item (P.seen seat.new.view.client) ≡ item_in (seen_by P.seen seat.old) item.slot }
-    ensures deeds { deeds_in (P.seen seat.new.view.client) ≡ deeds_in (P.seen seat.old.view.client) }
-    ensures leaves { Leaves (without item.slot seat.old.view.core.owned) (seen_by P.seen seat.old) (seen_by P.seen seat.new) }
+    ensures carried { carried_item (P.seen seat.new.view.client)
+        ≡ item_in (seen_by P.seen seat.old) item.slot }
+    ensures deeds { deeds_in (P.seen seat.new.view.client)
+        ≡ deeds_in (P.seen seat.old.view.client) }
+    ensures leaves { Leaves (without item.slot seat.old.view.core.owned) (seen_by P.seen seat.old)
+        (seen_by P.seen seat.new) }
     ensures beside_part { HasBeside P.with_seen first_view seat.old seat.new }
     ensures room { HasRoom seat.new.view.core }
     ensures rest { IsAtRest domain.now seat.new }

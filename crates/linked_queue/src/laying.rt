@@ -39,14 +39,19 @@ impl LinkedQueue {
         requires queue { IsQueueOf head tail (as_part P.part domain.now) }
         requires unlaid { CanLay (P.seen seat.old.view.client) }
         ensures queue { IfOk result (λ queue. (queue.head ≡ head) × (queue.tail ≡ tail)) }
-        ensures lays { IfOk result (λ queue. Lays P.Kind.fits (as_part P.part domain.now) (seen_by P.seen seat.old) (seen_by P.seen seat.new)) }
+        ensures lays { IfOk result
+            (λ queue. Lays P.Kind.fits (as_part P.part domain.now) (seen_by P.seen seat.old)
+            (seen_by P.seen seat.new)) }
         ensures laid { IfOk result (λ queue. deeds_in (P.seen seat.new.view.client)
             ≡ laid_in (deeds_in (P.seen seat.old.view.client))) }
         ensures attached { IfOk result (λ queue. IsAttached (P.seen seat.new.view.client)) }
         ensures refused { OnErr result (deeds_in (P.seen seat.new.view.client)
             ≡ deeds_in (P.seen seat.old.view.client)) }
-        ensures why { IfErr result (λ error. IsWhyUnlaid P.Kind.fits (as_part P.part domain.now) error (seen_by P.seen seat.old) (seen_by P.seen seat.new)) }
-        ensures leaves { Leaves seat.old.view.core.owned (seen_by P.seen seat.old) (seen_by P.seen seat.new) }
+        ensures why { IfErr result
+            (λ error. IsWhyUnlaid P.Kind.fits (as_part P.part domain.now) error
+            (seen_by P.seen seat.old) (seen_by P.seen seat.new)) }
+        ensures leaves { Leaves seat.old.view.core.owned (seen_by P.seen seat.old)
+            (seen_by P.seen seat.new) }
         ensures beside { StaysBeside P.seen P.with_seen seat.old seat.new }
         ensures room { HasRoom seat.new.view.core }
         ensures rest { IsAtRest domain.now seat.new }
@@ -70,13 +75,18 @@ pub(crate) fn make_node<S, P: HasQueue<S>>(
     requires rest { IsAtRest domain.now seat.old }
     requires room { HasRoom seat.old.view.core }
     ensures node { IfOk result (λ node. HasNode node.slot (seen_by P.seen seat.new)) }
-    ensures made { IfOk result (λ node. Makes P.Kind.fits (as_part P.part domain.now) make_next TellsNothing
+    ensures made { IfOk result
+        (λ node. Makes P.Kind.fits (as_part P.part domain.now) make_next TellsNothing
         no_payload node.slot (seen_by P.seen seat.old) (seen_by P.seen seat.new)) }
     ensures leaves { IfOk result (λ node. Leaves (seat.old.view.core.owned ++ node.slot ∷ [])
         (seen_by P.seen seat.old) (seen_by P.seen seat.new)) }
-    ensures refused { OnErr result (Leaves seat.old.view.core.owned (seen_by P.seen seat.old) (seen_by P.seen seat.new)) }
-    ensures deeds { deeds_in (P.seen seat.new.view.client) ≡ deeds_in (P.seen seat.old.view.client) }
-    ensures why { IfErr result (λ error. IsWhyUnmade P.Kind.fits (as_part P.part domain.now) error (seen_by P.seen seat.old) (seen_by P.seen seat.new)) }
+    ensures refused { OnErr result
+        (Leaves seat.old.view.core.owned (seen_by P.seen seat.old) (seen_by P.seen seat.new)) }
+    ensures deeds { deeds_in (P.seen seat.new.view.client)
+        ≡ deeds_in (P.seen seat.old.view.client) }
+    ensures why { IfErr result
+        (λ error. IsWhyUnmade P.Kind.fits (as_part P.part domain.now) error
+        (seen_by P.seen seat.old) (seen_by P.seen seat.new)) }
     ensures beside_part { HasBeside P.with_seen first_view seat.old seat.new }
     ensures room { HasRoom seat.new.view.core }
     ensures rest { IsAtRest domain.now seat.new }
@@ -93,9 +103,11 @@ fn lay_tail<S, P: HasQueue<S>>(domain: &Domain<P>, seat: &mut Seat<P>, tail: u32
     requires node { HasNode dummy.slot (seen_by P.seen seat.old) }
     requires unlaid { CanLay (P.seen seat.old.view.client) }
     ensures stores { Stores P.Kind.fits (as_part P.part domain.now) lay_tail_next TellsNothing
-        (Cell (P.part domain.now.protocol).tail) (Some dummy.slot) (seen_by P.seen seat.old) (seen_by P.seen seat.new) }
+        (Cell (P.part domain.now.protocol).tail) (Some dummy.slot) (seen_by P.seen seat.old)
+        (seen_by P.seen seat.new) }
     ensures half { (P.seen seat.new.view.client) ≡ half_laid_in (P.seen seat.old.view.client) }
-    ensures leaves { Leaves (without dummy.slot seat.old.view.core.owned) (seen_by P.seen seat.old) (seen_by P.seen seat.new) }
+    ensures leaves { Leaves (without dummy.slot seat.old.view.core.owned) (seen_by P.seen seat.old)
+        (seen_by P.seen seat.new) }
     ensures beside_part { HasBeside P.with_seen first_view seat.old seat.new }
     ensures room { HasRoom seat.new.view.core }
     ensures rest { IsAtRest domain.now seat.new }
@@ -112,9 +124,11 @@ fn lay_head<S, P: HasQueue<S>>(domain: &Domain<P>, seat: &mut Seat<P>, head: u32
     requires dummy { 0 < times dummy.slot seat.old.view.core.owned }
     requires half { IsHalfLaid dummy.slot (seen_by P.seen seat.old) }
     ensures stores { Stores P.Kind.fits (as_part P.part domain.now) lay_head_next TellsNothing
-        (Cell (P.part domain.now.protocol).head) (Some dummy.slot) (seen_by P.seen seat.old) (seen_by P.seen seat.new) }
+        (Cell (P.part domain.now.protocol).head) (Some dummy.slot) (seen_by P.seen seat.old)
+        (seen_by P.seen seat.new) }
     ensures laid { (P.seen seat.new.view.client) ≡ laid_in (P.seen seat.old.view.client) }
-    ensures leaves { Leaves (without dummy.slot seat.old.view.core.owned) (seen_by P.seen seat.old) (seen_by P.seen seat.new) }
+    ensures leaves { Leaves (without dummy.slot seat.old.view.core.owned) (seen_by P.seen seat.old)
+        (seen_by P.seen seat.new) }
     ensures beside_part { HasBeside P.with_seen first_view seat.old seat.new }
     ensures room { HasRoom seat.new.view.core }
     ensures rest { IsAtRest domain.now seat.new }

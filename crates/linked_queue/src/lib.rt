@@ -5,14 +5,15 @@
 //! it. Field 0 of a node is the next node, and field 1 its item. The rule that is kept is the law of `queue_law`: each
 //! item that was pushed was popped or waits, once, and pops come in the order of pushes.
 //!
-//! A push and a pop are one try each: where another seat has been quicker they are refused, and tell by which place
-//! that shows. They count references to the nodes that they walk over, so no slot is given again under them. No step is
-//! promised to come, and none tries again by itself.
+//! The calls run on a domain whose protocol is a queue, or has one as a part: a `HasQueue`. A try to push or to pop is
+//! refused where another seat has been quicker, and tells by which place that shows; `attach`, `push` and `pop` try
+//! again until no other seat is, so they may wait. Seats count references to the nodes that they walk over, so no slot
+//! is given again under them. No step is promised to come, nor that a call which may wait returns.
 //!
 //! ```text
 //! let queue = LinkedQueue::lay(&domain, &mut root, 0, 1)?;     // over strong cells 0 and 1, by seat 0
-//! queue.try_attach(&domain, &mut seat);                        // true: this seat may push and pop
-//! queue.try_push(&domain, &mut seat, item)?;                   // or Again, Refused, with the item back
+//! queue.attach(&rt, &domain, &mut seat);                       // this seat may push and pop then
+//! queue.push(&rt, &domain, &mut seat, item)?;                  // or PushRefused, with the item back
 //! let Some(item) = queue.try_pop(&domain, &mut seat)? else { .. };     // nothing was linked; or Again, Spent
 //! queue.shut(&domain, &mut root);                              // once every other seat has left
 //! ```

@@ -37,13 +37,18 @@ pub(crate) fn find_last<S, P: HasQueue<S>>(
     requires there { tail < domain.now.shape.cells }
     requires queue { (P.part domain.now.protocol).form ≡ Linked }
     requires attached { IsAttached (P.seen seat.old.view.client) }
-    ensures events { IfOk result (λ last. FindsEnd P.Kind.fits (as_part P.part domain.now) last.slot (seen_by P.seen seat.old) (seen_by P.seen seat.new)) }
+    ensures events { IfOk result
+        (λ last. FindsEnd P.Kind.fits (as_part P.part domain.now) last.slot
+        (seen_by P.seen seat.old) (seen_by P.seen seat.new)) }
     ensures sees { IfOk result (λ last. SeesTail last.slot (seen_by P.seen seat.new)) }
     ensures adds { seat.new.view.core.adds ≤ seat.old.view.core.adds + 3 }
-    ensures beside { beside_eyes (P.seen seat.new.view.client) ≡ beside_eyes (P.seen seat.old.view.client) }
+    ensures beside { beside_eyes (P.seen seat.new.view.client)
+        ≡ beside_eyes (P.seen seat.old.view.client) }
     ensures leaves { Leaves (with_found (handle_by result) seat.old.view.core.owned)
         (seen_by P.seen seat.old) (seen_by P.seen seat.new) }
-    ensures why { IfErr result (λ error. IsWhyUnlinked P.Kind.fits (as_part P.part domain.now) 2 error (seen_by P.seen seat.old)) }
+    ensures why { IfErr result
+        (λ error. IsWhyUnlinked P.Kind.fits (as_part P.part domain.now) 2 error
+        (seen_by P.seen seat.old)) }
     ensures beside_part { HasBeside P.with_seen first_view seat.old seat.new }
     ensures room { HasRoom seat.new.view.core }
     ensures rest { IsAtRest domain.now seat.new }
@@ -84,15 +89,20 @@ fn load_tail<S, P: HasQueue<S>>(
     requires there { tail < domain.now.shape.cells }
     requires attached { IsAttached (P.seen seat.old.view.client) }
     ensures loads { IfOk result (λ found. Loads P.Kind.fits (as_part P.part domain.now)
-        (Cell (P.part domain.now.protocol).tail) (learn_next false) (TailTells (ends_of (as_part P.part domain.now)))
+        (Cell (P.part domain.now.protocol).tail) (learn_next false)
+        (TailTells (ends_of (as_part P.part domain.now)))
         (named found) (seen_by P.seen seat.old) (seen_by P.seen seat.new)) }
     ensures there { IfOk result (λ found. named found ≢ None) }
-    ensures sees { IfOk result (λ found. IfSome found (λ node. SeesTail node.slot (seen_by P.seen seat.new))) }
+    ensures sees { IfOk result
+        (λ found. IfSome found (λ node. SeesTail node.slot (seen_by P.seen seat.new))) }
     ensures adds { seat.new.view.core.adds ≤ seat.old.view.core.adds + 1 }
-    ensures beside { beside_eyes (P.seen seat.new.view.client) ≡ beside_eyes (P.seen seat.old.view.client) }
+    ensures beside { beside_eyes (P.seen seat.new.view.client)
+        ≡ beside_eyes (P.seen seat.old.view.client) }
     ensures leaves { Leaves (with_found (found_by result) seat.old.view.core.owned)
         (seen_by P.seen seat.old) (seen_by P.seen seat.new) }
-    ensures why { IfErr result (λ error. IsWhyUnread (PushDiffers P.Kind.fits (as_part P.part domain.now)) error (seen_by P.seen seat.old)) }
+    ensures why { IfErr result
+        (λ error. IsWhyUnread (PushDiffers P.Kind.fits (as_part P.part domain.now)) error
+        (seen_by P.seen seat.old)) }
     ensures beside_part { HasBeside P.with_seen first_view seat.old seat.new }
     ensures room { HasRoom seat.new.view.core }
     ensures rest { IsAtRest domain.now seat.new }
@@ -109,16 +119,21 @@ fn see_behind<S, P: HasQueue<S>>(
     requires rest { IsAtRest domain.now seat.old }
     requires room { HasRoom seat.old.view.core }
     requires tail { SeesTail old (seen_by P.seen seat.old) }
-    ensures loads { IfOk result (λ found. Loads P.Kind.fits (as_part P.part domain.now) (Field old 0) next_next
-        (NextTells (ends_of (as_part P.part domain.now))) (named found) (seen_by P.seen seat.old) (seen_by P.seen seat.new)) }
+    ensures loads { IfOk result
+        (λ found. Loads P.Kind.fits (as_part P.part domain.now) (Field old 0) next_next
+        (NextTells (ends_of (as_part P.part domain.now))) (named found) (seen_by P.seen seat.old)
+        (seen_by P.seen seat.new)) }
     ensures sees { IfOk result (λ found. IfSome found (λ node.
         SeesBehind old node.slot (seen_by P.seen seat.new))) }
     ensures last { IfOk result (λ found. SeesTail old (seen_by P.seen seat.new)) }
     ensures adds { seat.new.view.core.adds ≤ seat.old.view.core.adds + 1 }
-    ensures beside { beside_eyes (P.seen seat.new.view.client) ≡ beside_eyes (P.seen seat.old.view.client) }
+    ensures beside { beside_eyes (P.seen seat.new.view.client)
+        ≡ beside_eyes (P.seen seat.old.view.client) }
     ensures leaves { Leaves (with_found (found_by result) seat.old.view.core.owned)
         (seen_by P.seen seat.old) (seen_by P.seen seat.new) }
-    ensures why { IfErr result (λ error. IsWhyUnread (PushDiffers P.Kind.fits (as_part P.part domain.now)) error (seen_by P.seen seat.old)) }
+    ensures why { IfErr result
+        (λ error. IsWhyUnread (PushDiffers P.Kind.fits (as_part P.part domain.now)) error
+        (seen_by P.seen seat.old)) }
     ensures beside_part { HasBeside P.with_seen first_view seat.old seat.new }
     ensures room { HasRoom seat.new.view.core }
     ensures rest { IsAtRest domain.now seat.new }
@@ -141,12 +156,18 @@ fn help<S, P: HasQueue<S>>(
     requires queue { (P.part domain.now.protocol).form ≡ Linked }
     requires attached { IsAttached (P.seen seat.old.view.client) }
     requires behind { SeesBehind old next.now.slot (seen_by P.seen seat.old) }
-    ensures helps { IfOk result (λ done. Helps P.Kind.fits (as_part P.part domain.now) old next.now.slot (seen_by P.seen seat.old) (seen_by P.seen seat.new)) }
+    ensures helps { IfOk result
+        (λ done. Helps P.Kind.fits (as_part P.part domain.now) old next.now.slot
+        (seen_by P.seen seat.old) (seen_by P.seen seat.new)) }
     ensures sees { IfOk result (λ done. SeesTail next.now.slot (seen_by P.seen seat.new)) }
     ensures adds { seat.new.view.core.adds ≤ seat.old.view.core.adds + 1 }
-    ensures beside { beside_eyes (P.seen seat.new.view.client) ≡ beside_eyes (P.seen seat.old.view.client) }
-    ensures leaves { Leaves seat.old.view.core.owned (seen_by P.seen seat.old) (seen_by P.seen seat.new) }
-    ensures why { IfErr result (λ error. IsWhyUnlinked P.Kind.fits (as_part P.part domain.now) 0 error (seen_by P.seen seat.old)) }
+    ensures beside { beside_eyes (P.seen seat.new.view.client)
+        ≡ beside_eyes (P.seen seat.old.view.client) }
+    ensures leaves { Leaves seat.old.view.core.owned (seen_by P.seen seat.old)
+        (seen_by P.seen seat.new) }
+    ensures why { IfErr result
+        (λ error. IsWhyUnlinked P.Kind.fits (as_part P.part domain.now) 0 error
+        (seen_by P.seen seat.old)) }
     ensures beside_part { HasBeside P.with_seen first_view seat.old seat.new }
     ensures room { HasRoom seat.new.view.core }
     ensures rest { IsAtRest domain.now seat.new }
@@ -173,11 +194,13 @@ pub(crate) fn advance<S, P: HasQueue<S>>(
     requires queue { (P.part domain.now.protocol).form ≡ Linked }
     requires attached { IsAttached (P.seen seat.old.view.client) }
     requires behind { SeesBehind old next.slot (seen_by P.seen seat.old) }
-    ensures advances { Advances P.Kind.fits (as_part P.part domain.now) old next.slot (seen_by P.seen seat.old) (seen_by P.seen seat.new) }
+    ensures advances { Advances P.Kind.fits (as_part P.part domain.now) old next.slot
+        (seen_by P.seen seat.old) (seen_by P.seen seat.new) }
     ensures client { (P.seen seat.new.view.client)
         ≡ advanced_in next.slot (seen_by P.seen seat.old) (P.seen seat.old.view.client) }
     ensures adds { seat.new.view.core.adds ≡ seat.old.view.core.adds }
-    ensures leaves { Leaves (without next.slot seat.old.view.core.owned) (seen_by P.seen seat.old) (seen_by P.seen seat.new) }
+    ensures leaves { Leaves (without next.slot seat.old.view.core.owned) (seen_by P.seen seat.old)
+        (seen_by P.seen seat.new) }
     ensures beside_part { HasBeside P.with_seen first_view seat.old seat.new }
     ensures room { HasRoom seat.new.view.core }
     ensures rest { IsAtRest domain.now seat.new }
@@ -211,13 +234,18 @@ pub(crate) fn link<S, P: HasQueue<S>>(
     requires load { HasLoad node (seen_by P.seen seat.old) }
     requires may { P.may_push domain.now.protocol seat.old.view.client
         (carried_item (P.seen seat.old.view.client)) }
-    ensures links { IfOk result (λ done. Links P.Kind.fits (as_part P.part domain.now) last node (seen_by P.seen seat.old) (seen_by P.seen seat.new)) }
+    ensures links { IfOk result
+        (λ done. Links P.Kind.fits (as_part P.part domain.now) last node (seen_by P.seen seat.old)
+        (seen_by P.seen seat.new)) }
     ensures linked { IfOk result (λ done. (P.seen seat.new.view.client)
         ≡ linked_view (P.seen seat.old.view.client)) }
     ensures behind { IfOk result (λ done. SeesBehind last node (seen_by P.seen seat.new)) }
     ensures refused { OnErr result ((P.seen seat.new.view.client) ≡ (P.seen seat.old.view.client)) }
-    ensures leaves { Leaves seat.old.view.core.owned (seen_by P.seen seat.old) (seen_by P.seen seat.new) }
-    ensures why { IfErr result (λ error. IsWhyUnlinked P.Kind.fits (as_part P.part domain.now) 0 error (seen_by P.seen seat.old)) }
+    ensures leaves { Leaves seat.old.view.core.owned (seen_by P.seen seat.old)
+        (seen_by P.seen seat.new) }
+    ensures why { IfErr result
+        (λ error. IsWhyUnlinked P.Kind.fits (as_part P.part domain.now) 0 error
+        (seen_by P.seen seat.old)) }
     ensures beside_part { HasBeside P.with_seen first_view seat.old seat.new }
     ensures room { HasRoom seat.new.view.core }
     ensures rest { IsAtRest domain.now seat.new }

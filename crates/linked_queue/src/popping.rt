@@ -19,9 +19,9 @@ use crate::seeing::{see_head, see_item, see_next};
 use crate::taking::{Sight, empty, look_again, take};
 use acquire_retire::{Domain, Seat, SlotId};
 use atomic_shared::LoadError;
-use part_calls::drop_strong;
 use core_functions::held_as;
 use counted_handles::Strong;
+use part_calls::drop_strong;
 use queue_protocol::{HasQueue, QueueLaw};
 
 impl LinkedQueue {
@@ -38,12 +38,16 @@ impl LinkedQueue {
         requires room { HasRoom seat.old.view.core }
         requires queue { IsQueueOf self.now.head self.now.tail (as_part P.part domain.now) }
         requires attached { IsAttached (P.seen seat.old.view.client) }
-        ensures events { IfOk result (λ found. PopsAtHead P.Kind.fits (as_part P.part domain.now) (named found)
+        ensures events { IfOk result
+            (λ found. PopsAtHead P.Kind.fits (as_part P.part domain.now) (named found)
             (seen_by P.seen seat.old) (seen_by P.seen seat.new)) }
-        ensures popped { Pops (found_by result) (seen_by P.seen seat.old) (seen_by P.seen seat.new) }
+        ensures popped { Pops (found_by result) (seen_by P.seen seat.old)
+            (seen_by P.seen seat.new) }
         ensures owned { IfOk result (λ found. IfSome found (λ item.
             0 < times item.slot seat.new.view.core.owned)) }
-        ensures why { IfErr result (λ error. IsWhyUnpopped P.Kind.fits (as_part P.part domain.now) 3 error (seen_by P.seen seat.old)) }
+        ensures why { IfErr result
+            (λ error. IsWhyUnpopped P.Kind.fits (as_part P.part domain.now) 3 error
+            (seen_by P.seen seat.old)) }
         ensures attached { IsAttached (P.seen seat.new.view.client) }
         ensures beside { StaysBeside P.seen P.with_seen seat.old seat.new }
         ensures room { HasRoom seat.new.view.core }
@@ -64,10 +68,13 @@ fn pop_first<S, P: HasQueue<S>>(
     requires head { head ≡ (P.part domain.now.protocol).head }
     requires there { head < domain.now.shape.cells }
     requires attached { IsAttached (P.seen seat.old.view.client) }
-    ensures events { IfOk result (λ found. PopsAtHead P.Kind.fits (as_part P.part domain.now) (named found)
+    ensures events { IfOk result
+        (λ found. PopsAtHead P.Kind.fits (as_part P.part domain.now) (named found)
         (seen_by P.seen seat.old) (seen_by P.seen seat.new)) }
     ensures popped { Pops (found_by result) (seen_by P.seen seat.old) (seen_by P.seen seat.new) }
-    ensures why { IfErr result (λ error. IsWhyUnpopped P.Kind.fits (as_part P.part domain.now) 3 error (seen_by P.seen seat.old)) }
+    ensures why { IfErr result
+        (λ error. IsWhyUnpopped P.Kind.fits (as_part P.part domain.now) 3 error
+        (seen_by P.seen seat.old)) }
     ensures beside_part { HasBeside P.with_seen first_view seat.old seat.new }
     ensures room { HasRoom seat.new.view.core }
     ensures rest { IsAtRest domain.now seat.new }
@@ -104,10 +111,13 @@ fn pop_behind<S, P: HasQueue<S>>(
     requires there { head < domain.now.shape.cells }
     requires attached { IsAttached (P.seen seat.old.view.client) }
     requires front { SeesHead front (seen_by P.seen seat.old) }
-    ensures events { IfOk result (λ found. PopsBehind P.Kind.fits (as_part P.part domain.now) front (named found)
+    ensures events { IfOk result
+        (λ found. PopsBehind P.Kind.fits (as_part P.part domain.now) front (named found)
         (seen_by P.seen seat.old) (seen_by P.seen seat.new)) }
     ensures popped { Pops (found_by result) (seen_by P.seen seat.old) (seen_by P.seen seat.new) }
-    ensures why { IfErr result (λ error. IsWhyUnpopped P.Kind.fits (as_part P.part domain.now) 2 error (seen_by P.seen seat.old)) }
+    ensures why { IfErr result
+        (λ error. IsWhyUnpopped P.Kind.fits (as_part P.part domain.now) 2 error
+        (seen_by P.seen seat.old)) }
     ensures beside_part { HasBeside P.with_seen first_view seat.old seat.new }
     ensures room { HasRoom seat.new.view.core }
     ensures rest { IsAtRest domain.now seat.new }
@@ -139,10 +149,13 @@ fn pop_node<S, P: HasQueue<S>>(
     requires there { head < domain.now.shape.cells }
     requires attached { IsAttached (P.seen seat.old.view.client) }
     requires next { SeesNext front next (seen_by P.seen seat.old) }
-    ensures events { IfOk result (λ item. TakesItem P.Kind.fits (as_part P.part domain.now) front next item.slot
+    ensures events { IfOk result
+        (λ item. TakesItem P.Kind.fits (as_part P.part domain.now) front next item.slot
         (seen_by P.seen seat.old) (seen_by P.seen seat.new)) }
     ensures popped { Pops (handle_by result) (seen_by P.seen seat.old) (seen_by P.seen seat.new) }
-    ensures why { IfErr result (λ error. IsWhyUnpopped P.Kind.fits (as_part P.part domain.now) 1 error (seen_by P.seen seat.old)) }
+    ensures why { IfErr result
+        (λ error. IsWhyUnpopped P.Kind.fits (as_part P.part domain.now) 1 error
+        (seen_by P.seen seat.old)) }
     ensures beside_part { HasBeside P.with_seen first_view seat.old seat.new }
     ensures room { HasRoom seat.new.view.core }
     ensures rest { IsAtRest domain.now seat.new }

@@ -49,13 +49,19 @@ impl LinkedQueue {
         requires item { 0 < times item.slot seat.old.view.core.owned }
         requires may { P.may_push domain.now.protocol seat.old.view.client
             (item_in (seen_by P.seen seat.old) item.slot) }
-        ensures events { IfOk result (λ done. PushesBy P.Kind.fits (as_part P.part domain.now) item.slot (seen_by P.seen seat.old) (seen_by P.seen seat.new)) }
-        ensures pushed { IfOk result (λ done. Pushes item.slot (seen_by P.seen seat.old) (seen_by P.seen seat.new)) }
-        ensures refused { OnErr result (PushesNothing (seen_by P.seen seat.old) (seen_by P.seen seat.new)) }
+        ensures events { IfOk result
+            (λ done. PushesBy P.Kind.fits (as_part P.part domain.now) item.slot
+            (seen_by P.seen seat.old) (seen_by P.seen seat.new)) }
+        ensures pushed { IfOk result
+            (λ done. Pushes item.slot (seen_by P.seen seat.old) (seen_by P.seen seat.new)) }
+        ensures refused { OnErr result
+            (PushesNothing (seen_by P.seen seat.old) (seen_by P.seen seat.new)) }
         ensures back { IfErr result (λ error. back_of error ≡ item) }
         ensures owned { IfErr result (λ error.
             0 < times (back_of error).slot seat.new.view.core.owned) }
-        ensures why { IfErr result (λ error. IsWhyUnpushed P.Kind.fits (as_part P.part domain.now) error (seen_by P.seen seat.old)) }
+        ensures why { IfErr result
+            (λ error. IsWhyUnpushed P.Kind.fits (as_part P.part domain.now) error
+            (seen_by P.seen seat.old)) }
         ensures attached { IsAttached (P.seen seat.new.view.client) }
         ensures beside { StaysBeside P.seen P.with_seen seat.old seat.new }
         ensures room { HasRoom seat.new.view.core }
@@ -81,11 +87,17 @@ fn push_item<S, P: HasQueue<S>>(
     requires item { 0 < times item.slot seat.old.view.core.owned }
     requires may { P.may_push domain.now.protocol seat.old.view.client
         (item_in (seen_by P.seen seat.old) item.slot) }
-    ensures events { IfOk result (λ done. PushesBy P.Kind.fits (as_part P.part domain.now) item.slot (seen_by P.seen seat.old) (seen_by P.seen seat.new)) }
-    ensures pushed { IfOk result (λ done. Pushes item.slot (seen_by P.seen seat.old) (seen_by P.seen seat.new)) }
-    ensures refused { OnErr result (PushesNothing (seen_by P.seen seat.old) (seen_by P.seen seat.new)) }
+    ensures events { IfOk result
+        (λ done. PushesBy P.Kind.fits (as_part P.part domain.now) item.slot
+        (seen_by P.seen seat.old) (seen_by P.seen seat.new)) }
+    ensures pushed { IfOk result
+        (λ done. Pushes item.slot (seen_by P.seen seat.old) (seen_by P.seen seat.new)) }
+    ensures refused { OnErr result
+        (PushesNothing (seen_by P.seen seat.old) (seen_by P.seen seat.new)) }
     ensures back { IfErr result (λ error. back_of error ≡ item) }
-    ensures why { IfErr result (λ error. IsWhyUnpushed P.Kind.fits (as_part P.part domain.now) error (seen_by P.seen seat.old)) }
+    ensures why { IfErr result
+        (λ error. IsWhyUnpushed P.Kind.fits (as_part P.part domain.now) error
+        (seen_by P.seen seat.old)) }
     ensures beside_part { HasBeside P.with_seen first_view seat.old seat.new }
     ensures room { HasRoom seat.new.view.core }
     ensures rest { IsAtRest domain.now seat.new }
@@ -126,14 +138,19 @@ fn push_copy<S, P: HasQueue<S>>(
     requires item { 0 < times item.now.slot seat.old.view.core.owned }
     requires may { P.may_push domain.now.protocol seat.old.view.client
         (item_in (seen_by P.seen seat.old) item.now.slot) }
-    ensures events { IfOk result (λ done. PushesCopy P.Kind.fits (as_part P.part domain.now) item.now.slot
+    ensures events { IfOk result
+        (λ done. PushesCopy P.Kind.fits (as_part P.part domain.now) item.now.slot
         (seen_by P.seen seat.old) (seen_by P.seen seat.new)) }
     ensures pushed { IfOk result (λ done. deeds_in (P.seen seat.new.view.client)
-        ≡ pushed_too (item_in (seen_by P.seen seat.old) item.now.slot) (deeds_in (P.seen seat.old.view.client))) }
+        ≡ pushed_too (item_in (seen_by P.seen seat.old) item.now.slot)
+        (deeds_in (P.seen seat.old.view.client))) }
     ensures refused { OnErr result (deeds_in (P.seen seat.new.view.client)
         ≡ deeds_in (P.seen seat.old.view.client)) }
-    ensures leaves { Leaves seat.old.view.core.owned (seen_by P.seen seat.old) (seen_by P.seen seat.new) }
-    ensures why { IfErr result (λ not. IsWhyNotPushed P.Kind.fits (as_part P.part domain.now) not (seen_by P.seen seat.old)) }
+    ensures leaves { Leaves seat.old.view.core.owned (seen_by P.seen seat.old)
+        (seen_by P.seen seat.new) }
+    ensures why { IfErr result
+        (λ not. IsWhyNotPushed P.Kind.fits (as_part P.part domain.now) not
+        (seen_by P.seen seat.old)) }
     ensures beside_part { HasBeside P.with_seen first_view seat.old seat.new }
     ensures room { HasRoom seat.new.view.core }
     ensures rest { IsAtRest domain.now seat.new }
@@ -158,16 +175,20 @@ pub(crate) fn load_node<S, P: HasQueue<S>>(
     requires rest { IsAtRest domain.now seat.old }
     requires room { HasRoom seat.old.view.core }
     requires item { 0 < times item.now.slot seat.old.view.core.owned }
-    ensures events { IfOk result (λ node. LoadsNode P.Kind.fits (as_part P.part domain.now) item.now.slot node.slot
+    ensures events { IfOk result
+        (λ node. LoadsNode P.Kind.fits (as_part P.part domain.now) item.now.slot node.slot
         (seen_by P.seen seat.old) (seen_by P.seen seat.new)) }
     ensures load { IfOk result (λ node. HasLoad node.slot (seen_by P.seen seat.new)) }
     ensures carried { IfOk result (λ node. carried_item (P.seen seat.new.view.client)
         ≡ item_in (seen_by P.seen seat.old) item.now.slot) }
     ensures adds { seat.new.view.core.adds ≤ seat.old.view.core.adds + 2 }
-    ensures deeds { deeds_in (P.seen seat.new.view.client) ≡ deeds_in (P.seen seat.old.view.client) }
+    ensures deeds { deeds_in (P.seen seat.new.view.client)
+        ≡ deeds_in (P.seen seat.old.view.client) }
     ensures leaves { Leaves (with_found (handle_by result) seat.old.view.core.owned)
         (seen_by P.seen seat.old) (seen_by P.seen seat.new) }
-    ensures why { IfErr result (λ error. IsWhyRefused P.Kind.fits (as_part P.part domain.now) 1 error (seen_by P.seen seat.old)) }
+    ensures why { IfErr result
+        (λ error. IsWhyRefused P.Kind.fits (as_part P.part domain.now) 1 error
+        (seen_by P.seen seat.old)) }
     ensures beside_part { HasBeside P.with_seen first_view seat.old seat.new }
     ensures room { HasRoom seat.new.view.core }
     ensures rest { IsAtRest domain.now seat.new }
@@ -197,13 +218,19 @@ fn push_node<S, P: HasQueue<S>>(
     requires load { HasLoad node.slot (seen_by P.seen seat.old) }
     requires may { P.may_push domain.now.protocol seat.old.view.client
         (carried_item (P.seen seat.old.view.client)) }
-    ensures events { IfOk result (λ done. PushesNode P.Kind.fits (as_part P.part domain.now) node.slot (seen_by P.seen seat.old) (seen_by P.seen seat.new)) }
+    ensures events { IfOk result
+        (λ done. PushesNode P.Kind.fits (as_part P.part domain.now) node.slot
+        (seen_by P.seen seat.old) (seen_by P.seen seat.new)) }
     ensures pushed { IfOk result (λ done. deeds_in (P.seen seat.new.view.client)
-        ≡ pushed_too (carried_item (P.seen seat.old.view.client)) (deeds_in (P.seen seat.old.view.client))) }
+        ≡ pushed_too (carried_item (P.seen seat.old.view.client))
+        (deeds_in (P.seen seat.old.view.client))) }
     ensures refused { OnErr result (deeds_in (P.seen seat.new.view.client)
         ≡ deeds_in (P.seen seat.old.view.client)) }
-    ensures leaves { Leaves (without node.slot seat.old.view.core.owned) (seen_by P.seen seat.old) (seen_by P.seen seat.new) }
-    ensures why { IfErr result (λ error. IsWhyUnlinked P.Kind.fits (as_part P.part domain.now) 3 error (seen_by P.seen seat.old)) }
+    ensures leaves { Leaves (without node.slot seat.old.view.core.owned) (seen_by P.seen seat.old)
+        (seen_by P.seen seat.new) }
+    ensures why { IfErr result
+        (λ error. IsWhyUnlinked P.Kind.fits (as_part P.part domain.now) 3 error
+        (seen_by P.seen seat.old)) }
     ensures beside_part { HasBeside P.with_seen first_view seat.old seat.new }
     ensures room { HasRoom seat.new.view.core }
     ensures rest { IsAtRest domain.now seat.new }

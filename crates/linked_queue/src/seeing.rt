@@ -32,14 +32,18 @@ pub(crate) fn see_head<S, P: HasQueue<S>>(
     requires there { head < domain.now.shape.cells }
     requires attached { IsAttached (P.seen seat.old.view.client) }
     ensures loads { IfOk result (λ node. Refers P.Kind.fits (as_part P.part domain.now)
-        (Cell (P.part domain.now.protocol).head) (learn_next true) (HeadTells (ends_of (as_part P.part domain.now)))
+        (Cell (P.part domain.now.protocol).head) (learn_next true)
+        (HeadTells (ends_of (as_part P.part domain.now)))
         node.slot (seen_by P.seen seat.old) (seen_by P.seen seat.new)) }
     ensures sees { IfOk result (λ node. SeesHead node.slot (seen_by P.seen seat.new)) }
     ensures adds { seat.new.view.core.adds ≤ seat.old.view.core.adds + 1 }
-    ensures beside { beside_eyes (P.seen seat.new.view.client) ≡ beside_eyes (P.seen seat.old.view.client) }
+    ensures beside { beside_eyes (P.seen seat.new.view.client)
+        ≡ beside_eyes (P.seen seat.old.view.client) }
     ensures leaves { Leaves (with_found (handle_by result) seat.old.view.core.owned)
         (seen_by P.seen seat.old) (seen_by P.seen seat.new) }
-    ensures why { IfErr result (λ error. IsWhyUnloaded P.Kind.fits (as_part P.part domain.now) error (seen_by P.seen seat.old)) }
+    ensures why { IfErr result
+        (λ error. IsWhyUnloaded P.Kind.fits (as_part P.part domain.now) error
+        (seen_by P.seen seat.old)) }
     ensures beside_part { HasBeside P.with_seen first_view seat.old seat.new }
     ensures room { HasRoom seat.new.view.core }
     ensures rest { IsAtRest domain.now seat.new }
@@ -63,15 +67,20 @@ fn load_head<S, P: HasQueue<S>>(
     requires there { head < domain.now.shape.cells }
     requires attached { IsAttached (P.seen seat.old.view.client) }
     ensures loads { IfOk result (λ found. Loads P.Kind.fits (as_part P.part domain.now)
-        (Cell (P.part domain.now.protocol).head) (learn_next true) (HeadTells (ends_of (as_part P.part domain.now)))
+        (Cell (P.part domain.now.protocol).head) (learn_next true)
+        (HeadTells (ends_of (as_part P.part domain.now)))
         (named found) (seen_by P.seen seat.old) (seen_by P.seen seat.new)) }
     ensures there { IfOk result (λ found. named found ≢ None) }
-    ensures sees { IfOk result (λ found. IfSome found (λ node. SeesHead node.slot (seen_by P.seen seat.new))) }
+    ensures sees { IfOk result
+        (λ found. IfSome found (λ node. SeesHead node.slot (seen_by P.seen seat.new))) }
     ensures adds { seat.new.view.core.adds ≤ seat.old.view.core.adds + 1 }
-    ensures beside { beside_eyes (P.seen seat.new.view.client) ≡ beside_eyes (P.seen seat.old.view.client) }
+    ensures beside { beside_eyes (P.seen seat.new.view.client)
+        ≡ beside_eyes (P.seen seat.old.view.client) }
     ensures leaves { Leaves (with_found (found_by result) seat.old.view.core.owned)
         (seen_by P.seen seat.old) (seen_by P.seen seat.new) }
-    ensures why { IfErr result (λ error. IsWhyUnloaded P.Kind.fits (as_part P.part domain.now) error (seen_by P.seen seat.old)) }
+    ensures why { IfErr result
+        (λ error. IsWhyUnloaded P.Kind.fits (as_part P.part domain.now) error
+        (seen_by P.seen seat.old)) }
     ensures beside_part { HasBeside P.with_seen first_view seat.old seat.new }
     ensures room { HasRoom seat.new.view.core }
     ensures rest { IsAtRest domain.now seat.new }
@@ -89,17 +98,23 @@ pub(crate) fn see_next<S, P: HasQueue<S>>(
     requires room { HasRoom seat.old.view.core }
     requires attached { IsAttached (P.seen seat.old.view.client) }
     requires head { SeesHead front (seen_by P.seen seat.old) }
-    ensures loads { IfOk result (λ found. Loads P.Kind.fits (as_part P.part domain.now) (Field front 0)
-        next_next (NextTells (ends_of (as_part P.part domain.now))) (named found) (seen_by P.seen seat.old) (seen_by P.seen seat.new)) }
+    ensures loads { IfOk result
+        (λ found. Loads P.Kind.fits (as_part P.part domain.now) (Field front 0)
+        next_next (NextTells (ends_of (as_part P.part domain.now))) (named found)
+        (seen_by P.seen seat.old) (seen_by P.seen seat.new)) }
     ensures none { IfOk result (λ found. named found ≡ None
-        → FindsLast P.Kind.fits (as_part P.part domain.now) front (seen_by P.seen seat.old) (seen_by P.seen seat.new)) }
+        → FindsLast P.Kind.fits (as_part P.part domain.now) front (seen_by P.seen seat.old)
+        (seen_by P.seen seat.new)) }
     ensures sees { IfOk result (λ found. IfSome found (λ node.
         SeesNext front node.slot (seen_by P.seen seat.new))) }
     ensures adds { seat.new.view.core.adds ≤ seat.old.view.core.adds + 1 }
-    ensures beside { beside_eyes (P.seen seat.new.view.client) ≡ beside_eyes (P.seen seat.old.view.client) }
+    ensures beside { beside_eyes (P.seen seat.new.view.client)
+        ≡ beside_eyes (P.seen seat.old.view.client) }
     ensures leaves { Leaves (with_found (found_by result) seat.old.view.core.owned)
         (seen_by P.seen seat.old) (seen_by P.seen seat.new) }
-    ensures why { IfErr result (λ error. IsWhyUnloaded P.Kind.fits (as_part P.part domain.now) error (seen_by P.seen seat.old)) }
+    ensures why { IfErr result
+        (λ error. IsWhyUnloaded P.Kind.fits (as_part P.part domain.now) error
+        (seen_by P.seen seat.old)) }
     ensures beside_part { HasBeside P.with_seen first_view seat.old seat.new }
     ensures room { HasRoom seat.new.view.core }
     ensures rest { IsAtRest domain.now seat.new }
@@ -118,15 +133,20 @@ pub(crate) fn see_item<S, P: HasQueue<S>>(
     requires room { HasRoom seat.old.view.core }
     requires attached { IsAttached (P.seen seat.old.view.client) }
     requires next { SeesNext front next (seen_by P.seen seat.old) }
-    ensures loads { IfOk result (λ found. Loads P.Kind.fits (as_part P.part domain.now) (Field next 1)
-        item_next (ItemTells (ends_of (as_part P.part domain.now))) (named found) (seen_by P.seen seat.old) (seen_by P.seen seat.new)) }
+    ensures loads { IfOk result
+        (λ found. Loads P.Kind.fits (as_part P.part domain.now) (Field next 1)
+        item_next (ItemTells (ends_of (as_part P.part domain.now))) (named found)
+        (seen_by P.seen seat.old) (seen_by P.seen seat.new)) }
     ensures sees { IfOk result (λ found. IfSome found (λ item.
         SeesItem front next item.slot (seen_by P.seen seat.new))) }
     ensures adds { seat.new.view.core.adds ≤ seat.old.view.core.adds + 1 }
-    ensures beside { beside_eyes (P.seen seat.new.view.client) ≡ beside_eyes (P.seen seat.old.view.client) }
+    ensures beside { beside_eyes (P.seen seat.new.view.client)
+        ≡ beside_eyes (P.seen seat.old.view.client) }
     ensures leaves { Leaves (with_found (found_by result) seat.old.view.core.owned)
         (seen_by P.seen seat.old) (seen_by P.seen seat.new) }
-    ensures why { IfErr result (λ error. IsWhyUnloaded P.Kind.fits (as_part P.part domain.now) error (seen_by P.seen seat.old)) }
+    ensures why { IfErr result
+        (λ error. IsWhyUnloaded P.Kind.fits (as_part P.part domain.now) error
+        (seen_by P.seen seat.old)) }
     ensures beside_part { HasBeside P.with_seen first_view seat.old seat.new }
     ensures room { HasRoom seat.new.view.core }
     ensures rest { IsAtRest domain.now seat.new }

@@ -27,10 +27,13 @@ impl LinkedQueue {
         requires queue { IsQueueOf self.now.head self.now.tail (as_part P.part domain.now) }
         requires alone { IsAlone root.old.view }
         requires laid { CanShut (P.seen root.old.view.client) }
-        ensures events { Shuts P.Kind.fits (as_part P.part domain.now) (seen_by P.seen root.old) (seen_by P.seen root.new) }
+        ensures events { Shuts P.Kind.fits (as_part P.part domain.now) (seen_by P.seen root.old)
+            (seen_by P.seen root.new) }
         ensures left { (P.seen root.new.view.client)
-            ≡ shut_in (ends_of (as_part P.part domain.now)) (seen_by P.seen root.old) (P.seen root.old.view.client) }
-        ensures leaves { Leaves root.old.view.core.owned (seen_by P.seen root.old) (seen_by P.seen root.new) }
+            ≡ shut_in (ends_of (as_part P.part domain.now)) (seen_by P.seen root.old)
+            (P.seen root.old.view.client) }
+        ensures leaves { Leaves root.old.view.core.owned (seen_by P.seen root.old)
+            (seen_by P.seen root.new) }
         ensures beside { StaysBeside P.seen P.with_seen root.old root.new }
         ensures room { HasRoom root.new.view.core }
         ensures rest { IsAtRest domain.now root.new }
@@ -48,12 +51,16 @@ fn shut_head<S, P: HasQueue<S>>(domain: &Domain<P>, seat: &mut Seat<P>, head: u3
     requires there { head < domain.now.shape.cells }
     requires alone { IsAlone seat.old.view }
     requires laid { CanShut (P.seen seat.old.view.client) }
-    ensures stores { Stores P.Kind.fits (as_part P.part domain.now) (shut_head_next (ends_of (as_part P.part domain.now)))
-        TellsNothing (Cell (P.part domain.now.protocol).head) None (seen_by P.seen seat.old) (seen_by P.seen seat.new) }
+    ensures stores { Stores P.Kind.fits (as_part P.part domain.now)
+        (shut_head_next (ends_of (as_part P.part domain.now)))
+        TellsNothing (Cell (P.part domain.now.protocol).head) None (seen_by P.seen seat.old)
+        (seen_by P.seen seat.new) }
     ensures client { (P.seen seat.new.view.client)
-        ≡ half_shut_in (ends_of (as_part P.part domain.now)) (seen_by P.seen seat.old) (P.seen seat.old.view.client) }
+        ≡ half_shut_in (ends_of (as_part P.part domain.now)) (seen_by P.seen seat.old)
+        (P.seen seat.old.view.client) }
     ensures alone { IsAlone seat.new.view }
-    ensures leaves { Leaves seat.old.view.core.owned (seen_by P.seen seat.old) (seen_by P.seen seat.new) }
+    ensures leaves { Leaves seat.old.view.core.owned (seen_by P.seen seat.old)
+        (seen_by P.seen seat.new) }
     ensures beside_part { HasBeside P.with_seen first_view seat.old seat.new }
     ensures room { HasRoom seat.new.view.core }
     ensures rest { IsAtRest domain.now seat.new }
@@ -72,11 +79,13 @@ fn shut_tail<S, P: HasQueue<S>>(domain: &Domain<P>, seat: &mut Seat<P>, tail: u3
     requires alone { IsAlone seat.old.view }
     requires half { (P.seen seat.old.view.client).stand.laid ≡ 3 }
     ensures stores { Stores P.Kind.fits (as_part P.part domain.now) shut_tail_next TellsNothing
-        (Cell (P.part domain.now.protocol).tail) None (seen_by P.seen seat.old) (seen_by P.seen seat.new) }
+        (Cell (P.part domain.now.protocol).tail) None (seen_by P.seen seat.old)
+        (seen_by P.seen seat.new) }
     ensures client { (P.seen seat.new.view.client) ≡ record (P.seen seat.old.view.client) {
       stand = record (P.seen seat.old.view.client).stand { laid = 4 };
     } }
-    ensures leaves { Leaves seat.old.view.core.owned (seen_by P.seen seat.old) (seen_by P.seen seat.new) }
+    ensures leaves { Leaves seat.old.view.core.owned (seen_by P.seen seat.old)
+        (seen_by P.seen seat.new) }
     ensures beside_part { HasBeside P.with_seen first_view seat.old seat.new }
     ensures room { HasRoom seat.new.view.core }
     ensures rest { IsAtRest domain.now seat.new }

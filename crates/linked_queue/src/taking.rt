@@ -19,8 +19,8 @@ use crate::unless_ripe::UnlessRipe;
 use acquire_retire::{Domain, EventPlace, Outcome, Seat, SlotId};
 use core_functions::held_as;
 use counted_handles::Strong;
-use plain_protocol::Still;
 use part_calls::{Place, copy_strong, drop_strong, look, store, try_replace};
+use plain_protocol::Still;
 use queue_protocol::{EmptyDummy, HasQueue, QueueLaw, TakeItem};
 
 /// What a seat saw at the head of a queue: the slots of a node that the head cell held, of the next one, and of that
@@ -45,15 +45,20 @@ pub(crate) fn take<S, P: HasQueue<S>>(
     requires there { head < domain.now.shape.cells }
     requires attached { IsAttached (P.seen seat.old.view.client) }
     requires sees { SeesItem sight.front sight.next sight.item (seen_by P.seen seat.old) }
-    ensures takes { IfOk result (λ done. Takes P.Kind.fits (as_part P.part domain.now) sight.front sight.next
+    ensures takes { IfOk result
+        (λ done. Takes P.Kind.fits (as_part P.part domain.now) sight.front sight.next
         (seen_by P.seen seat.old) (seen_by P.seen seat.new)) }
     ensures popped { IfOk result (λ done. deeds_in (P.seen seat.new.view.client)
-        ≡ popped_too (item_in (seen_by P.seen seat.old) sight.item) (deeds_in (P.seen seat.old.view.client))) }
+        ≡ popped_too (item_in (seen_by P.seen seat.old) sight.item)
+        (deeds_in (P.seen seat.old.view.client))) }
     ensures dummy { IfOk result (λ done. HasEmptied sight.next (seen_by P.seen seat.new)) }
     ensures refused { OnErr result (deeds_in (P.seen seat.new.view.client)
         ≡ deeds_in (P.seen seat.old.view.client)) }
-    ensures why { IfErr result (λ error. IsWhyUnpopped P.Kind.fits (as_part P.part domain.now) 0 error (seen_by P.seen seat.old)) }
-    ensures leaves { Leaves seat.old.view.core.owned (seen_by P.seen seat.old) (seen_by P.seen seat.new) }
+    ensures why { IfErr result
+        (λ error. IsWhyUnpopped P.Kind.fits (as_part P.part domain.now) 0 error
+        (seen_by P.seen seat.old)) }
+    ensures leaves { Leaves seat.old.view.core.owned (seen_by P.seen seat.old)
+        (seen_by P.seen seat.new) }
     ensures beside_part { HasBeside P.with_seen first_view seat.old seat.new }
     ensures room { HasRoom seat.new.view.core }
     ensures rest { IsAtRest domain.now seat.new }
@@ -62,7 +67,14 @@ pub(crate) fn take<S, P: HasQueue<S>>(
         return Err(PopError::Spent);
     };
     let cell = Place::Cell(head);
-    let lost = match try_replace::<QueueLaw, S, P, _>(domain, seat, cell, Some(sight.front), Some(given), TakeItem) {
+    let lost = match try_replace::<QueueLaw, S, P, _>(
+        domain,
+        seat,
+        cell,
+        Some(sight.front),
+        Some(given),
+        TakeItem,
+    ) {
         Ok(()) => return Ok(()),
         Err(lost) => lost,
     };
@@ -80,10 +92,12 @@ pub(crate) fn empty<S, P: HasQueue<S>>(domain: &Domain<P>, seat: &mut Seat<P>, d
     requires rest { IsAtRest domain.now seat.old }
     requires room { HasRoom seat.old.view.core }
     requires dummy { HasEmptied dummy (seen_by P.seen seat.old) }
-    ensures stores { Stores P.Kind.fits (as_part P.part domain.now) (next_unless empty_next) TellsNothing
+    ensures stores { Stores P.Kind.fits (as_part P.part domain.now) (next_unless empty_next)
+        TellsNothing
         (Field dummy 1) None (seen_by P.seen seat.old) (seen_by P.seen seat.new) }
     ensures client { (P.seen seat.new.view.client) ≡ (P.seen seat.old.view.client) }
-    ensures leaves { Leaves seat.old.view.core.owned (seen_by P.seen seat.old) (seen_by P.seen seat.new) }
+    ensures leaves { Leaves seat.old.view.core.owned (seen_by P.seen seat.old)
+        (seen_by P.seen seat.new) }
     ensures beside_part { HasBeside P.with_seen first_view seat.old seat.new }
     ensures room { HasRoom seat.new.view.core }
     ensures rest { IsAtRest domain.now seat.new }
@@ -98,14 +112,20 @@ pub(crate) fn empty<S, P: HasQueue<S>>(domain: &Domain<P>, seat: &mut Seat<P>, d
 }
 
 /// What the head cell holds.
-pub(crate) fn look_again<S, P: HasQueue<S>>(domain: &Domain<P>, seat: &mut Seat<P>, head: u32) -> u64
+pub(crate) fn look_again<S, P: HasQueue<S>>(
+    domain: &Domain<P>,
+    seat: &mut Seat<P>,
+    head: u32,
+) -> u64
     requires rest { IsAtRest domain.now seat.old }
     requires room { HasRoom seat.old.view.core }
     requires head { head ≡ (P.part domain.now.protocol).head }
     requires there { head < domain.now.shape.cells }
-    ensures looks { LooksAgain P.Kind.fits (as_part P.part domain.now) result (seen_by P.seen seat.old) (seen_by P.seen seat.new) }
+    ensures looks { LooksAgain P.Kind.fits (as_part P.part domain.now) result
+        (seen_by P.seen seat.old) (seen_by P.seen seat.new) }
     ensures client { (P.seen seat.new.view.client) ≡ (P.seen seat.old.view.client) }
-    ensures leaves { Leaves seat.old.view.core.owned (seen_by P.seen seat.old) (seen_by P.seen seat.new) }
+    ensures leaves { Leaves seat.old.view.core.owned (seen_by P.seen seat.old)
+        (seen_by P.seen seat.new) }
     ensures beside_part { HasBeside P.with_seen first_view seat.old seat.new }
     ensures room { HasRoom seat.new.view.core }
     ensures rest { IsAtRest domain.now seat.new }

@@ -5,8 +5,8 @@ ghost use Rattle.core_events.specs.Steps.{HasRoom};
 ghost use Rattle.control_word.specs.Resting.{IsAtRest};
 ghost use Rattle.linked_queue.specs.Queues.{CanLay, IsAttached, IsQueueOf};
 
-use crate::laying::make_node;
 use crate::LinkedQueue;
+use crate::laying::make_node;
 use acquire_retire::{Domain, OpenError, Quota, Seat, Shape, open_domain};
 use control_word::drop_strong;
 use deleter::Deleter;

@@ -44,12 +44,14 @@ module _ {V W : Type 0} (seen : V → W) (with_seen : V → W → V) (gone : W)
   module _ {P : Type 0} (fits : List ℕ → Type 0) (d : DomainState P)
       (next : OwnPart → OwnPart → W → PlainAct → ℕ → W)
       (allows : Plain → Plain → ℕ → V → V → Type 0) (old new : SeatState V) where
-    pub step_beside : (a : Act) (o : Outcome) → Steps fits d (lifted_next seen with_seen next) allows a old new o
+    pub step_beside : (a : Act) (o : Outcome)
+        → Steps fits d (lifted_next seen with_seen next) allows a old new o
         → HasBeside with_seen gone old new
     step_beside a o step = beside_put old new old.view.client _ refl step.told.client
 
     pub loads_beside : (place : EventPlace) (found : Option SlotId) → IsAtRest d old
-        → Loads fits d place (lifted_next seen with_seen next) allows found old new → HasBeside with_seen gone old new
+        → Loads fits d place (lifted_next seen with_seen next) allows found old new
+        → HasBeside with_seen gone old new
     loads_beside place None rest l =
         beside_put old new old.view.client _ refl (client_null d place old new l)
     loads_beside place (Some s) rest l =
@@ -57,7 +59,8 @@ module _ {V W : Type 0} (seen : V → W) (with_seen : V → W → V) (gone : W)
         (client_found d place old new s rest l)
 
     pub misses_beside : (place : EventPlace) (was now : Option SlotId)
-        → Misses fits d 0 place (lifted_next seen with_seen next) allows was now old new → HasBeside with_seen gone old new
+        → Misses fits d 0 place (lifted_next seen with_seen next) allows was now old new
+        → HasBeside with_seen gone old new
     misses_beside place was now m =
         beside_put old new m.mid.view.client _ m.announces.client
         (client_moved d place old new was now m)
@@ -77,7 +80,8 @@ module _ {V W : Type 0} (seen : V → W) (with_seen : V → W → V) (gone : W)
         (ap (λ (z : SeatState V). z.view.client) by.walks.2 ∙ by.walks.1.told.client)
 
     pub makes_beside : (payload : List ℕ) (s : SlotId)
-        → Makes fits d (lifted_next seen with_seen next) allows payload s old new → HasBeside with_seen gone old new
+        → Makes fits d (lifted_next seen with_seen next) allows payload s old new
+        → HasBeside with_seen gone old new
     makes_beside payload s m =
         beside_put old new m.mid.view.client _ m.begins.goes.client
         (ap (λ (z : SeatState V). z.view.client) m.starts.walks.2
@@ -86,9 +90,11 @@ module _ {V W : Type 0} (seen : V → W) (with_seen : V → W → V) (gone : W)
     -- whatever a load answers
     pub load_beside : (place : EventPlace) (r : Result (Option Handle) LoadError) → IsAtRest d old
         → (r ≡ Err unloaded.Spent → new ≡ old)
-        → IfOk r (λ found. Loads fits d place (lifted_next seen with_seen next) allows (named found) old new)
+        → IfOk r (λ found. Loads fits d place (lifted_next seen with_seen next) allows (named found)
+        old new)
         → ((was now : ℕ) → r ≡ Err (unloaded.Moved was now)
-        → Misses fits d 0 place (lifted_next seen with_seen next) allows (slot_in was) (slot_in now) old new)
+        → Misses fits d 0 place (lifted_next seen with_seen next) allows (slot_in was) (slot_in now)
+        old new)
         → HasBeside with_seen gone old new
     load_beside place (Ok found) rest same l moved = loads_beside place (named found) rest l
     load_beside place (Err unloaded.Spent) rest same l moved =
@@ -99,8 +105,10 @@ module _ {V W : Type 0} (seen : V → W) (with_seen : V → W → V) (gone : W)
     -- whatever an exchange answers
     pub replace_beside : (p : EventPlace) (given expected : Option SlotId)
         (r : Result (Unit {0}) Lost)
-        → IfOk r (λ done. Replaces fits d (lifted_next seen with_seen next) allows p given expected old new)
-        → IfErr r (λ lost. LosesTo fits d (lifted_next seen with_seen next) allows p given expected lost.now old new)
+        → IfOk r (λ done. Replaces fits d (lifted_next seen with_seen next) allows p given expected
+        old new)
+        → IfErr r (λ lost. LosesTo fits d (lifted_next seen with_seen next) allows p given expected
+        lost.now old new)
         → HasBeside with_seen gone old new
     replace_beside p given expected (Ok done) replaced lost =
         exchanges_beside p _ given expected replaced
@@ -109,7 +117,8 @@ module _ {V W : Type 0} (seen : V → W) (with_seen : V → W → V) (gone : W)
 
     -- and whatever a make answers
     pub make_beside : {E : Type 0} (payload : List ℕ) (r : Result Handle E)
-        → IfOk r (λ strong. Makes fits d (lifted_next seen with_seen next) allows payload strong.slot old new)
+        → IfOk r (λ strong. Makes fits d (lifted_next seen with_seen next) allows payload
+        strong.slot old new)
         → OnErr r (new.view.client ≡ old.view.client) → HasBeside with_seen gone old new
     make_beside payload (Ok strong) made client = makes_beside payload strong.slot made
     make_beside payload (Err e) made client = beside_same old new client

@@ -42,21 +42,24 @@ module _ {P Q V W : Type 0} (fits : List ℕ → Type 0) (part : P → Q) (seen 
         (is, frees own step within, λ after found. all own after step found)
 
     -- A LOOK
-    pub look_ready : (p : EventPlace) (old : SeatState V) → AcceptsAll suits next seen old.view.client
+    pub look_ready : (p : EventPlace) (old : SeatState V)
+        → AcceptsAll suits next seen old.view.client
         → IsReady ready d.shape (act.Look p) (seen_by seen old).view
         → IsReady lifted d.shape (act.Look p) old.view
     look_ready p old all is w =
         lift (own_of old.view) old.view.client (plain.Look p) (is w) tt all
 
     -- A LOAD
-    pub load_ready : (p : EventPlace) (old : SeatState V) → AcceptsAll suits next seen old.view.client
+    pub load_ready : (p : EventPlace) (old : SeatState V)
+        → AcceptsAll suits next seen old.view.client
         → IsReadyToLoad fits (as_part part d) p ready (seen_by seen old)
         → IsReadyToLoad fits d p lifted old
     load_ready p old all is = record {
       look = look_ready p old all is.look;
       check = λ s mid announces w.
           lift (own_of mid.view) mid.view.client (plain.Check 0 p)
-          (is.check s (seen_by seen mid) (announces_seen fits part seen d 0 p s old mid announces) w)
+          (is.check s (seen_by seen mid) (announces_seen fits part seen d 0 p s old mid announces)
+          w)
           tt
           (subst (AcceptsAll suits next seen) (sym announces.client) all);
     }

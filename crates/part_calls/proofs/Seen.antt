@@ -27,7 +27,8 @@ use Rattle.part_calls.specs.Parts.{as_part, seen_by, view_seen}
 
 -- a deed of the whole is, as the part sees it, this one
 pub record IsSeen {V W : Type 0} (seen : V → W) (next : OwnPart → OwnPart → V → PlainAct → ℕ → V)
-    (allows : Plain → Plain → ℕ → V → V → Type 0) (next_in : OwnPart → OwnPart → W → PlainAct → ℕ → W)
+    (allows : Plain → Plain → ℕ → V → V → Type 0)
+    (next_in : OwnPart → OwnPart → W → PlainAct → ℕ → W)
     (allows_in : Plain → Plain → ℕ → W → W → Type 0) : Type 0 where
   pub leads :
       (own after : OwnPart) (v : V) (a : PlainAct) (w : ℕ)

@@ -86,7 +86,8 @@ module _ {P Q V W : Type 0} (fits : List ℕ → Type 0) (part : P → Q) (seen 
       (λ not. inr (not.0, ap (seen_by seen) not.1))
       scans
 
-  abbrev pub goes_seen : (ms : List Move) (v : CoreView) (old new : SeatState V) → Goes fits d ms v old new
+  abbrev pub goes_seen : (ms : List Move) (v : CoreView) (old new : SeatState V)
+      → Goes fits d ms v old new
       → Goes fits (as_part part d) ms v (seen_by seen old) (seen_by seen new)
   goes_seen ms v old new g = record {
     becomes = stays_seen ms v old new g.becomes;

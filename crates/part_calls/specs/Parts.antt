@@ -42,4 +42,5 @@ StaysBeside seen with_seen old new =
 abbrev pub AcceptsAll : {V W : Type 0} → (V → W → Type 0)
     → (OwnPart → OwnPart → W → PlainAct → ℕ → W) → (V → W) → V → Type 0
 AcceptsAll suits next seen v =
-    (own after : OwnPart) (step : PlainAct) (found : ℕ) → suits v (next own after (seen v) step found)
+    (own after : OwnPart) (step : PlainAct) (found : ℕ)
+    → suits v (next own after (seen v) step found)

@@ -13,7 +13,6 @@ use acquire_retire::{Domain, Seat};
 use counted_handles::Strong;
 use plain_protocol::{Deed, Protocol};
 use protocol_pairs::{InPart, Part};
-
 pub use slot_store::MakeError;
 
 /// Makes an object with this payload, which is the part's, in a free slot, with one strong reference, which is the

@@ -98,5 +98,12 @@ pub fn try_replace<Q: Protocol, S, P: Part<Q, S>, D: Deed<Q>>(
         seat.old seat.new }
     ensures rest { IsAtRest domain.now seat.new }
 {
-    atomic_shared::try_replace(domain, seat, place, expected, new, InPart::<Q, S, D>::new(deed))
+    atomic_shared::try_replace(
+        domain,
+        seat,
+        place,
+        expected,
+        new,
+        InPart::<Q, S, D>::new(deed),
+    )
 }

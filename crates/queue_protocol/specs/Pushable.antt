@@ -7,7 +7,8 @@ use Rattle.queue_law.specs.declared.view.View.{View}
 -- an item that may be pushed still may be, whatever the seat did with the queue meanwhile
 abbrev pub StaysPushable : {P V : Type 0} → (P → V → Item → Type 0) → (V → View → V) → Type 0
 StaysPushable {P = P} {V = V} may_push with_seen =
-    (it : P) (v : V) (w : View) (item : Item) → may_push it v item → may_push it (with_seen v w) item
+    (it : P) (v : V) (w : View) (item : Item) → may_push it v item
+    → may_push it (with_seen v w) item
 
 -- the rest accepts a view of the queue that has pushed what it had
 abbrev pub AcceptsKept : {P V : Type 0} → (V → View) → (P → V → View → Type 0) → Type 0

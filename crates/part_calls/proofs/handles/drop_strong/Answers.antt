@@ -11,4 +11,5 @@ pub returns-clause-seen : goal.returns-clause-seen
 returns-clause-seen g c = ap g.P.Part.seen c.drop_strong.ensures.client
 
 pub returns-clause-beside : goal.returns-clause-beside
-returns-clause-beside g c = ap (λ v. g.P.Part.with_seen v g.Q.Protocol.gone) c.drop_strong.ensures.client
+returns-clause-beside g c = ap (λ v. g.P.Part.with_seen v g.Q.Protocol.gone)
+    c.drop_strong.ensures.client

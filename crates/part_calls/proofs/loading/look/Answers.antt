@@ -12,26 +12,42 @@ use Rattle.part_calls.proofs.loading.look.Goals as goal
 
 pub look-requires-clause-deed : goal.look-requires-clause-deed
 look-requires-clause-deed g c =
-    subst (λ e. IsReady (λ own v step. (g.D.Deed.ready e (g.P.Part.part c.args.domain.now.protocol)) own (g.P.Part.seen v) step × g.P.Part.free c.args.domain.now.protocol own step
-    × Accepts (g.P.Part.suits c.args.domain.now.protocol) (g.D.Deed.next e (g.P.Part.part c.args.domain.now.protocol)) g.P.Part.seen own v step) c.args.domain.now.shape (act.Look c.args.place) c.args.seat.now.view) (sym c.new.ensures)
+    subst (λ e. IsReady (λ own v step. (g.D.Deed.ready e (g.P.Part.part c.args.domain.now.protocol))
+    own (g.P.Part.seen v) step × g.P.Part.free c.args.domain.now.protocol own step
+    × Accepts (g.P.Part.suits c.args.domain.now.protocol)
+    (g.D.Deed.next e (g.P.Part.part c.args.domain.now.protocol)) g.P.Part.seen own v step)
+    c.args.domain.now.shape (act.Look c.args.place) c.args.seat.now.view) (sym c.new.ensures)
     (look_ready g.P.Kind.PayloadKind.fits g.P.Part.part g.P.Part.seen c.args.domain.now
-    (owned_of (g.Q.Protocol.owns_cell (g.P.Part.part c.args.domain.now.protocol)) (g.Q.Protocol.owns_weak_cell (g.P.Part.part c.args.domain.now.protocol))
-    (g.Q.Protocol.owns_payload (g.P.Part.part c.args.domain.now.protocol)) (g.Q.Protocol.owns_tickets (g.P.Part.part c.args.domain.now.protocol)))
+    (owned_of (g.Q.Protocol.owns_cell (g.P.Part.part c.args.domain.now.protocol))
+    (g.Q.Protocol.owns_weak_cell (g.P.Part.part c.args.domain.now.protocol))
+    (g.Q.Protocol.owns_payload (g.P.Part.part c.args.domain.now.protocol))
+    (g.Q.Protocol.owns_tickets (g.P.Part.part c.args.domain.now.protocol)))
     (g.P.Part.free c.args.domain.now.protocol) (g.met.P.Part.frees c.args.domain.now.protocol)
-    (g.P.Part.suits c.args.domain.now.protocol) (g.D.Deed.ready c.args.deed (g.P.Part.part c.args.domain.now.protocol)) (g.D.Deed.next c.args.deed (g.P.Part.part c.args.domain.now.protocol)) c.args.place c.args.seat.now
+    (g.P.Part.suits c.args.domain.now.protocol)
+    (g.D.Deed.ready c.args.deed (g.P.Part.part c.args.domain.now.protocol))
+    (g.D.Deed.next c.args.deed (g.P.Part.part c.args.domain.now.protocol)) c.args.place
+    c.args.seat.now
     c.requires.accepted c.requires.deed)
 
 pub returns-clause-steps : goal.returns-clause-steps
 returns-clause-steps g c =
-    subst (λ e. Steps g.P.Kind.PayloadKind.fits (as_part g.P.Part.part c.args.domain.now) (g.D.Deed.next e (g.P.Part.part c.args.domain.now.protocol)) (g.D.Deed.allows e (g.P.Part.part c.args.domain.now.protocol))
-    (act.Look c.args.place) (seen_by g.P.Part.seen c.args.seat.now) (seen_by g.P.Part.seen c.look.new.seat) c.look.result) c.new.ensures
+    subst (λ e. Steps g.P.Kind.PayloadKind.fits (as_part g.P.Part.part c.args.domain.now)
+    (g.D.Deed.next e (g.P.Part.part c.args.domain.now.protocol))
+    (g.D.Deed.allows e (g.P.Part.part c.args.domain.now.protocol))
+    (act.Look c.args.place) (seen_by g.P.Part.seen c.args.seat.now)
+    (seen_by g.P.Part.seen c.look.new.seat) c.look.result) c.new.ensures
     (steps_seen g.P.Kind.PayloadKind.fits g.P.Part.part g.P.Part.seen c.args.domain.now
-    (part_seen g.P.Part.seen g.P.Part.with_seen g.P.Part.reads (g.D.Deed.next c.new.result.deed (g.P.Part.part c.args.domain.now.protocol)) (g.D.Deed.allows c.new.result.deed (g.P.Part.part c.args.domain.now.protocol))) (act.Look c.args.place) c.args.seat.now c.look.new.seat c.look.result
+    (part_seen g.P.Part.seen g.P.Part.with_seen g.P.Part.reads
+    (g.D.Deed.next c.new.result.deed (g.P.Part.part c.args.domain.now.protocol))
+    (g.D.Deed.allows c.new.result.deed (g.P.Part.part c.args.domain.now.protocol)))
+    (act.Look c.args.place) c.args.seat.now c.look.new.seat c.look.result
     c.look.ensures)
 
 pub returns-clause-beside : goal.returns-clause-beside
 returns-clause-beside g c =
     step_beside g.P.Part.seen g.P.Part.with_seen g.Q.Protocol.gone g.P.Part.puts_over
-    g.P.Kind.PayloadKind.fits c.args.domain.now (g.D.Deed.next c.new.result.deed (g.P.Part.part c.args.domain.now.protocol))
-    (lifted_allows g.P.Part.seen (g.D.Deed.allows c.new.result.deed (g.P.Part.part c.args.domain.now.protocol)))
+    g.P.Kind.PayloadKind.fits c.args.domain.now
+    (g.D.Deed.next c.new.result.deed (g.P.Part.part c.args.domain.now.protocol))
+    (lifted_allows g.P.Part.seen
+    (g.D.Deed.allows c.new.result.deed (g.P.Part.part c.args.domain.now.protocol)))
     c.args.seat.now c.look.new.seat (act.Look c.args.place) c.look.result c.look.ensures

@@ -17,37 +17,63 @@ use Rattle.part_calls.proofs.loading.try_load.Goals as goal
 
 pub try_load-requires-clause-deed : goal.try_load-requires-clause-deed
 try_load-requires-clause-deed g c =
-    subst (λ e. IsReadyToLoad g.P.Kind.PayloadKind.fits c.args.domain.now (strong_place c.args.place) (λ own v step. (g.D.Deed.ready e (g.P.Part.part c.args.domain.now.protocol)) own (g.P.Part.seen v) step × g.P.Part.free c.args.domain.now.protocol own step
-    × Accepts (g.P.Part.suits c.args.domain.now.protocol) (g.D.Deed.next e (g.P.Part.part c.args.domain.now.protocol)) g.P.Part.seen own v step) c.args.seat.now) (sym c.new.ensures)
+    subst (λ e. IsReadyToLoad g.P.Kind.PayloadKind.fits c.args.domain.now
+    (strong_place c.args.place)
+    (λ own v step. (g.D.Deed.ready e (g.P.Part.part c.args.domain.now.protocol)) own
+    (g.P.Part.seen v) step × g.P.Part.free c.args.domain.now.protocol own step
+    × Accepts (g.P.Part.suits c.args.domain.now.protocol)
+    (g.D.Deed.next e (g.P.Part.part c.args.domain.now.protocol)) g.P.Part.seen own v step)
+    c.args.seat.now) (sym c.new.ensures)
     (load_ready g.P.Kind.PayloadKind.fits g.P.Part.part g.P.Part.seen c.args.domain.now
-    (owned_of (g.Q.Protocol.owns_cell (g.P.Part.part c.args.domain.now.protocol)) (g.Q.Protocol.owns_weak_cell (g.P.Part.part c.args.domain.now.protocol))
-    (g.Q.Protocol.owns_payload (g.P.Part.part c.args.domain.now.protocol)) (g.Q.Protocol.owns_tickets (g.P.Part.part c.args.domain.now.protocol)))
+    (owned_of (g.Q.Protocol.owns_cell (g.P.Part.part c.args.domain.now.protocol))
+    (g.Q.Protocol.owns_weak_cell (g.P.Part.part c.args.domain.now.protocol))
+    (g.Q.Protocol.owns_payload (g.P.Part.part c.args.domain.now.protocol))
+    (g.Q.Protocol.owns_tickets (g.P.Part.part c.args.domain.now.protocol)))
     (g.P.Part.free c.args.domain.now.protocol) (g.met.P.Part.frees c.args.domain.now.protocol)
-    (g.P.Part.suits c.args.domain.now.protocol) (g.D.Deed.ready c.args.deed (g.P.Part.part c.args.domain.now.protocol)) (g.D.Deed.next c.args.deed (g.P.Part.part c.args.domain.now.protocol)) (strong_place c.args.place) c.args.seat.now
+    (g.P.Part.suits c.args.domain.now.protocol)
+    (g.D.Deed.ready c.args.deed (g.P.Part.part c.args.domain.now.protocol))
+    (g.D.Deed.next c.args.deed (g.P.Part.part c.args.domain.now.protocol))
+    (strong_place c.args.place) c.args.seat.now
     c.requires.accepted c.requires.deed)
 
 pub returns-clause-loaded : goal.returns-clause-loaded
 returns-clause-loaded g c =
-    subst (λ e. IfOk c.try_load.result (λ found. Loads g.P.Kind.PayloadKind.fits (as_part g.P.Part.part c.args.domain.now)
-    (strong_place c.args.place) (g.D.Deed.next e (g.P.Part.part c.args.domain.now.protocol)) (g.D.Deed.allows e (g.P.Part.part c.args.domain.now.protocol)) (named found)
-    (seen_by g.P.Part.seen c.args.seat.now) (seen_by g.P.Part.seen c.try_load.new.seat))) c.new.ensures
-    (then_ok _ _ c.try_load.result (λ found l. loads_seen g.P.Kind.PayloadKind.fits g.P.Part.part g.P.Part.seen c.args.domain.now
-    (part_seen g.P.Part.seen g.P.Part.with_seen g.P.Part.reads (g.D.Deed.next c.new.result.deed (g.P.Part.part c.args.domain.now.protocol)) (g.D.Deed.allows c.new.result.deed (g.P.Part.part c.args.domain.now.protocol))) (strong_place c.args.place) (named found) c.args.seat.now c.try_load.new.seat l)
+    subst (λ e. IfOk c.try_load.result
+    (λ found. Loads g.P.Kind.PayloadKind.fits (as_part g.P.Part.part c.args.domain.now)
+    (strong_place c.args.place) (g.D.Deed.next e (g.P.Part.part c.args.domain.now.protocol))
+    (g.D.Deed.allows e (g.P.Part.part c.args.domain.now.protocol)) (named found)
+    (seen_by g.P.Part.seen c.args.seat.now) (seen_by g.P.Part.seen c.try_load.new.seat)))
+    c.new.ensures
+    (then_ok _ _ c.try_load.result
+    (λ found l. loads_seen g.P.Kind.PayloadKind.fits g.P.Part.part g.P.Part.seen c.args.domain.now
+    (part_seen g.P.Part.seen g.P.Part.with_seen g.P.Part.reads
+    (g.D.Deed.next c.new.result.deed (g.P.Part.part c.args.domain.now.protocol))
+    (g.D.Deed.allows c.new.result.deed (g.P.Part.part c.args.domain.now.protocol)))
+    (strong_place c.args.place) (named found) c.args.seat.now c.try_load.new.seat l)
     c.try_load.ensures.loaded)
 
 pub returns-clause-moved : goal.returns-clause-moved
 returns-clause-moved g c =
     subst (λ e. (was now : ℕ) → c.try_load.result ≡ Err (refused.Moved was now)
-    → Misses g.P.Kind.PayloadKind.fits (as_part g.P.Part.part c.args.domain.now) 0 (strong_place c.args.place) (g.D.Deed.next e (g.P.Part.part c.args.domain.now.protocol)) (g.D.Deed.allows e (g.P.Part.part c.args.domain.now.protocol))
-    (slot_in was) (slot_in now) (seen_by g.P.Part.seen c.args.seat.now) (seen_by g.P.Part.seen c.try_load.new.seat)) c.new.ensures
-    (λ was now is. misses_seen g.P.Kind.PayloadKind.fits g.P.Part.part g.P.Part.seen c.args.domain.now
-    (part_seen g.P.Part.seen g.P.Part.with_seen g.P.Part.reads (g.D.Deed.next c.new.result.deed (g.P.Part.part c.args.domain.now.protocol)) (g.D.Deed.allows c.new.result.deed (g.P.Part.part c.args.domain.now.protocol))) 0 (strong_place c.args.place) (slot_in was) (slot_in now) c.args.seat.now
+    → Misses g.P.Kind.PayloadKind.fits (as_part g.P.Part.part c.args.domain.now) 0
+    (strong_place c.args.place) (g.D.Deed.next e (g.P.Part.part c.args.domain.now.protocol))
+    (g.D.Deed.allows e (g.P.Part.part c.args.domain.now.protocol))
+    (slot_in was) (slot_in now) (seen_by g.P.Part.seen c.args.seat.now)
+    (seen_by g.P.Part.seen c.try_load.new.seat)) c.new.ensures
+    (λ was now is. misses_seen g.P.Kind.PayloadKind.fits g.P.Part.part g.P.Part.seen
+    c.args.domain.now
+    (part_seen g.P.Part.seen g.P.Part.with_seen g.P.Part.reads
+    (g.D.Deed.next c.new.result.deed (g.P.Part.part c.args.domain.now.protocol))
+    (g.D.Deed.allows c.new.result.deed (g.P.Part.part c.args.domain.now.protocol))) 0
+    (strong_place c.args.place) (slot_in was) (slot_in now) c.args.seat.now
     c.try_load.new.seat (c.try_load.ensures.moved was now is))
 
 pub returns-clause-beside : goal.returns-clause-beside
 returns-clause-beside g c =
     load_beside g.P.Part.seen g.P.Part.with_seen g.Q.Protocol.gone g.P.Part.puts_over
-    g.P.Kind.PayloadKind.fits c.args.domain.now (g.D.Deed.next c.new.result.deed (g.P.Part.part c.args.domain.now.protocol))
-    (lifted_allows g.P.Part.seen (g.D.Deed.allows c.new.result.deed (g.P.Part.part c.args.domain.now.protocol)))
+    g.P.Kind.PayloadKind.fits c.args.domain.now
+    (g.D.Deed.next c.new.result.deed (g.P.Part.part c.args.domain.now.protocol))
+    (lifted_allows g.P.Part.seen
+    (g.D.Deed.allows c.new.result.deed (g.P.Part.part c.args.domain.now.protocol)))
     c.args.seat.now c.try_load.new.seat (strong_place c.args.place) c.try_load.result
     c.requires.rest c.try_load.ensures.refused c.try_load.ensures.loaded c.try_load.ensures.moved
