@@ -35,89 +35,89 @@ pub record Same {P V : Type 0} (d : DomainState P) (s : SlotId) (n : ℕ) (paylo
 
 module _ {P V : Type 0} (fits : List ℕ → Type 0) (d : DomainState P) (s : SlotId)
     (payload : List ℕ) (old : SeatState V) where
-    pub none_same : length payload ≡ 16 → IsAtRest d old → HasRoom old.view.core
-        → Same d s 0 payload old old
-    none_same long rest room = record {
-      payload_size = long;
-      size = λ low. absurd (omega (arith, low));
-      words = λ k low. absurd (omega (arith, low));
-      leaves = leaves_none old;
-      client = refl;
-      holds = λ x held. held;
-      object = refl;
-      room = room;
+  pub none_same : length payload ≡ 16 → IsAtRest d old → HasRoom old.view.core
+      → Same d s 0 payload old old
+  none_same long rest room = record {
+    payload_size = long;
+    size = λ low. absurd (omega (arith, low));
+    words = λ k low. absurd (omega (arith, low));
+    leaves = leaves_none old;
+    client = refl;
+    holds = λ x held. held;
+    object = refl;
+    room = room;
+    rest = rest;
+  }
+
+  module _ (n word : ℕ) (now new : SeatState V) (same : Same d s n payload old now)
+      (held : Holds old.view.core s)
+      (read : word ≡ slice_index (object_in now.view s).payload n)
+      (seen : SeesWord fits d s n word now new)
+      (client : new.view.client ≡ now.view.client)
+      (knows : KnowsStill now.view.core now new)
+      (room : HasRoom now.view.core → HasRoom new.view.core)
+      (rest : IsAtRest d new) where
+    here : object_in new.view s ≡ object_in now.view s
+    here = knows s (holds_has now.view.core s (same.holds s held))
+
+    long : length (object_in old.view s).payload ≡ 16
+    long =
+        let step = seen.becomes.walks.1 in
+        let e : length (object_in new.view s).payload ≡ 16 =
+        ap (λ (x : SeatState V). length (object_in x.view s).payload) seen.becomes.walks.2
+        ∙ step.told.payloads s in
+        subst (λ (o : Object). length o.payload ≡ 16) (here ∙ same.object) e
+
+    pub one_read : Same d s n payload old new
+    one_read = record {
+      size = λ low. long;
+      words = same.words;
+      leaves = leaves_as old.view.core.owned old.view.core.weaks old new
+          (leaves_then old now new same.leaves
+          (leaves_core now new now.view.core _ seen.becomes.core refl knows)
+          (λ x was is. same.holds x was))
+          same.leaves.owns same.leaves.weakly;
+      payload_size = same.payload_size;
+      client = client ∙ same.client;
+      holds = λ x was. subst (λ (v : CoreView). Holds v x) (sym seen.becomes.core)
+          (same.holds x was);
+      object = here ∙ same.object;
+      room = room same.room;
       rest = rest;
     }
 
-    module _ (n word : ℕ) (now new : SeatState V) (same : Same d s n payload old now)
-        (held : Holds old.view.core s)
-        (read : word ≡ slice_index (object_in now.view s).payload n)
-        (seen : SeesWord fits d s n word now new)
-        (client : new.view.client ≡ now.view.client)
-        (knows : KnowsStill now.view.core now new)
-        (room : HasRoom now.view.core → HasRoom new.view.core)
-        (rest : IsAtRest d new) where
-      here : object_in new.view s ≡ object_in now.view s
-      here = knows s (holds_has now.view.core s (same.holds s held))
+    found_here : word ≡ slice_index (object_in old.view s).payload n
+    found_here = read ∙ ap (λ (o : Object). slice_index o.payload n) same.object
 
-      long : length (object_in old.view s).payload ≡ 16
-      long =
-          let step = seen.becomes.walks.1 in
-          let e : length (object_in new.view s).payload ≡ 16 =
-          ap (λ (x : SeatState V). length (object_in x.view s).payload) seen.becomes.walks.2
-          ∙ step.told.payloads s in
-          subst (λ (o : Object). length o.payload ≡ 16) (here ∙ same.object) e
+    pub one_same : word ≡ slice_index payload n → Same d s (n + 1) payload old new
+    one_same is = record {
+      size = λ low. long;
+      words = λ k low. ⊎_elim
+          (λ less. same.words k less)
+          (λ past. let e : k ≡ n = omega (arith, low, past) in
+          subst (λ j. slice_index (object_in old.view s).payload j ≡ slice_index payload j)
+          (sym e) (sym found_here ∙ is))
+          (cases_lt k n);
+      payload_size = same.payload_size;
+      leaves = one_read.leaves;
+      client = one_read.client;
+      holds = one_read.holds;
+      object = one_read.object;
+      room = one_read.room;
+      rest = one_read.rest;
+    }
 
-      pub one_read : Same d s n payload old new
-      one_read = record {
-        size = λ low. long;
-        words = same.words;
-        leaves = leaves_as old.view.core.owned old.view.core.weaks old new
-            (leaves_then old now new same.leaves
-            (leaves_core now new now.view.core _ seen.becomes.core refl knows)
-            (λ x was is. same.holds x was))
-            same.leaves.owns same.leaves.weakly;
-        payload_size = same.payload_size;
-        client = client ∙ same.client;
-        holds = λ x was. subst (λ (v : CoreView). Holds v x) (sym seen.becomes.core)
-            (same.holds x was);
-        object = here ∙ same.object;
-        room = room same.room;
-        rest = rest;
-      }
+    pub one_differs : word ≢ slice_index payload n → (object_in old.view s).payload ≢ payload
+    one_differs not is = not (found_here ∙ ap (λ l. slice_index l n) is)
 
-      found_here : word ≡ slice_index (object_in old.view s).payload n
-      found_here = read ∙ ap (λ (o : Object). slice_index o.payload n) same.object
-
-      pub one_same : word ≡ slice_index payload n → Same d s (n + 1) payload old new
-      one_same is = record {
-        size = λ low. long;
-        words = λ k low. ⊎_elim
-            (λ less. same.words k less)
-            (λ past. let e : k ≡ n = omega (arith, low, past) in
-            subst (λ j. slice_index (object_in old.view s).payload j ≡ slice_index payload j)
-            (sym e) (sym found_here ∙ is))
-            (cases_lt k n);
-        payload_size = same.payload_size;
-        leaves = one_read.leaves;
-        client = one_read.client;
-        holds = one_read.holds;
-        object = one_read.object;
-        room = one_read.room;
-        rest = one_read.rest;
-      }
-
-      pub one_differs : word ≢ slice_index payload n → (object_in old.view s).payload ≢ payload
-      one_differs not is = not (found_here ∙ ap (λ l. slice_index l n) is)
-
-    pub all_same : (n : ℕ) (now : SeatState V) → Same d s n payload old now → n ≡ 16
-        → (object_in old.view s).payload ≡ payload
-    all_same n now same whole =
-        let long = same.payload_size in
-        let size = same.size (omega arith) in
-        same_lists (object_in old.view s).payload payload (size ∙ sym long)
-        (λ k def low.
-        let far : k < length payload = omega (arith, low, size, long) in
-        get_or_default (object_in old.view s).payload k def 0 low
-        ∙ (same.words k (omega (arith, low, size))
-        ∙ get_or_default payload k 0 def far))
+  pub all_same : (n : ℕ) (now : SeatState V) → Same d s n payload old now → n ≡ 16
+      → (object_in old.view s).payload ≡ payload
+  all_same n now same whole =
+      let long = same.payload_size in
+      let size = same.size (omega arith) in
+      same_lists (object_in old.view s).payload payload (size ∙ sym long)
+      (λ k def low.
+      let far : k < length payload = omega (arith, low, size, long) in
+      get_or_default (object_in old.view s).payload k def 0 low
+      ∙ (same.words k (omega (arith, low, size))
+      ∙ get_or_default payload k 0 def far))

@@ -160,10 +160,10 @@ module _ {P V : Type 0} (d : DomainState P) (l : Place V) (z : Area) (head : Lis
         in (
           (
             walk_none (subst (λ f. Meets l.seen d z cell head f b c) null meets (head ∷ []) n
-            walks.walked at),
+                walks.walked at),
             low,
             walked_still 0 z (l.seen b.view.client) (l.seen c.view.client) (head ∷ []) n learns.part
-            walks.walked,
+                walks.walked,
           ),
           walk_learns 0 learns,
         )

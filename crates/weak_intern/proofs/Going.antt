@@ -1,5 +1,5 @@
 -- Trails that go on, steps of a call, and what several calls leave.
-use Rattle.std.proofs.Common.{◌≡◌, ℕ, ◌+◌, ◌≤◌, List, [], ◌++◌, refl, ap, sym, ◌∙◌, subst, arith, append_assoc}
+use Rattle.std.proofs.Common.{◌≡◌, ℕ, ◌+◌, ◌≤◌, List, [], ◌∷◌, ◌++◌, refl, ap, sym, ◌∙◌, subst, arith, append_assoc}
 use Rattle.std.proofs.lemmas.List.{append-nil}
 use Rattle.plain_state.specs.declared.act.PlainAct.{PlainAct}
 use Rattle.plain_state.specs.declared.slot.SlotId.{SlotId}
@@ -12,7 +12,9 @@ use Rattle.core_events.specs.declared.view.CoreView.{CoreView}
 use Rattle.core_events.specs.declared.view.Move.{Move}
 use Rattle.core_events.specs.Runs.{after}
 use Rattle.core_events.specs.Shows.{shows}
-use Rattle.core_events.specs.Steps.{moved}
+use Rattle.core_events.specs.Steps.{answer, moved}
+use Rattle.core_law.proofs.Trails.{changed_trail}
+use Rattle.acquire_retire.specs.Collecting.{WalksBy, move}
 use Rattle.core_events.specs.Views.{Holds, held_times}
 use Rattle.core_invariant.proofs.Kit.{times_none}
 use Rattle.control_word.specs.Moves.{KnowsStill}
@@ -88,6 +90,30 @@ module _ {P V : Type 0} (d : DomainState P) (Fact : Plain → Plain → Type 0) 
     since = s.since;
     till = goes_then (moved d.shape s.act s.word s.view) b.view.core c.view.core s.till goes;
   }
+
+-- by a step, and by several, the trail goes on
+module _ {P V : Type 0} {fits : List ℕ → Type 0} (d : DomainState P)
+    {next : OwnPart → OwnPart → V → PlainAct → ℕ → V}
+    {allows : Plain → Plain → ℕ → V → V → Type 0} where
+  pub step_goes : (a : Act) (old new : SeatState V) (o : Outcome)
+      → Steps fits d next allows a old new o → GoesOn old.view.core new.view.core
+  step_goes a old new o step = (
+    move a (answer d.shape a step.word old.view.core) ∷ [],
+    ap (λ (v : CoreView). v.trail) step.told.core
+        ∙ ap (λ (t : List Move). t ++ move a (answer d.shape a step.word old.view.core) ∷ [])
+        (changed_trail d.shape a step.word old.view.core).trail,
+  )
+
+module _ {P V : Type 0} (fits : List ℕ → Type 0) (d : DomainState P)
+    (next : OwnPart → OwnPart → V → PlainAct → ℕ → V)
+    (allows : Plain → Plain → ℕ → V → V → Type 0) where
+  pub walks_go : (ms : List Move) (a b : SeatState V) → WalksBy fits d next allows ms a b
+      → GoesOn a.view.core b.view.core
+  walks_go [] a b walks =
+      goes_none a.view.core b.view.core (ap (λ (x : SeatState V). x.view.core.trail) walks)
+  walks_go (m ∷ ms) a b walks =
+      goes_then a.view.core walks.0.view.core b.view.core
+      (step_goes d m.act a walks.0 m.outcome walks.1) (walks_go ms walks.0 b walks.2)
 
 -- the same step shows another fact that follows
 pub also_some : {P V : Type 0} (d : DomainState P) (Fact More : Plain → Plain → Type 0)

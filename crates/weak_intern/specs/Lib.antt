@@ -4,3 +4,4 @@ pub mod Learning
 pub mod Directories
 pub mod Seeing
 pub mod Walking
+pub mod Interning

@@ -1,13 +1,15 @@
 //! Texts that share one record as long as somebody uses it: how a seat finds the record of a text in the weak cells
-//! of a directory.
+//! of a directory, and makes it where the text has none.
 //!
 //! The rule that it keeps is the law of `directory_law`, by the deeds of `directory_protocol`. The walk of a text
 //! begins at a cell that its bytes tell, and goes on around the end. At each cell a seat loads a weak reference to
-//! the head that stands there, takes a strong one in its place, and compares its payload with that of the text. What
-//! it learns it notes in its view, as the law asks, so what the walk found stays true.
+//! the head that stands there, compares its payload with that of the text, and takes a strong reference where they are
+//! the same. What it learns it notes in its view, as the law asks, so what the walk found stays true. An intern goes on
+//! where the walk comes to null: it makes a record and puts it there by a compare and exchange.
 //!
-//! It isn't promised that a call which may wait returns. A find is for texts of 1 to 120 bytes, and nothing here makes
-//! a record.
+//! All calls are over each protocol that has a directory as a part, and change nothing else of the seat's view.
+//!
+//! It isn't promised that a call which may wait returns. Texts are of 1 to 120 bytes here, and nothing reads a text back.
 //!
 //! ```text
 //! let directory = Directory::over(0, 10);                              // weak cells 0 to 9
@@ -15,14 +17,18 @@
 //!     Some(record) => ..,                                              // its live record at a step of the call
 //!     None => ..,                                                      // it had none at a step of the call
 //! }
+//! let record = intern(&rt, &domain, &mut seat, &directory, b"ab")?;    // or MakesSpent, AddsSpent, Full
 //! let cell = cell_on(hash_of(b"ab"), 0, 10);                           // cell 5, at which that walk begins
 //! ```
 #![tactic(auto)]
 
+mod binding;
 mod comparing;
 mod directory;
 mod finding;
+mod interning;
 mod looking;
+mod making;
 mod seeing;
 #[cfg(test)]
 mod tests;
@@ -32,5 +38,7 @@ mod walking;
 pub use comparing::is_payload;
 pub use directory::Directory;
 pub use finding::find;
+pub use interning::intern;
 pub use seeing::{raise, see};
+pub use slot_store::MakeError;
 pub use texts::{cell_on, hash_of, head_of};

@@ -66,11 +66,7 @@ pub(crate) fn seek<R: Wait, S, P: HasDirectory<S>>(
 }
 
 /// A last look, at whichever cell, where a walk has passed them all. One step.
-fn come_around<S, P: HasDirectory<S>>(
-    domain: &Domain<P>,
-    seat: &mut Seat<P>,
-    directory: &Directory,
-)
+fn come_around<S, P: HasDirectory<S>>(domain: &Domain<P>, seat: &mut Seat<P>, directory: &Directory)
     requires rest { IsAtRest domain.now seat.old }
     requires room { HasRoom seat.old.view.core }
     requires over { IsOver domain.now (P.part domain.now.protocol) directory.now }

@@ -1,0 +1,305 @@
+-- A record is put into the first null cell of its walk, or another one is found before that.
+use Rattle.std.proofs.Common.{◌≡◌, inl, inr, ⊎_elim, ℕ, ◌+◌, ◌<◌, ◌≤◌, List, [], ◌∷◌, ◌++◌, true, refl, sym, ap, subst, ◌∙◌, arith, Some, None}
+use Rattle.std.specs.Prelude.{◌≢◌, Bool, false, Err, Ok, Option, Result}
+use Rattle.std.proofs.lemmas.Bool.{cases_lt}
+use Rattle.plain_state.specs.declared.slot.SlotId.{SlotId}
+use Rattle.plain_state.specs.Lists.{times}
+use Rattle.plain_protocol.specs.Owns.{Object}
+use Rattle.core_events.specs.Steps.{HasRoom}
+use Rattle.core_invariant.proofs.Kit.{times_push}
+use Rattle.domain_rule.specs.Views.{object_in}
+use Rattle.acquire_retire.specs.Domains.{DomainState}
+use Rattle.acquire_retire.specs.Seats.{SeatState}
+use Rattle.control_word.specs.Resting.{IsAtRest}
+use Rattle.counted_handles.specs.Handles.{Handle}
+use Rattle.directory_law.specs.declared.view.Rope.{Rope}
+use Rattle.directory_law.specs.declared.view.View.{View}
+use Rattle.directory_law.specs.Cells.{Area, on}
+use Rattle.directory_law.specs.Law.{IsBound}
+use Rattle.directory_law.specs.Making.{bound}
+use Rattle.directory_law.specs.Views.{rope}
+use Rattle.directory_law.specs.Walks.{Passes, Walked}
+use Rattle.weak_intern.specs.declared.looking.Sight.{Sight}
+use Rattle.weak_intern.specs.declared.looking.Sight.TheVariants as sight
+use Rattle.weak_intern.specs.Directories.{CanCount}
+use Rattle.weak_intern.specs.Interning.{Binds, ComesBy, Grows, GrowsIn, HasNotedLast, HasPassed, Places, candidate_in, placed_by}
+use Rattle.weak_intern.specs.Learning.{Learns, LearnsIn}
+use Rattle.weak_intern.specs.Steps.{Leaves, with_found}
+use Rattle.weak_intern.specs.Walking.{Meets, found_by, met, taken}
+use Rattle.weak_intern.proofs.Going.{from_earlier, holds_by, leaves_as, leaves_none, leaves_then, seat_same, some_earlier}
+use Rattle.weak_intern.proofs.Learnt.{learns_keeps, passes_still}
+use Rattle.weak_intern.proofs.Parts.{LearnsBy, Place, part_none, zero_then}
+
+-- MORE LEARNT, and more kept
+pub learns_grows : (n : ℕ) (v w : View) → Learns n v w → Grows n v w
+learns_grows n v w more = record {
+  seen = more.seen;
+  ended = more.ended;
+  ran = more.ran;
+  led = more.led;
+  quota = more.quota;
+  used = more.used;
+  kept = learns_keeps n v w more;
+}
+
+pub grows_then : (m n : ℕ) (u v w : View) → Grows m u v → Grows n v w → Grows (m + n) u w
+grows_then m n u v w a b = record {
+  seen = λ e in'. b.seen e (a.seen e in');
+  ended = λ e in'. b.ended e (a.ended e in');
+  ran = λ e in'. b.ran e (a.ran e in');
+  led = λ e in'. b.led e (a.led e in');
+  quota = b.quota ∙ a.quota;
+  used = let x = a.used in let y = b.used in omega arith;
+  kept = λ e in'. b.kept e (a.kept e in');
+}
+
+pub bound_grows : (e : Rope) (v : View) → Grows 1 v (bound e v)
+bound_grows e v = record {
+  seen = λ x in'. in';
+  ended = λ x in'. in';
+  ran = λ x in'. in';
+  led = λ x in'. in';
+  quota = refl;
+  used = refl;
+  kept = λ x in'. inr in';
+}
+
+module _ {V : Type 0} (l : Place V) where
+  abbrev pub GrowsBy : ℕ → V → V → Type 0
+  GrowsBy n v w = GrowsIn l.seen l.with_seen n v w
+
+  pub part_grows : (n : ℕ) (v w : V) → LearnsBy l n v w → GrowsBy n v w
+  part_grows n v w more =
+      record { part = learns_grows n (l.seen v) (l.seen w) more.part; rest = more.rest }
+
+  pub grow_then : (m n : ℕ) (u v w : V) → GrowsBy m u v → GrowsBy n v w → GrowsBy (m + n) u w
+  grow_then m n u v w a b = record {
+    part = grows_then m n (l.seen u) (l.seen v) (l.seen w) a.part b.part;
+    rest = b.rest ∙ ap (λ x. l.with_seen x (l.seen w)) a.rest
+        ∙ l.puts_over u (l.seen v) (l.seen w);
+  }
+
+  pub grows_as : (n : ℕ) (u v w : V) → w ≡ v → GrowsBy n u v → GrowsBy n u w
+  grows_as n u v w is more = subst (λ x. GrowsBy n u x) (sym is) more
+
+  pub lift_grows : (n : ℕ) (v w : V) (x : View) → w ≡ l.with_seen v x → Grows n (l.seen v) x
+      → GrowsBy n v w
+  lift_grows n v w x is more =
+      subst (λ u. GrowsBy n v u) (sym is)
+      (record {
+        part = subst (λ y. Grows n (l.seen v) y) (sym (l.reads v x)) more;
+        rest = ap (l.with_seen v) (sym (l.reads v x));
+      })
+
+pub not_bound : {P V : Type 0} (seen : V → View) (with_seen : V → View → V) (d : DomainState P)
+    (z : Area) (head : List ℕ) (s : SlotId) (b c : SeatState V) (done : Bool) → done ≡ false
+    → Binds seen with_seen d z head s done b c → c.view.client ≡ b.view.client
+not_bound seen with_seen d z head s b c done is binds =
+    subst (λ x. Binds seen with_seen d z head s x b c) is binds
+
+-- THE WAY of a record s that stands nowhere, from the cell on that comes after n others
+pub record Enters {P V : Type 0} (d : DomainState P) (seen : V → View) (with_seen : V → View → V)
+    (z : Area) (head : List ℕ) (s : SlotId) (n : ℕ) (old now : SeatState V) : Type 0 where
+  pub passed : HasPassed z (seen now.view.client) head n
+  pub leaves : Leaves old.view.core.owned old.view.core.weaks old now
+  pub learns : LearnsIn seen with_seen 0 old.view.client now.view.client
+  pub quota : CanCount true (seen now.view.client)
+  pub owns : 0 < times s now.view.core.owned
+  pub noted : HasNotedLast (candidate_in s head now) (seen now.view.client)
+  pub room : HasRoom now.view.core
+  pub rest : IsAtRest d now
+
+module _ {P V : Type 0} (d : DomainState P) (l : Place V) (z : Area) (head : List ℕ) (s : SlotId)
+    (a : SeatState V) where
+  pub enters_none : (n : ℕ) → HasPassed z (l.seen a.view.client) head n
+      → CanCount true (l.seen a.view.client) → 0 < times s a.view.core.owned
+      → HasNotedLast (candidate_in s head a) (l.seen a.view.client) → HasRoom a.view.core
+      → IsAtRest d a → Enters d l.seen l.with_seen z head s n a a
+  enters_none n passed quota owns noted room rest = record {
+    passed = passed;
+    leaves = leaves_none a;
+    learns = part_none l a.view.client;
+    quota = quota;
+    owns = owns;
+    noted = noted;
+    room = room;
+    rest = rest;
+  }
+
+  module _ (n : ℕ) (b : SeatState V) (enters : Enters d l.seen l.with_seen z head s n a b) where
+    pub comes_by : (cell : ℕ) → on z (head ∷ []) n ≡ cell
+        → ComesBy z (l.seen b.view.client) head cell
+    comes_by cell at = (n, enters.passed.1, at)
+
+    -- one call more, which leaves what it found beside
+    module _ (c : SeatState V) where
+      pub enter_leaves : (o : Option SlotId)
+          → Leaves (with_found o b.view.core.owned) b.view.core.weaks b c
+          → Leaves (with_found o a.view.core.owned) a.view.core.weaks a c
+      enter_leaves o second =
+          let first = enters.leaves in
+          leaves_as (with_found o a.view.core.owned) a.view.core.weaks a c
+          (leaves_then a b c first second
+          (λ x was is. let p = first.owns x in let q = first.weakly x in
+          holds_by x a.view.core b.view.core (sym first.same) (omega arith) was))
+          (λ x. with_found_as o x)
+          first.weakly
+        where
+          with_found_as : (f : Option SlotId) (x : SlotId)
+              → times x (with_found f b.view.core.owned) ≡ times x (with_found f a.view.core.owned)
+          with_found_as None x = enters.leaves.owns x
+          with_found_as (Some y) x =
+              let p = enters.leaves.owns x in let q = times_push x y a.view.core.owned in
+              let r = times_push x y b.view.core.owned in
+              omega arith
+
+      pub enter_learns : (k : ℕ) → LearnsBy l k b.view.client c.view.client
+          → LearnsBy l k a.view.client c.view.client
+      enter_learns k more = zero_then l k a.view.client b.view.client c.view.client enters.learns more
+
+      -- a look or a bind that only learns leaves the record where it was
+      pub enters_on : (m : ℕ) → HasPassed z (l.seen c.view.client) head m
+          → Leaves b.view.core.owned b.view.core.weaks b c
+          → LearnsBy l 0 b.view.client c.view.client → HasRoom c.view.core → IsAtRest d c
+          → Enters d l.seen l.with_seen z head s m a c
+      enters_on m passed second more room rest = record {
+        passed = passed;
+        leaves = enter_leaves None second;
+        learns = enter_learns 0 more;
+        quota = let p = more.part.used in let q = more.part.quota in let r = enters.quota in
+            omega arith;
+        owns = let o = second.owns s in let e = enters.owns in omega arith;
+        noted = (
+          enters.noted.0,
+          more.part.notes.0 ∙ enters.noted.1
+              ∙ ap (λ (o : Object). rope s o.life (head ∷ []) ∷ enters.noted.0)
+              (sym (known second)),
+        );
+        room = room;
+        rest = rest;
+      }
+        where
+          known : Leaves b.view.core.owned b.view.core.weaks b c
+              → object_in c.view s ≡ object_in b.view s
+          known left =
+              let o = left.owns s in let e = enters.owns in
+              left.knows s (omega arith) (omega arith)
+
+      -- the cells passed are passed still
+      pub still_passed : LearnsBy l 0 b.view.client c.view.client
+          → HasPassed z (l.seen c.view.client) head n
+      still_passed more = (
+        enters.passed.0,
+        λ j low. passes_still 0 (l.seen b.view.client) (l.seen c.view.client) (head ∷ [])
+            (on z (head ∷ []) j) more.part (enters.passed.1 j low),
+      )
+
+      pub one_more_passed : (cell m : ℕ) → on z (head ∷ []) n ≡ cell → m < z.cells
+          → (m ≢ 0 → m ≡ n + 1) → Passes (l.seen c.view.client) (head ∷ []) cell
+          → LearnsBy l 0 b.view.client c.view.client → HasPassed z (l.seen c.view.client) head m
+      one_more_passed cell m at low next passes more = (
+        low,
+        λ j below. ⊎_elim
+            (λ less. (still_passed more).1 j less)
+            (λ past. let e : m ≡ n + 1 = next (λ none. absurd (omega (arith, none, below))) in
+            let here : n ≡ j = omega (arith, e, below, past) in
+            subst (λ k. Passes (l.seen c.view.client) (head ∷ []) (on z (head ∷ []) k)) here
+            (subst (λ k. Passes (l.seen c.view.client) (head ∷ []) k) (sym at) passes))
+            (cases_lt j n),
+      )
+
+      -- a bind that was lost
+      pub enters_lost : c.view.client ≡ b.view.client
+          → Leaves b.view.core.owned b.view.core.weaks b c → HasRoom c.view.core → IsAtRest d c
+          → Enters d l.seen l.with_seen z head s n a c
+      enters_lost client second room rest =
+          let more = subst (λ v. LearnsBy l 0 b.view.client v) (sym client)
+          (part_none l b.view.client) in
+          enters_on n (still_passed more) second more room rest
+
+      -- a look after it
+      pub null_on : (found : Sight) → found ≡ sight.Null
+          → Leaves (with_found (met found) b.view.core.owned) b.view.core.weaks b c
+          → LearnsBy l (taken true found) b.view.client c.view.client
+          → HasRoom c.view.core → IsAtRest d c → Enters d l.seen l.with_seen z head s n a c
+      null_on found same second more room rest =
+          let learns = subst (λ f. LearnsBy l (taken true f) b.view.client c.view.client) same more
+          in
+          enters_on n (still_passed learns)
+          (subst (λ f. Leaves (with_found (met f) b.view.core.owned) b.view.core.weaks b c) same
+          second)
+          learns room rest
+
+      pub other_on : (cell m : ℕ) (found : Sight) → found ≡ sight.Other
+          → on z (head ∷ []) n ≡ cell → m < z.cells → (m ≢ 0 → m ≡ n + 1)
+          → Meets l.seen d z cell head found b c
+          → Leaves (with_found (met found) b.view.core.owned) b.view.core.weaks b c
+          → LearnsBy l (taken true found) b.view.client c.view.client
+          → HasRoom c.view.core → IsAtRest d c → Enters d l.seen l.with_seen z head s m a c
+      other_on cell m found same at low next meets second more room rest =
+          let learns = subst (λ f. LearnsBy l (taken true f) b.view.client c.view.client) same more
+          in
+          enters_on m
+          (one_more_passed cell m at low next
+          (subst (λ f. Meets l.seen d z cell head f b c) same meets) learns)
+          (subst (λ f. Leaves (with_found (met f) b.view.core.owned) b.view.core.weaks b c) same
+          second)
+          learns room rest
+
+      pub record_leaves : (found : Sight) (strong : Handle) → found ≡ sight.Record strong
+          → Leaves (with_found (met found) b.view.core.owned) b.view.core.weaks b c
+          → Leaves (a.view.core.owned ++ strong.slot ∷ []) a.view.core.weaks a c
+      record_leaves found strong same second =
+          enter_leaves (Some strong.slot)
+          (subst (λ f. Leaves (with_found (met f) b.view.core.owned) b.view.core.weaks b c) same
+          second)
+
+      -- a refusal
+      pub refused_leaves : {E : Type 0} (r : Result (Option Handle) E) (e : E) → r ≡ Err e
+          → Leaves b.view.core.owned b.view.core.weaks b c
+          → Leaves (with_found (found_by r) a.view.core.owned) a.view.core.weaks a c
+      refused_leaves r e is second =
+          subst (λ x. Leaves (with_found (found_by x) a.view.core.owned) a.view.core.weaks a c)
+          (sym is) (enter_leaves None second)
+
+      pub refused_grows : {E : Type 0} (r : Result (Option Handle) E) (e : E) → r ≡ Err e
+          → LearnsBy l 0 b.view.client c.view.client
+          → GrowsBy l (placed_by r) a.view.client c.view.client
+      refused_grows r e is more =
+          subst (λ x. GrowsBy l (placed_by x) a.view.client c.view.client) (sym is)
+          (part_grows l 0 a.view.client c.view.client (enter_learns 0 more))
+
+      pub same_learns : c ≡ b → LearnsBy l 0 b.view.client c.view.client
+      same_learns is =
+          subst (λ (x : SeatState V). LearnsBy l 0 b.view.client x.view.client) (sym is)
+          (part_none l b.view.client)
+
+      -- WHERE IT ENDS: the record was bound
+      pub bound_places : (done : Bool) → done ≡ true
+          → Binds l.seen l.with_seen d z head s done b c
+          → Leaves b.view.core.owned b.view.core.weaks b c
+          → Places d z head s a c × GrowsBy l 1 a.view.client c.view.client
+      bound_places done is binds second =
+          let won = subst (λ x. Binds l.seen l.with_seen d z head s x b c) is binds in (
+            inr (some_earlier d (λ p q. IsBound z q (head ∷ []) s) a b c
+                (seat_same a b enters.leaves.same) enters.leaves.goes won.0),
+            grow_then l 0 1 a.view.client b.view.client c.view.client
+                (part_grows l 0 a.view.client b.view.client enters.learns)
+                (lift_grows l 1 b.view.client c.view.client
+                (bound (candidate_in s head b) (l.seen b.view.client)) won.1
+                (bound_grows (candidate_in s head b) (l.seen b.view.client))),
+          )
+
+      -- or another one was found
+      pub found_places : (cell : ℕ) (found : Sight) (strong : Handle) → found ≡ sight.Record strong
+          → Meets l.seen d z cell head found b c
+          → LearnsBy l (taken true found) b.view.client c.view.client
+          → Places d z head strong.slot a c × GrowsBy l 1 a.view.client c.view.client
+      found_places cell found strong same meets more = (
+        inl (from_earlier d (λ p. IsBound z p (head ∷ []) strong.slot) a b c
+            (seat_same a b enters.leaves.same) enters.leaves.goes
+            (subst (λ f. Meets l.seen d z cell head f b c) same meets)),
+        part_grows l 1 a.view.client c.view.client
+            (enter_learns 1
+            (subst (λ f. LearnsBy l (taken true f) b.view.client c.view.client) same more)),
+      )

@@ -1,0 +1,182 @@
+use Rattle.std.proofs.Common.{ap, ◌∙◌, Some, None}
+use Rattle.std.specs.Prelude.{Ok}
+use Rattle.weak_intern.specs.Directories.{area_of}
+use Rattle.weak_intern.proofs.Added.{dropped, dropped_leaves, dropped_places, err_grows, err_leaves, noted_made, ok_grows, ok_leaves, ok_places, owned_then, passed_made, quota_made}
+use Rattle.weak_intern.proofs.Parts.{place_of}
+use Rattle.weak_intern.proofs.Placed.{grows_as}
+use Rattle.weak_intern.proofs.interning.add.Goals as goal
+
+pub place-requires-clause-quota : goal.place-requires-clause-quota
+place-requires-clause-quota g c =
+    quota_made c.args.domain.now
+    (place_of g.P.Part.seen g.P.Part.with_seen g.P.Part.reads g.P.Part.puts_back
+    g.P.Part.puts_over)
+    (area_of (g.P.Part.part c.args.domain.now.protocol)) c.args.sought.now.head
+    c.in_ok-candidate.candidate.slot c.args.seat.now c.make_head.new.seat
+    c.in_ok-candidate.ensures.leaves c.in_ok-candidate.ensures.noted
+    c.requires.quota
+
+pub place-requires-clause-passed : goal.place-requires-clause-passed
+place-requires-clause-passed g c =
+    passed_made c.args.domain.now
+    (place_of g.P.Part.seen g.P.Part.with_seen g.P.Part.reads g.P.Part.puts_back
+    g.P.Part.puts_over)
+    (area_of (g.P.Part.part c.args.domain.now.protocol)) c.args.sought.now.head
+    c.in_ok-candidate.candidate.slot c.args.seat.now c.make_head.new.seat
+    c.in_ok-candidate.ensures.leaves c.in_ok-candidate.ensures.noted
+    c.args.passed c.requires.passed
+
+pub place-requires-clause-noted : goal.place-requires-clause-noted
+place-requires-clause-noted g c =
+    noted_made c.args.domain.now
+    (place_of g.P.Part.seen g.P.Part.with_seen g.P.Part.reads g.P.Part.puts_back
+    g.P.Part.puts_over)
+    (area_of (g.P.Part.part c.args.domain.now.protocol)) c.args.sought.now.head
+    c.in_ok-candidate.candidate.slot c.args.seat.now c.make_head.new.seat
+    c.in_ok-candidate.ensures.leaves c.in_ok-candidate.ensures.noted
+
+pub drop_strong-requires-clause-owned : goal.drop_strong-requires-clause-owned
+drop_strong-requires-clause-owned g c =
+    owned_then c.args.domain.now
+    (place_of g.P.Part.seen g.P.Part.with_seen g.P.Part.reads g.P.Part.puts_back
+    g.P.Part.puts_over)
+    (area_of (g.P.Part.part c.args.domain.now.protocol)) c.args.sought.now.head
+    c.in_ok-candidate.candidate.slot c.args.seat.now c.make_head.new.seat
+    c.in_ok-candidate.ensures.leaves c.in_ok-candidate.ensures.noted
+    c.place.new.seat (Some c.in-Ok-Some.strong.slot)
+    (ok_leaves c.args.domain.now
+    (place_of g.P.Part.seen g.P.Part.with_seen g.P.Part.reads g.P.Part.puts_back
+    g.P.Part.puts_over)
+    (area_of (g.P.Part.part c.args.domain.now.protocol)) c.args.sought.now.head
+    c.in_ok-candidate.candidate.slot c.args.seat.now c.make_head.new.seat
+    c.in_ok-candidate.ensures.leaves c.in_ok-candidate.ensures.noted
+    c.place.new.seat c.place.result (Some c.in-Ok-Some.strong)
+    (c.in-Ok-Some.is ∙ ap Ok c.in-Ok-Some.field-0-is) c.place.ensures.leaves)
+
+pub returns-in-Ok-None-clause-places : goal.returns-in-Ok-None-clause-places
+returns-in-Ok-None-clause-places g c =
+    ok_places c.args.domain.now
+    (place_of g.P.Part.seen g.P.Part.with_seen g.P.Part.reads g.P.Part.puts_back
+    g.P.Part.puts_over)
+    (area_of (g.P.Part.part c.args.domain.now.protocol)) c.args.sought.now.head
+    c.in_ok-candidate.candidate.slot c.args.seat.now c.make_head.new.seat
+    c.in_ok-candidate.ensures.leaves c.in_ok-candidate.ensures.noted
+    c.place.new.seat c.place.result None (c.in-Ok-None.is ∙ ap Ok c.in-Ok-None.field-0-is) c.place.ensures.places
+
+pub returns-in-Ok-None-clause-leaves : goal.returns-in-Ok-None-clause-leaves
+returns-in-Ok-None-clause-leaves g c =
+    ok_leaves c.args.domain.now
+    (place_of g.P.Part.seen g.P.Part.with_seen g.P.Part.reads g.P.Part.puts_back
+    g.P.Part.puts_over)
+    (area_of (g.P.Part.part c.args.domain.now.protocol)) c.args.sought.now.head
+    c.in_ok-candidate.candidate.slot c.args.seat.now c.make_head.new.seat
+    c.in_ok-candidate.ensures.leaves c.in_ok-candidate.ensures.noted
+    c.place.new.seat c.place.result None (c.in-Ok-None.is ∙ ap Ok c.in-Ok-None.field-0-is) c.place.ensures.leaves
+
+pub returns-in-Ok-None-clause-grows : goal.returns-in-Ok-None-clause-grows
+returns-in-Ok-None-clause-grows g c =
+    ok_grows c.args.domain.now
+    (place_of g.P.Part.seen g.P.Part.with_seen g.P.Part.reads g.P.Part.puts_back
+    g.P.Part.puts_over)
+    (area_of (g.P.Part.part c.args.domain.now.protocol)) c.args.sought.now.head
+    c.in_ok-candidate.candidate.slot c.args.seat.now c.make_head.new.seat
+    c.in_ok-candidate.ensures.leaves c.in_ok-candidate.ensures.noted
+    c.place.new.seat c.place.result None (c.in-Ok-None.is ∙ ap Ok c.in-Ok-None.field-0-is) c.place.ensures.grows
+
+pub returns-in-Ok-Some-clause-places : goal.returns-in-Ok-Some-clause-places
+returns-in-Ok-Some-clause-places g c =
+    dropped_places c.args.domain.now
+    (place_of g.P.Part.seen g.P.Part.with_seen g.P.Part.reads g.P.Part.puts_back
+    g.P.Part.puts_over)
+    (area_of (g.P.Part.part c.args.domain.now.protocol)) c.args.sought.now.head
+    c.in_ok-candidate.candidate.slot c.args.seat.now c.make_head.new.seat
+    c.in_ok-candidate.ensures.leaves c.in_ok-candidate.ensures.noted
+    c.place.new.seat c.drop_strong.new.seat (Some c.in-Ok-Some.strong.slot)
+    (ok_leaves c.args.domain.now
+    (place_of g.P.Part.seen g.P.Part.with_seen g.P.Part.reads g.P.Part.puts_back
+    g.P.Part.puts_over)
+    (area_of (g.P.Part.part c.args.domain.now.protocol)) c.args.sought.now.head
+    c.in_ok-candidate.candidate.slot c.args.seat.now c.make_head.new.seat
+    c.in_ok-candidate.ensures.leaves c.in_ok-candidate.ensures.noted
+    c.place.new.seat c.place.result (Some c.in-Ok-Some.strong)
+    (c.in-Ok-Some.is ∙ ap Ok c.in-Ok-Some.field-0-is) c.place.ensures.leaves)
+    (dropped c.place.new.seat c.drop_strong.new.seat c.in_ok-candidate.candidate.slot
+    g.P.Kind.PayloadKind.fits c.args.domain.now c.drop_strong.ensures.dropped
+    c.drop_strong.ensures.objects)
+    c.in-Ok-Some.strong.slot
+    (ok_places c.args.domain.now
+    (place_of g.P.Part.seen g.P.Part.with_seen g.P.Part.reads g.P.Part.puts_back
+    g.P.Part.puts_over)
+    (area_of (g.P.Part.part c.args.domain.now.protocol)) c.args.sought.now.head
+    c.in_ok-candidate.candidate.slot c.args.seat.now c.make_head.new.seat
+    c.in_ok-candidate.ensures.leaves c.in_ok-candidate.ensures.noted
+    c.place.new.seat c.place.result (Some c.in-Ok-Some.strong)
+    (c.in-Ok-Some.is ∙ ap Ok c.in-Ok-Some.field-0-is) c.place.ensures.places)
+
+pub returns-in-Ok-Some-clause-leaves : goal.returns-in-Ok-Some-clause-leaves
+returns-in-Ok-Some-clause-leaves g c =
+    dropped_leaves c.args.domain.now
+    (place_of g.P.Part.seen g.P.Part.with_seen g.P.Part.reads g.P.Part.puts_back
+    g.P.Part.puts_over)
+    (area_of (g.P.Part.part c.args.domain.now.protocol)) c.args.sought.now.head
+    c.in_ok-candidate.candidate.slot c.args.seat.now c.make_head.new.seat
+    c.in_ok-candidate.ensures.leaves c.in_ok-candidate.ensures.noted
+    c.place.new.seat c.drop_strong.new.seat (Some c.in-Ok-Some.strong.slot)
+    (ok_leaves c.args.domain.now
+    (place_of g.P.Part.seen g.P.Part.with_seen g.P.Part.reads g.P.Part.puts_back
+    g.P.Part.puts_over)
+    (area_of (g.P.Part.part c.args.domain.now.protocol)) c.args.sought.now.head
+    c.in_ok-candidate.candidate.slot c.args.seat.now c.make_head.new.seat
+    c.in_ok-candidate.ensures.leaves c.in_ok-candidate.ensures.noted
+    c.place.new.seat c.place.result (Some c.in-Ok-Some.strong)
+    (c.in-Ok-Some.is ∙ ap Ok c.in-Ok-Some.field-0-is) c.place.ensures.leaves)
+    (dropped c.place.new.seat c.drop_strong.new.seat c.in_ok-candidate.candidate.slot
+    g.P.Kind.PayloadKind.fits c.args.domain.now c.drop_strong.ensures.dropped
+    c.drop_strong.ensures.objects)
+
+pub returns-in-Ok-Some-clause-grows : goal.returns-in-Ok-Some-clause-grows
+returns-in-Ok-Some-clause-grows g c =
+    grows_as (place_of g.P.Part.seen g.P.Part.with_seen g.P.Part.reads g.P.Part.puts_back
+    g.P.Part.puts_over) 1 c.args.seat.now.view.client c.place.new.seat.view.client
+    c.drop_strong.new.seat.view.client c.drop_strong.ensures.client
+    (ok_grows c.args.domain.now
+    (place_of g.P.Part.seen g.P.Part.with_seen g.P.Part.reads g.P.Part.puts_back
+    g.P.Part.puts_over)
+    (area_of (g.P.Part.part c.args.domain.now.protocol)) c.args.sought.now.head
+    c.in_ok-candidate.candidate.slot c.args.seat.now c.make_head.new.seat
+    c.in_ok-candidate.ensures.leaves c.in_ok-candidate.ensures.noted
+    c.place.new.seat c.place.result (Some c.in-Ok-Some.strong)
+    (c.in-Ok-Some.is ∙ ap Ok c.in-Ok-Some.field-0-is) c.place.ensures.grows)
+
+pub returns-in-Err-clause-leaves : goal.returns-in-Err-clause-leaves
+returns-in-Err-clause-leaves g c =
+    dropped_leaves c.args.domain.now
+    (place_of g.P.Part.seen g.P.Part.with_seen g.P.Part.reads g.P.Part.puts_back
+    g.P.Part.puts_over)
+    (area_of (g.P.Part.part c.args.domain.now.protocol)) c.args.sought.now.head
+    c.in_ok-candidate.candidate.slot c.args.seat.now c.make_head.new.seat
+    c.in_ok-candidate.ensures.leaves c.in_ok-candidate.ensures.noted
+    c.place.new.seat c.drop_strong-in-Err.new.seat None
+    (err_leaves c.args.domain.now
+    (place_of g.P.Part.seen g.P.Part.with_seen g.P.Part.reads g.P.Part.puts_back
+    g.P.Part.puts_over)
+    (area_of (g.P.Part.part c.args.domain.now.protocol)) c.args.sought.now.head
+    c.in_ok-candidate.candidate.slot c.args.seat.now c.make_head.new.seat
+    c.in_ok-candidate.ensures.leaves c.in_ok-candidate.ensures.noted
+    c.place.new.seat c.place.result c.in-Err.field-0 c.in-Err.is c.place.ensures.leaves)
+    (dropped c.place.new.seat c.drop_strong-in-Err.new.seat c.in_ok-candidate.candidate.slot
+    g.P.Kind.PayloadKind.fits c.args.domain.now c.drop_strong-in-Err.ensures.dropped
+    c.drop_strong-in-Err.ensures.objects)
+
+pub returns-in-Err-clause-grows : goal.returns-in-Err-clause-grows
+returns-in-Err-clause-grows g c =
+    grows_as (place_of g.P.Part.seen g.P.Part.with_seen g.P.Part.reads g.P.Part.puts_back
+    g.P.Part.puts_over) 0 c.args.seat.now.view.client c.place.new.seat.view.client
+    c.drop_strong-in-Err.new.seat.view.client c.drop_strong-in-Err.ensures.client
+    (err_grows c.args.domain.now
+    (place_of g.P.Part.seen g.P.Part.with_seen g.P.Part.reads g.P.Part.puts_back
+    g.P.Part.puts_over)
+    (area_of (g.P.Part.part c.args.domain.now.protocol)) c.args.sought.now.head
+    c.in_ok-candidate.candidate.slot c.args.seat.now c.make_head.new.seat
+    c.in_ok-candidate.ensures.leaves c.in_ok-candidate.ensures.noted
+    c.place.new.seat c.place.result c.in-Err.field-0 c.in-Err.is c.place.ensures.grows)

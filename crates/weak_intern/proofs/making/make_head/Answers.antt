@@ -1,0 +1,36 @@
+use Rattle.weak_intern.specs.Directories.{area_of}
+use Rattle.weak_intern.proofs.Made.{head_ready, made_all, made_leaves}
+use Rattle.weak_intern.proofs.Parts.{place_of}
+use Rattle.weak_intern.proofs.making.make_head.Goals as goal
+
+pub make-requires-clause-fits : goal.make-requires-clause-fits
+make-requires-clause-fits g c =
+    (g.met.P.Part.fits c.args.domain.now.protocol c.args.sought.now.head
+    c.requires.sought.some_bytes c.requires.sought.piece).0
+
+pub make-requires-clause-deed : goal.make-requires-clause-deed
+make-requires-clause-deed g c s mid begins w =
+    head_ready g.P.Kind.PayloadKind.fits c.args.domain.now
+    (place_of g.P.Part.seen g.P.Part.with_seen g.P.Part.reads g.P.Part.puts_back
+    g.P.Part.puts_over)
+    c.args.sought.now.head s c.args.seat.now mid begins _ _ _
+    (g.met.P.Part.frees c.args.domain.now.protocol)
+    (g.met.P.HasDirectory.minds_none c.args.domain.now.protocol) (λ words own. own)
+    c.requires.sought.some_bytes
+
+pub returns-clause-noted : goal.returns-clause-noted
+returns-clause-noted g c =
+    made_all g.P.Kind.PayloadKind.fits c.args.domain.now
+    (place_of g.P.Part.seen g.P.Part.with_seen g.P.Part.reads g.P.Part.puts_back
+    g.P.Part.puts_over)
+    (area_of (g.P.Part.part c.args.domain.now.protocol)) c.args.sought.now.head
+    c.args.seat.now c.make.new.seat c.make.result c.make.ensures.made c.make.ensures.owned
+
+pub returns-clause-leaves : goal.returns-clause-leaves
+returns-clause-leaves g c =
+    made_leaves g.P.Kind.PayloadKind.fits c.args.domain.now
+    (place_of g.P.Part.seen g.P.Part.with_seen g.P.Part.reads g.P.Part.puts_back
+    g.P.Part.puts_over)
+    (area_of (g.P.Part.part c.args.domain.now.protocol)) c.args.sought.now.head
+    c.args.seat.now c.make.new.seat c.make.result c.make.ensures.no_make c.make.ensures.no_add
+    c.make.ensures.full c.make.ensures.made c.make.ensures.objects

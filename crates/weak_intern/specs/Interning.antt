@@ -1,0 +1,94 @@
+-- What an intern does, and what it adds to the view of its seat.
+use Rattle.std.specs.Prelude.{Bool, true, false, ◌≡◌, ◌⊎◌, ◌+◌, ◌<◌, ℕ, List, [], ◌∷◌, Option, Some, None, Result, Ok, Err}
+use Rattle.plain_state.specs.declared.slot.SlotId.{SlotId}
+use Rattle.domain_rule.specs.Views.{object_in}
+use Rattle.acquire_retire.specs.Domains.{DomainState}
+use Rattle.acquire_retire.specs.Seats.{SeatState}
+use Rattle.counted_handles.specs.Handles.{Handle}
+use Rattle.directory_law.specs.declared.view.Note.{Note}
+use Rattle.directory_law.specs.declared.view.Seen.{Seen}
+use Rattle.directory_law.specs.declared.view.Ran.{Ran}
+use Rattle.directory_law.specs.declared.view.Rope.{Rope}
+use Rattle.directory_law.specs.declared.view.Led.{Led}
+use Rattle.directory_law.specs.declared.view.View.{View}
+use Rattle.directory_law.specs.Cells.{Area, on}
+use Rattle.directory_law.specs.Law.{IsBound}
+use Rattle.directory_law.specs.Making.{bound}
+use Rattle.directory_law.specs.Views.{In, rope}
+use Rattle.directory_law.specs.Walks.{Walked}
+use Rattle.directory_protocol.specs.Keeping.{KeepsAll}
+use Rattle.weak_intern.specs.Directories.{IsRecord}
+use Rattle.weak_intern.specs.Steps.{AfterStep, AtStep}
+
+-- s as a rope that stands nowhere yet, of a text that has this head and no part
+abbrev pub candidate_in : {V : Type 0} → SlotId → List ℕ → SeatState V → Rope
+candidate_in s head seat = rope s (object_in seat.view s).life (head ∷ [])
+
+-- the view has noted this last
+abbrev pub HasNotedLast : Rope → View → Type 0
+HasNotedLast e v = (others : List Rope) × (v.noted ≡ e ∷ others)
+
+-- a view that notes one more
+abbrev pub with_noted : Rope → View → View
+with_noted e v = record v { noted = e ∷ v.noted }
+
+-- the walk of a text has passed some cells, and comes to cell c then
+abbrev pub ComesBy : Area → View → List ℕ → ℕ → Type 0
+ComesBy z v head c = (m : ℕ) × Walked z v (head ∷ []) m × (on z (head ∷ []) m ≡ c)
+
+-- where s was put into a cell, it was the live record of this text after a step, and is kept; else the view is as it was
+abbrev pub Binds : {P V : Type 0} → (V → View) → (V → View → V) → DomainState P → Area → List ℕ
+    → SlotId → Bool → SeatState V → SeatState V → Type 0
+Binds seen with_seen d z head s true old new =
+    AfterStep d (λ q. IsBound z q (head ∷ []) s) old new
+    × (new.view.client
+    ≡ with_seen old.view.client (bound (candidate_in s head old) (seen old.view.client)))
+Binds seen with_seen d z head s false old new = new.view.client ≡ old.view.client
+
+-- the walk of a text has passed so many cells, fewer than all
+abbrev pub HasPassed : Area → View → List ℕ → ℕ → Type 0
+HasPassed z v head passed = (passed < z.cells) × Walked z v (head ∷ []) passed
+
+-- s was the live record of the text of this head before a step of the call, or after one
+abbrev pub Places : {P V : Type 0} → DomainState P → Area → List ℕ → SlotId → SeatState V
+    → SeatState V → Type 0
+Places d z head s old new =
+    AtStep d (λ p. IsBound z p (head ∷ []) s) old new
+    ⊎ AfterStep d (λ q. IsBound z q (head ∷ []) s) old new
+
+-- the slot of the record that was found, or else this one
+abbrev pub named_or : SlotId → Option Handle → SlotId
+named_or s None = s
+named_or s (Some strong) = strong.slot
+
+-- s was the live record of these bytes before a step of the call, or after one
+abbrev pub Interns : {P V : Type 0} → DomainState P → Area → List ℕ → SlotId → SeatState V
+    → SeatState V → Type 0
+Interns d z bytes s old new =
+    AtStep d (λ p. IsRecord z p bytes s) old new ⊎ AfterStep d (λ q. IsRecord z q bytes s) old new
+
+-- The seat has learnt more, keeps all that it kept, and has used n interns more.
+pub record Grows (n : ℕ) (v w : View) : Type 0 where
+  pub seen : (e : Seen) → In e v.seen → In e w.seen
+  pub ended : (e : Note) → In e v.ended → In e w.ended
+  pub ran : (e : Ran) → In e v.ran → In e w.ran
+  pub led : (e : Led) → In e v.led → In e w.led
+  pub quota : w.quota ≡ v.quota
+  pub used : w.used ≡ v.used + n
+  pub kept : KeepsAll v w
+
+-- the same of a view that has the directory's as a part
+pub record GrowsIn {V : Type 0} (seen : V → View) (with_seen : V → View → V) (n : ℕ) (v w : V)
+    : Type 0 where
+  pub part : Grows n (seen v) (seen w)
+  pub rest : w ≡ with_seen v (seen w)
+
+-- an intern is used where a record is answered
+abbrev pub interned_by : {E : Type 0} → Result Handle E → ℕ
+interned_by (Ok strong) = 1
+interned_by (Err error) = 0
+
+-- the record of another call that was met instead of a bind
+abbrev pub placed_by : {E : Type 0} → Result (Option Handle) E → ℕ
+placed_by (Ok found) = 1
+placed_by (Err error) = 0

@@ -1,0 +1,64 @@
+//! A record goes into a cell.
+ghost use Rattle.std.specs.Prelude.{true, ◌≡◌, ◌<◌, ◌↔◌, IfOk, IsErr, OnErr};
+ghost use Rattle.plain_state.specs.Lists.{times};
+ghost use Rattle.core_events.specs.Steps.{HasRoom};
+ghost use Rattle.control_word.specs.Resting.{IsAtRest, IsSpent};
+ghost use Rattle.domain_rule.specs.Views.{object_in};
+ghost use Rattle.weak_intern.specs.Directories.{CanCount, IsOver, area_of};
+ghost use Rattle.weak_intern.specs.Interning.{Binds, ComesBy, HasNotedLast, candidate_in};
+ghost use Rattle.weak_intern.specs.Sought.{IsOne};
+ghost use Rattle.weak_intern.specs.Steps.{Leaves};
+
+use crate::directory::Directory;
+use crate::seeing::number;
+use crate::texts::Sought;
+use acquire_retire::{Domain, Seat};
+use atomic_weak::{WeakPlace, try_replace_weak};
+use control_word::{drop_weak, weaken};
+use counted_handles::{Spent, Strong, Weak};
+use directory_protocol::{BindHead, DirectoryLaw, HasDirectory};
+use protocol_pairs::InPart;
+
+/// Puts a weak reference to the slot that was noted last into a cell to which the walk of its text comes, where that
+/// cell is null; and whether it was so. Then an intern of the seat is used. `Spent` exactly where the seat has no add
+/// left, and then nothing has changed. At most four steps, and a collect.
+pub(crate) fn bind<S, P: HasDirectory<S>>(
+    domain: &Domain<P>,
+    seat: &mut Seat<P>,
+    directory: &Directory,
+    cell: u32,
+    sought: &Sought,
+    candidate: &Strong,
+) -> Result<bool, Spent>
+    requires rest { IsAtRest domain.now seat.old }
+    requires room { HasRoom seat.old.view.core }
+    requires over { IsOver domain.now (P.part domain.now.protocol) directory.now }
+    requires inside { cell < directory.now.cells }
+    requires sought { IsOne sought.now.head sought.now.hash }
+    requires quota { CanCount true (P.seen seat.old.view.client) }
+    requires owned { 0 < times candidate.now.slot seat.old.view.core.owned }
+    requires noted { HasNotedLast (candidate_in candidate.now.slot sought.now.head seat.old)
+        (P.seen seat.old.view.client) }
+    requires comes { ComesBy (area_of (P.part domain.now.protocol))
+        (P.seen seat.old.view.client) sought.now.head cell }
+    ensures spent { IsErr result ↔ IsSpent seat.old.view.core }
+    ensures refused { OnErr result (seat.new ≡ seat.old) }
+    ensures binds { IfOk result (λ done. Binds P.seen P.with_seen domain.now
+        (area_of (P.part domain.now.protocol)) sought.now.head candidate.now.slot done
+        seat.old seat.new) }
+    ensures leaves { Leaves seat.old.view.core.owned seat.old.view.core.weaks seat.old seat.new }
+    ensures room { HasRoom seat.new.view.core }
+    ensures rest { IsAtRest domain.now seat.new }
+{
+    let at = number::<S, P>(domain, directory, cell);
+    let weak = weaken(domain, seat, candidate)?;
+    let deed = InPart::<DirectoryLaw, S, BindHead>::new(BindHead);
+    match try_replace_weak(domain, seat, WeakPlace::Cell(at), None, Some(weak), deed) {
+        Ok(()) => Ok(true),
+        Err(_) => {
+            // The reference is the seat's still, whichever handle names it.
+            drop_weak(domain, seat, Weak::of(candidate.slot()));
+            Ok(false)
+        }
+    }
+}

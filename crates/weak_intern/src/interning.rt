@@ -1,0 +1,156 @@
+//! The record of a text, which is made where the text has none.
+ghost use Rattle.std.specs.Prelude.{true, ◌≡◌, ◌≢◌, ◌+◌, ◌<◌, ◌≤◌, Err, IfOk, IsErr, length};
+ghost use Rattle.plain_state.specs.Lists.{times};
+ghost use Rattle.core_events.specs.Steps.{HasRoom};
+ghost use Rattle.control_word.specs.Resting.{IsAtRest, IsSpent};
+ghost use Rattle.slot_store.specs.declared.making.MakeError.TheVariants as refused;
+ghost use Rattle.weak_intern.specs.Directories.{CanCount, HasNoRecord, IsOver, area_of};
+ghost use Rattle.weak_intern.specs.Interning.{GrowsIn, HasNotedLast, HasPassed, Interns, Places, candidate_in, interned_by, named_or, placed_by};
+ghost use Rattle.weak_intern.specs.Sought.{IsOne};
+ghost use Rattle.weak_intern.specs.Steps.{AtStep, Leaves, handle_by, with_found};
+ghost use Rattle.weak_intern.specs.Walking.{found_by};
+
+use crate::binding::bind;
+use crate::directory::Directory;
+use crate::looking::{Sight, look};
+use crate::making::make_head;
+use crate::texts::{Sought, cell_on, sought_of};
+use crate::walking::{Walk, seek};
+use acquire_retire::{Domain, Seat};
+use control_word::drop_strong;
+use counted_handles::{Spent, Strong};
+use directory_protocol::HasDirectory;
+use slot_store::MakeError;
+use std::sync::Wait;
+
+/// A strong reference to the live record of a text of 1 to 120 bytes, which it makes where the text has none. It uses
+/// one intern of the seat, and none where it is refused. `MakesSpent` and `Full` come only where the text had no live
+/// record at a step of the call; `AddsSpent` where the seat has no add left. It makes at most one object.
+pub fn intern<R: Wait, S, P: HasDirectory<S>>(
+    rt: &R,
+    domain: &Domain<P>,
+    seat: &mut Seat<P>,
+    directory: &Directory,
+    text: &[u8],
+) -> Result<Strong, MakeError>
+    requires rest { IsAtRest domain.now seat.old }
+    requires room { HasRoom seat.old.view.core }
+    requires over { IsOver domain.now (P.part domain.now.protocol) directory.now }
+    requires quota { CanCount true (P.seen seat.old.view.client) }
+    requires text { (1 ≤ length text.now) × (length text.now ≤ 120) }
+    ensures interns { IfOk result (λ strong. Interns domain.now
+        (area_of (P.part domain.now.protocol)) text.now strong.slot seat.old seat.new) }
+    ensures none { IsErr result → result ≢ Err refused.AddsSpent → AtStep domain.now
+        (λ p. HasNoRecord (area_of (P.part domain.now.protocol)) p text.now) seat.old seat.new }
+    ensures adds { result ≡ Err refused.AddsSpent → IsSpent seat.new.view.core }
+    ensures leaves { Leaves (with_found (handle_by result) seat.old.view.core.owned)
+        seat.old.view.core.weaks seat.old seat.new }
+    ensures grows { GrowsIn P.seen P.with_seen (interned_by result)
+        seat.old.view.client seat.new.view.client }
+    ensures room { HasRoom seat.new.view.core }
+    ensures rest { IsAtRest domain.now seat.new }
+{
+    let sought = sought_of(text);
+    match seek::<R, S, P>(rt, domain, seat, directory, &sought, true) {
+        Err(Spent) => Err(MakeError::AddsSpent),
+        Ok(Walk::Record(strong)) => Ok(strong),
+        Ok(Walk::Absent(passed)) => add::<R, S, P>(rt, domain, seat, directory, &sought, passed),
+    }
+}
+
+/// Makes a record of a text that had none, and puts it into a cell where the text has none still.
+fn add<R: Wait, S, P: HasDirectory<S>>(
+    rt: &R,
+    domain: &Domain<P>,
+    seat: &mut Seat<P>,
+    directory: &Directory,
+    sought: &Sought,
+    passed: u32,
+) -> Result<Strong, MakeError>
+    requires rest { IsAtRest domain.now seat.old }
+    requires room { HasRoom seat.old.view.core }
+    requires over { IsOver domain.now (P.part domain.now.protocol) directory.now }
+    requires quota { CanCount true (P.seen seat.old.view.client) }
+    requires sought { IsOne sought.now.head sought.now.hash }
+    requires passed { HasPassed (area_of (P.part domain.now.protocol))
+        (P.seen seat.old.view.client) sought.now.head passed }
+    ensures places { IfOk result (λ strong. Places domain.now
+        (area_of (P.part domain.now.protocol)) sought.now.head strong.slot seat.old seat.new) }
+    ensures adds { result ≡ Err refused.AddsSpent → IsSpent seat.new.view.core }
+    ensures leaves { Leaves (with_found (handle_by result) seat.old.view.core.owned)
+        seat.old.view.core.weaks seat.old seat.new }
+    ensures grows { GrowsIn P.seen P.with_seen (interned_by result)
+        seat.old.view.client seat.new.view.client }
+    ensures room { HasRoom seat.new.view.core }
+    ensures rest { IsAtRest domain.now seat.new }
+{
+    let candidate = make_head::<S, P>(domain, seat, sought)?;
+    match place::<R, S, P>(rt, domain, seat, directory, sought, passed, &candidate) {
+        Ok(None) => Ok(candidate),
+        Ok(Some(strong)) => {
+            drop_strong(domain, seat, candidate);
+            Ok(strong)
+        }
+        Err(Spent) => {
+            drop_strong(domain, seat, candidate);
+            Err(MakeError::AddsSpent)
+        }
+    }
+}
+
+/// Puts a record into the first cell of its walk that it finds null, from the one on that comes after so many others;
+/// or finds another live record of its text before that.
+fn place<R: Wait, S, P: HasDirectory<S>>(
+    rt: &R,
+    domain: &Domain<P>,
+    seat: &mut Seat<P>,
+    directory: &Directory,
+    sought: &Sought,
+    from: u32,
+    candidate: &Strong,
+) -> Result<Option<Strong>, Spent>
+    requires rest { IsAtRest domain.now seat.old }
+    requires room { HasRoom seat.old.view.core }
+    requires over { IsOver domain.now (P.part domain.now.protocol) directory.now }
+    requires quota { CanCount true (P.seen seat.old.view.client) }
+    requires sought { IsOne sought.now.head sought.now.hash }
+    requires passed { HasPassed (area_of (P.part domain.now.protocol))
+        (P.seen seat.old.view.client) sought.now.head from }
+    requires owned { 0 < times candidate.now.slot seat.old.view.core.owned }
+    requires noted { HasNotedLast (candidate_in candidate.now.slot sought.now.head seat.old)
+        (P.seen seat.old.view.client) }
+    ensures places { IfOk result (λ found. Places domain.now
+        (area_of (P.part domain.now.protocol)) sought.now.head
+        (named_or candidate.now.slot found) seat.old seat.new) }
+    ensures spent { IsErr result → IsSpent seat.new.view.core }
+    ensures leaves { Leaves (with_found (found_by result) seat.old.view.core.owned)
+        seat.old.view.core.weaks seat.old seat.new }
+    ensures grows { GrowsIn P.seen P.with_seen (placed_by result)
+        seat.old.view.client seat.new.view.client }
+    ensures room { HasRoom seat.new.view.core }
+    ensures rest { IsAtRest domain.now seat.new }
+{
+    let mut passed = from;
+    for _ in rt.forever() {
+        let cell = cell_on(sought.hash, passed, directory.cells);
+        let bound = bind::<S, P>(domain, seat, directory, cell, sought, candidate)?;
+        if bound {
+            return Ok(None);
+        }
+        match look::<R, S, P>(rt, domain, seat, directory, cell, &sought.head, true)? {
+            Sight::Null => {}
+            Sight::Record(strong) => return Ok(Some(strong)),
+            Sight::Other => passed = next_on(passed, directory.cells),
+        }
+    }
+    unreachable!()
+}
+
+/// The number after this one, or 0 where all were counted.
+fn next_on(passed: u32, cells: u32) -> u32
+    requires low { passed < cells }
+    ensures low { result < cells }
+    ensures next { result ≢ 0 → result ≡ passed + 1 }
+{
+    if passed + 1 < cells { passed + 1 } else { 0 }
+}
