@@ -1,8 +1,7 @@
 -- What the desk's seat has after each call, and what was begun.
-use Rattle.std.proofs.Common.{◌≡◌, ℕ, ◌+◌, ◌<◌, List, [], ◌∷◌, length, refl, ap, sym, ◌∙◌, subst, arith, Option, Some, None, IfSome}
+use Rattle.std.proofs.Common.{◌≡◌, ℕ, ◌+◌, List, [], ◌∷◌, length, refl, ap, sym, ◌∙◌, subst, Option, Some, None, IfSome}
 use Rattle.std.specs.Map.{values_of}
 use Rattle.std.specs.Prelude.{slice_set}
-use Rattle.plain_state.specs.declared.act.EventPlace.{EventPlace}
 use Rattle.plain_state.specs.declared.act.PlainAct.{PlainAct}
 use Rattle.plain_state.specs.declared.act.PlainAct.TheVariants as act
 use Rattle.plain_state.specs.declared.slot.SlotId.{SlotId}
@@ -10,7 +9,7 @@ use Rattle.plain_state.specs.State.{Plain, seat_at}
 use Rattle.plain_state.specs.Steps.{Does}
 use Rattle.plain_store.specs.Calls.{Gains, WeaklyGains}
 use Rattle.plain_store.specs.Heaps.{Makes, Owns, OwnsWeakly}
-use Rattle.plain_store.specs.Settling.{IsSettled, SettlesTo, freed}
+use Rattle.plain_store.specs.Settling.{IsSettled, freed}
 use Rattle.plain_store.specs.Settling.{Settles as PlainSettles}
 use Rattle.plain_settling.specs.Settling.{Tidies, TidiesBy, TidiesTo}
 use Rattle.plain_settling.proofs.Settling.{tidies_none, tidies_on}

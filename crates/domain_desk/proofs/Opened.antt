@@ -1,13 +1,12 @@
 -- A desk that has just been opened.
-use Rattle.std.proofs.Common.{◌≡◌, ⊎_elim, ℕ, ◌<◌, ◌≤◌, List, [], All, length, refl, ap, sym, ◌∙◌, subst, arith}
+use Rattle.std.proofs.Common.{◌≡◌, ⊎_elim, ℕ, ◌<◌, ◌≤◌, List, [], All, length, refl, ap, sym, subst, arith}
 use Rattle.std.specs.Prelude.{replicate, slice_index_or}
 use Rattle.std.proofs.lemmas.Bool.{cases_lt}
 use Rattle.std.proofs.lemmas.List.{get_or-replicate, get_or_past, length-replicate}
 use Rattle.std.proofs.lemmas.List.Elements.{All-get_or}
 use Rattle.plain_state.specs.declared.slot.PlainSlot.{PlainSlot}
 use Rattle.plain_state.specs.declared.slot.SlotId.{SlotId}
-use Rattle.plain_state.specs.declared.slot.Stage.TheVariants.{Free, Live, Husk}
-use Rattle.plain_state.specs.State.{Plain, empty, new_slot, stage_at}
+use Rattle.plain_state.specs.State.{Plain, empty, new_slot}
 use Rattle.plain_store.specs.Settling.{IsSettled}
 use Rattle.script_desk.specs.Desks.{Maker, Names, nobody}
 use Rattle.script_desk.specs.Holding.{Kept}
