@@ -1,19 +1,15 @@
 -- What the desk's seat has after each call, and what was begun.
-use Rattle.std.proofs.Common.{◌≡◌, ℕ, ◌+◌, ◌<◌, List, [], ◌∷◌, length, refl, ap, sym, ◌∙◌, subst, arith, Option, Some, None, IfSome}
+use Rattle.std.proofs.Common.{◌≡◌, ℕ, ◌+◌, List, [], ◌∷◌, length, refl, ap, sym, ◌∙◌, subst, Option, Some, None, IfSome}
 use Rattle.std.specs.Map.{values_of}
 use Rattle.std.specs.Prelude.{slice_set}
-use Rattle.plain_state.specs.declared.act.EventPlace.{EventPlace}
 use Rattle.plain_state.specs.declared.act.PlainAct.{PlainAct}
 use Rattle.plain_state.specs.declared.act.PlainAct.TheVariants as act
 use Rattle.plain_state.specs.declared.slot.SlotId.{SlotId}
-use Rattle.plain_state.specs.State.{Plain, empty, new_slot, seat_at}
-use Rattle.plain_state.proofs.Kit.{entry_none, times_none}
-use Rattle.plain_state.specs.declared.slot.Kind.TheVariants as kind
-use Rattle.std.proofs.lemmas.List.{length-replicate}
+use Rattle.plain_state.specs.State.{Plain, seat_at}
 use Rattle.plain_state.specs.Steps.{Does}
 use Rattle.plain_store.specs.Calls.{Gains, WeaklyGains}
 use Rattle.plain_store.specs.Heaps.{Makes, Owns, OwnsWeakly}
-use Rattle.plain_store.specs.Settling.{IsSettled, SettlesTo, freed}
+use Rattle.plain_store.specs.Settling.{IsSettled, freed}
 use Rattle.plain_store.specs.Settling.{Settles as PlainSettles}
 use Rattle.plain_settling.specs.Settling.{Tidies, TidiesBy, TidiesTo}
 use Rattle.plain_settling.proofs.Settling.{tidies_none, tidies_on}
@@ -233,25 +229,6 @@ module _ {P : Type 0} (i d : DeskState P) (is : i ≡ d) (kept : IsKept d) where
     settle_tidied =
         subst (λ (x : DeskState P). Tidied (desk_of x) (desk_of settled)) is
         (record { tidies = tidies; names = refl; makers = (refl, refl) })
-
--- a desk that has just been opened
-pub opened_kept : (p : Plain) (slots cells weak_cells : ℕ) (made : List Maker)
-    → p ≡ empty 1 slots cells weak_cells → length made ≡ slots
-    → Kept p [] made (length p.cells) (length p.weak_cells)
-opened_kept p slots cells weak_cells made is count =
-    subst (λ (x : Plain). Kept x [] made (length x.cells) (length x.weak_cells)) (sym is) (record {
-      holds = record {
-        owned = λ s. times_none s;
-        weaks = λ s. times_none s;
-        snapshots = λ s. entry_none kind.Strong s;
-        weak_snapshots = λ s.
-            let one = entry_none kind.Weak s in
-            let two = entry_none kind.Disposal s in omega arith;
-      };
-      makers = count ∙ sym (length-replicate slots new_slot);
-      cells = refl;
-      weak_cells = refl;
-    })
 
 -- a command that made its row alone has begun so
 pub acts_begin : (d : Desk) (c : Command) (answer : Said) (e : Desk) → Acts d c answer e

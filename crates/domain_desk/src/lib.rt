@@ -1,4 +1,4 @@
-//! What a script has between two commands, on a running domain: the commands on references.
+//! What a script has between two commands, on a running domain: the commands that make, copy, weaken and drop.
 //!
 //! The rule: the domain has one seat, which has just what the handles need to which names are bound.
 //!
@@ -6,7 +6,7 @@
 //! calls of the domain's seat, and then the seat settles. What it does is told of the plain state that the seat knows,
 //! in the words of the desk for one thread.
 //!
-//! The commands on places and snapshots, and the audit, aren't here. Nothing is promised of a desk after `OutOfMemory`.
+//! The other commands aren't here, nor is `fault`. Nothing is promised of a desk after `OutOfMemory`.
 //!
 //! ```text
 //! let mut desk = DomainDesk::open(alloc, 4, 1, 0)?;

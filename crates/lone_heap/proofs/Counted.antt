@@ -1,5 +1,5 @@
 -- What a seat that is alone is told by a step that changes nothing.
-use Rattle.std.proofs.Common.{◌≡◌, ⊎_elim, ℕ, ◌<◌, Bool, true, false, List, [], ◌∷◌, refl, ap, sym, ◌∙◌, subst, arith}
+use Rattle.std.proofs.Common.{◌≡◌, ⊎_elim, ℕ, Bool, true, false, List, [], ◌∷◌, refl, ap, sym, ◌∙◌, subst, arith}
 use Rattle.std.specs.Prelude.{◌==◌, slice_index, if◌then◌else◌}
 use Rattle.plain_state.specs.declared.act.PlainAct.{PlainAct}
 use Rattle.plain_state.specs.declared.act.PlainAct.TheVariants as plain
@@ -22,7 +22,7 @@ use Rattle.core_events.specs.Views.{slot_of}
 use Rattle.acquire_retire.specs.Collecting.{move}
 use Rattle.acquire_retire.specs.Domains.{DomainState}
 use Rattle.acquire_retire.specs.Seats.{SeatState}
-use Rattle.acquire_retire.specs.Calls.{IsSameView, Steps, same_view}
+use Rattle.acquire_retire.specs.Calls.{IsSameView, same_view}
 use Rattle.control_word.specs.Calls.{CountsStrong, CountsWeak, counted_by}
 use Rattle.control_word.specs.Moves.{Becomes, last_core}
 use Rattle.control_word.specs.Resting.{IsAtRest}
@@ -105,8 +105,7 @@ module _ {P V : Type 0} {fits : List ℕ → Type 0} (d : DomainState P)
       → (n ≡ strong_refs (known_plain d old) s) × (known_plain d new ≡ known_plain d old)
   told_by false by count settled =
       let step = by.walks.1 in
-      let does = step_does d (act.Count s) old by.walks.0 _ step ready.alone.0 ready.known in
-      (
+      let does = step_does d (act.Count s) old by.walks.0 _ step ready.alone.0 ready.known in (
         sym count
             ∙ ap (λ (c : Core). strong_refs (shows d.shape c) s)
             (sym (known_before step.told ready.known)),
@@ -127,8 +126,7 @@ module _ {P V : Type 0} {fits : List ℕ → Type 0} (d : DomainState P)
       (known_plain d later)) zero
       (step_does d act.Mark mid later _ more knows.root knows.known) in
       let stays = marks_none (known_plain d mid) (known_plain d later) _ s
-      (subst IsSettled (sym same) settled) does in
-      (
+      (subst IsSettled (sym same) settled) does in (
         sym count
             ∙ ap (λ (c : Core). strong_refs (shows d.shape c) s)
             (sym (known_before more.told knows.known))

@@ -1,15 +1,14 @@
 -- What a call on references of a seat that is alone shows, and that the seat is as ready as it was.
-use Rattle.std.proofs.Common.{◌≡◌, ◌⊎◌, ℕ, ◌+◌, ◌<◌, ◌≤◌, Bool, true, false, List, [], ◌∷◌, ◌++◌, length, refl, ap, sym, ◌∙◌, subst, arith}
-use Rattle.std.specs.Prelude.{◌==◌, nat_lt, IsSome, Result, Ok, Err, IfOk, OnErr, if◌then◌else◌}
+use Rattle.std.proofs.Common.{◌≡◌, ℕ, Bool, true, false, List, [], ◌∷◌, length, refl, ap, sym, ◌∙◌, subst, arith}
+use Rattle.std.specs.Prelude.{nat_lt, Result, Ok, Err, IfOk, OnErr, if◌then◌else◌}
 use Rattle.plain_state.specs.declared.act.PlainAct.{PlainAct}
 use Rattle.plain_state.specs.declared.act.PlainAct.TheVariants as plain
 use Rattle.plain_state.specs.declared.slot.Kind.TheVariants.{Disposal}
 use Rattle.plain_state.specs.declared.slot.SlotId.{SlotId}
-use Rattle.plain_state.specs.Lists.{entry_times, times}
-use Rattle.plain_state.specs.State.{Plain, PlainSeat, seat_at}
+use Rattle.plain_state.specs.Lists.{entry_times}
+use Rattle.plain_state.specs.State.{Plain, seat_at}
 use Rattle.plain_state.specs.Steps.{Does}
 use Rattle.plain_store.specs.Calls.{Gains, WeaklyGains}
-use Rattle.plain_settling.specs.Settling.{TidiesTo}
 use Rattle.plain_protocol.specs.Owns.{OwnPart}
 use Rattle.counter_word.specs.Words.{ZERO}
 use Rattle.core_events.specs.declared.act.Act.{Act}
@@ -24,7 +23,6 @@ use Rattle.core_events.specs.Shows.{show_seat, shows}
 use Rattle.core_events.specs.Steps.{HasRoom}
 use Rattle.core_events.specs.Views.{valid_of}
 use Rattle.core_shows.proofs.Bridge.{shown_seat}
-use Rattle.domain_rule.specs.Views.{IsAlone}
 use Rattle.acquire_retire.specs.declared.payment.Payment.{Payment}
 use Rattle.acquire_retire.specs.declared.payment.Payment.TheVariants as payment
 use Rattle.acquire_retire.specs.Calls.{IsSameView, Steps, same_view}
@@ -38,7 +36,7 @@ use Rattle.control_word.specs.Calls.{DropsStrong, DropsWeak, FindsEnded, GainsSt
 use Rattle.control_word.specs.Resting.{IsAtRest}
 use Rattle.slot_store.proofs.Objects.{known_after, known_still, sound_later}
 use Rattle.lone_heap.specs.Lone.{IsReady, ThenTidies, known_plain}
-use Rattle.lone_heap.proofs.Owing.{OwesSurplus, owes_none}
+use Rattle.lone_heap.proofs.Owing.{owes_none}
 use Rattle.lone_heap.proofs.Stepping.{step_does}
 use Rattle.lone_heap.proofs.Tidying.{ArePaying, Knows, knows_step, pays_reach}
 
@@ -64,8 +62,8 @@ module _ {P V : Type 0} (d : DomainState P) where
     alone = (
       knows.root,
       (let left = ap (λ (x : ℕ × ℕ × ℕ × List Note). x.1) same in
-      let seats = ap (λ (x : ℕ × ℕ × ℕ × List Note). x.2) same in
-      let was = ready.alone.1 in omega arith),
+          let seats = ap (λ (x : ℕ × ℕ × ℕ × List Note). x.2) same in
+          let was = ready.alone.1 in omega arith),
     );
     known = knows.known;
     mine = mine;
@@ -138,13 +136,15 @@ module _ {P V : Type 0} {fits : List ℕ → Type 0} (d : DomainState P)
   pub gains_shown : (h : SlotId) → h ≡ s → GainsStrong fits d next allows s old new
       → Gains (known_plain d old) s h (known_plain d new)
   gains_shown h is by =
-      let step = by.walks.1 in
-      (is, subst (λ (x : ℕ × Plain). Does (known_plain d old) 0 (plain.Add s) x.0 x.1)
-      (λ i. (
-        up_number (nat_lt step.word ZERO) step.answers i,
-        known_plain d (sym by.walks.2 i),
-      ))
-      (step_does d (act.Add s) old by.walks.0 _ step (knows_ready d old ready).root (knows_ready d old ready).known))
+      let step = by.walks.1 in (
+        is,
+        subst (λ (x : ℕ × Plain). Does (known_plain d old) 0 (plain.Add s) x.0 x.1)
+            (λ i. (
+              up_number (nat_lt step.word ZERO) step.answers i,
+              known_plain d (sym by.walks.2 i),
+            ))
+            (step_does d (act.Add s) old by.walks.0 _ step (knows_ready d old ready).root (knows_ready d old ready).known),
+      )
 
   pub gains_ready : GainsStrong fits d next allows s old new → IsReady d new
   gains_ready by =
@@ -227,10 +227,12 @@ module _ {P V : Type 0} {fits : List ℕ → Type 0} (d : DomainState P) (s : Sl
   pub weak_gains_shown : (h : SlotId) → h ≡ s → GainsWeak fits d s old new
       → WeaklyGains (known_plain d old) s h (known_plain d new)
   weak_gains_shown h is by =
-      let step = by.walks.1 in
-      (is, subst (λ (x : SeatState V).
-      Does (known_plain d old) 0 (plain.WeakGain s) 0 (known_plain d x)) (sym by.walks.2)
-      (step_does d (act.Wadd s) old by.walks.0 _ step (knows_ready d old ready).root (knows_ready d old ready).known))
+      let step = by.walks.1 in (
+        is,
+        subst (λ (x : SeatState V).
+            Does (known_plain d old) 0 (plain.WeakGain s) 0 (known_plain d x)) (sym by.walks.2)
+            (step_does d (act.Wadd s) old by.walks.0 _ step (knows_ready d old ready).root (knows_ready d old ready).known),
+      )
 
   pub weak_gains_ready : GainsWeak fits d s old new → IsReady d new
   weak_gains_ready by =
@@ -247,8 +249,7 @@ module _ {P V : Type 0} {fits : List ℕ → Type 0} (d : DomainState P) (s : Sl
       let owes : mid.view.core.owed ≡ [] =
       ap (λ (v : CoreView). v.owed) step.told.core ∙ ready.rest.owes_nothing in
       let more = pays_reach fits d (endings how) mid new (ends_pay how)
-      (knows_step fits d (act.Drop s) old mid _ (knows_ready d old ready) step) (owes_none mid.view.core owes) walks.2 in
-      (
+      (knows_step fits d (act.Drop s) old mid _ (knows_ready d old ready) step) (owes_none mid.view.core owes) walks.2 in (
         known_plain d mid,
         step_does d (act.Drop s) old mid _ step (knows_ready d old ready).root (knows_ready d old ready).known,
         more.tidies,
@@ -270,8 +271,7 @@ module _ {P V : Type 0} {fits : List ℕ → Type 0} (d : DomainState P) (s : Sl
       let owes : mid.view.core.owed ≡ [] =
       ap (λ (v : CoreView). v.owed) step.told.core ∙ ready.rest.owes_nothing in
       let more = pays_reach fits d (weak_ends last) mid new (weak_pay last)
-      (knows_step fits d (act.Wdrop s) old mid _ (knows_ready d old ready) step) (owes_none mid.view.core owes) walks.2 in
-      (
+      (knows_step fits d (act.Wdrop s) old mid _ (knows_ready d old ready) step) (owes_none mid.view.core owes) walks.2 in (
         known_plain d mid,
         step_does d (act.Wdrop s) old mid _ step (knows_ready d old ready).root (knows_ready d old ready).known,
         more.tidies,

@@ -1,12 +1,11 @@
 -- A make of a seat that is alone: the slots that it found taken, the claim, the words, and the start.
-use Rattle.std.proofs.Common.{◌≡◌, ◌≢◌, ⊎_elim, ℕ, zero, suc, ◌+◌, ◌/◌, ◌<◌, ◌≤◌, Bool, true, false, List, [], ◌∷◌, ◌++◌, length, All, refl, ap, sym, ◌∙◌, subst, arith, append_assoc}
+use Rattle.std.proofs.Common.{◌≡◌, ◌≢◌, ⊎_elim, ℕ, zero, suc, ◌+◌, ◌<◌, Bool, true, false, List, [], ◌∷◌, ◌++◌, length, refl, ap, sym, ◌∙◌, subst, arith, append_assoc}
 use Rattle.std.specs.Prelude.{◌==◌, nat_lt, Result, Ok, Err, IfOk, slice_index, if◌then◌else◌}
 use Rattle.std.proofs.lemmas.List.Elements.{All-from_get_or}
 use Rattle.plain_state.specs.declared.act.PlainAct.{PlainAct}
 use Rattle.plain_state.specs.declared.act.PlainAct.TheVariants as plain
 use Rattle.plain_state.specs.declared.slot.PlainSlot.{PlainSlot}
 use Rattle.plain_state.specs.declared.slot.SlotId.{SlotId}
-use Rattle.plain_state.specs.declared.slot.Stage.{Stage}
 use Rattle.plain_state.specs.declared.slot.Stage.TheVariants.{Free, Blank, Live, Ended, Husk}
 use Rattle.plain_state.specs.Runs.{Runs}
 use Rattle.plain_state.specs.State.{Plain, new_slot, stage_at}
@@ -17,7 +16,6 @@ use Rattle.plain_protocol.specs.Owns.{OwnPart}
 use Rattle.core_events.specs.declared.act.Act.TheVariants as act
 use Rattle.core_events.specs.declared.outcome.Outcome.{Outcome}
 use Rattle.core_events.specs.declared.outcome.Outcome.TheVariants as outcome
-use Rattle.core_events.specs.declared.shape.Shape.{Shape}
 use Rattle.core_events.specs.declared.view.CoreView.{CoreView}
 use Rattle.core_events.specs.declared.view.Move.{Move}
 use Rattle.core_events.specs.declared.view.Phase.{Phase}
@@ -45,7 +43,7 @@ use Rattle.slot_store.specs.Searching.{IsShownTaken, Misses, Try, bits_of, taken
 use Rattle.slot_store.proofs.Objects.{known_before}
 use Rattle.slot_store.proofs.Tries.{append_nil}
 use Rattle.lone_heap.specs.Lone.{IsReady, known_plain}
-use Rattle.lone_heap.proofs.Holding.{IsMine, kept_of, knows_on, knows_ready, ready_still, walk_mine}
+use Rattle.lone_heap.proofs.Holding.{kept_of, knows_on, knows_ready, ready_still, walk_mine}
 use Rattle.lone_heap.proofs.Stepping.{step_does}
 use Rattle.lone_heap.proofs.Tidying.{Knows}
 
@@ -181,8 +179,7 @@ module _ {P V : Type 0} (fits : List ℕ → Type 0) (d : DomainState P) where
       let is : Does (known_plain d old) 0 (plain.Fill s i w) 0 (known_plain d mid) =
       subst (λ (x : Phase × ℕ).
       Does (known_plain d old) 0 (on_slot (λ y. plain.Fill y i x.1) (slot_of x.0)) 0 (known_plain d mid))
-      (λ j. (blank j, word j)) does in
-      (
+      (λ j. (blank j, word j)) does in (
         known_plain d mid,
         0,
         is,
@@ -227,16 +224,14 @@ module _ {P V : Type 0} (fits : List ℕ → Type 0) (d : DomainState P) where
         let fill = fill_runs s payload payload 0 16 (plain.Make s ∷ []) (known_plain d new) m2 makes.mid
         many (λ k. let e : 0 + k ≡ k = omega arith in ap (slice_index payload) e) k2 blank
         tried.walks.2.2
-        (λ knows is.
-        (
+        (λ knows is. (
           known_plain d m4,
           0,
           subst (λ (x : Phase).
               Does (known_plain d makes.mid) 0 (on_slot plain.Make (slot_of x)) 0 (known_plain d m4)) is
               (step_does d act.Start makes.mid m4 _ start knows.root knows.known),
           last,
-        )) in
-        (
+        )) in (
           known_plain d m1,
           0,
           subst (λ (p : Plain). Does p 0 (plain.Claim s) 0 (known_plain d m1)) tried.same first,

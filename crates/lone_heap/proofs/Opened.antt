@@ -1,16 +1,12 @@
 -- A domain of one seat, as it is opened.
-use Rattle.std.proofs.Common.{◌≡◌, ℕ, ◌<◌, List, [], ◌∷◌, length, refl, ap, sym, ◌∙◌, subst, arith}
+use Rattle.std.proofs.Common.{◌≡◌, ℕ, refl, ap, sym, ◌∙◌, subst, arith}
 use Rattle.std.proofs.lemmas.List.Elements.{All-get_or}
-use Rattle.std.specs.Prelude.{All, slice_index_or}
+use Rattle.std.specs.Prelude.{slice_index_or}
 use Rattle.plain_state.specs.declared.slot.Kind.TheVariants.{Disposal}
-use Rattle.plain_state.specs.declared.slot.SlotId.{SlotId}
 use Rattle.plain_state.specs.State.{Plain, empty, seat_at}
 use Rattle.plain_state.proofs.Kit.{entry_none}
 use Rattle.atomic_table.specs.Seated.{TableId}
-use Rattle.core_events.specs.declared.shape.Quota.{Quota}
-use Rattle.core_events.specs.declared.shape.Shape.{Shape}
-use Rattle.core_events.specs.Runs.{AreTerms, IsShape, start}
-use Rattle.core_events.specs.Shows.{show_seat, shows}
+use Rattle.core_events.specs.Runs.{AreTerms, IsShape}
 use Rattle.core_events.specs.Steps.{HasRoom}
 use Rattle.core_events.specs.Views.{Terms}
 use Rattle.domain_rule.proofs.StartShown.{start_shown}

@@ -1,7 +1,7 @@
 -- What a seat owes once it has scanned, and while it pays: of each such entry as many stay as it is under snapshots of.
-use Rattle.std.proofs.Common.{◌≡◌, ◌≢◌, ⊎_elim, ℕ, suc, ◌+◌, ◌<◌, ◌≤◌, Bool, true, false, List, [], ◌∷◌, ◌++◌, length, get_or, refl, ap, sym, ◌∙◌, subst, arith}
+use Rattle.std.proofs.Common.{◌≡◌, ⊎_elim, ℕ, suc, ◌+◌, ◌<◌, ◌≤◌, Bool, true, false, List, [], ◌∷◌, length, get_or, refl, ap, sym, ◌∙◌, subst, arith}
 use Rattle.std.specs.Prelude.{Option}
-use Rattle.std.proofs.lemmas.Bool.{cases_eq, cases_lt}
+use Rattle.std.proofs.lemmas.Bool.{cases_lt}
 use Rattle.plain_state.specs.declared.slot.Kind.{Kind}
 use Rattle.plain_state.specs.declared.slot.Kind.TheVariants.{Strong, Weak, Disposal}
 use Rattle.plain_state.specs.declared.slot.SlotId.{SlotId}
@@ -13,7 +13,7 @@ use Rattle.plain_state.proofs.Kit.{entry_append, entry_cons, entry_in, entry_is,
 use Rattle.plain_settling.specs.Settling.{IsSurplus}
 use Rattle.announce_slots.specs.Seen.{announced_in}
 use Rattle.announce_slots.specs.Words.{code}
-use Rattle.announce_slots.proofs.Counting.{seen_cons, seen_none, word_one, word_same}
+use Rattle.announce_slots.proofs.Counting.{seen_cons, word_one, word_same}
 use Rattle.core_events.specs.declared.act.Act.{Act}
 use Rattle.core_events.specs.declared.act.Act.TheVariants as act
 use Rattle.core_events.specs.declared.shape.Shape.{Shape}

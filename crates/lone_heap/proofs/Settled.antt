@@ -1,16 +1,16 @@
 -- What a settle of a seat that is alone leaves: nothing more may go.
-use Rattle.std.proofs.Common.{◌≡◌, ⊎_elim, ℕ, ◌+◌, ◌<◌, ◌≤◌, List, [], ◌++◌, length, refl, ap, sym, ◌∙◌, subst, arith}
+use Rattle.std.proofs.Common.{◌≡◌, ⊎_elim, ℕ, ◌<◌, ◌≤◌, List, [], ◌++◌, ap, sym, ◌∙◌, subst, arith}
 use Rattle.std.proofs.lemmas.Bool.{cases_lt}
 use Rattle.plain_state.specs.declared.slot.Kind.TheVariants.{Disposal}
 use Rattle.plain_state.specs.declared.slot.SlotId.{SlotId}
 use Rattle.plain_state.specs.Lists.{Entry, entry_times, times}
-use Rattle.plain_state.specs.State.{PlainSeat, seat_at}
+use Rattle.plain_state.specs.State.{PlainSeat}
 use Rattle.plain_store.specs.Settling.{IsSettled}
 use Rattle.plain_settling.specs.Settling.{TidiesTo}
 use Rattle.core_events.specs.declared.view.CoreView.{CoreView}
 use Rattle.core_events.specs.declared.view.Note.{Note}
 use Rattle.core_events.specs.Runs.{Core, view_at}
-use Rattle.core_events.specs.Shows.{show_seat, shows}
+use Rattle.core_events.specs.Shows.{show_seat}
 use Rattle.core_events.specs.Steps.{HasRoom, IsIdle}
 use Rattle.core_events.specs.Views.{valid_of}
 use Rattle.core_shows.proofs.Bridge.{shown_seat}

@@ -1,5 +1,5 @@
 -- The turns of a settle tidy, one after another.
-use Rattle.std.proofs.Common.{◌≡◌, ⊎_elim, ℕ, zero, suc, ◌+◌, ◌<◌, ◌≤◌, Bool, true, false, List, [], ◌∷◌, ◌++◌, length, refl, ap, sym, ◌∙◌, subst, arith}
+use Rattle.std.proofs.Common.{◌≡◌, ⊎_elim, ℕ, zero, suc, ◌+◌, ◌<◌, Bool, true, false, List, [], ◌∷◌, length, refl, ap, sym, ◌∙◌, arith}
 use Rattle.std.specs.Bool.{MatchBool}
 use Rattle.std.specs.Prelude.{◌==◌, Option, Some, None, slice_index, if◌then◌else◌}
 use Rattle.plain_state.specs.declared.act.EventPlace.{EventPlace}
@@ -7,15 +7,11 @@ use Rattle.plain_state.specs.declared.act.EventPlace.TheVariants.{Field, WeakFie
 use Rattle.plain_state.specs.declared.act.PlainAct.TheVariants as plain
 use Rattle.plain_state.specs.declared.slot.SlotId.{SlotId}
 use Rattle.plain_state.specs.Lists.{times}
-use Rattle.plain_state.specs.State.{Plain}
-use Rattle.plain_state.specs.Steps.{Does}
-use Rattle.plain_settling.specs.Settling.{TidiesTo}
 use Rattle.plain_settling.proofs.Settling.{tidies_none, tidies_one}
 use Rattle.core_events.specs.declared.act.Act.TheVariants as act
 use Rattle.core_events.specs.declared.outcome.Outcome.{Outcome}
 use Rattle.core_events.specs.declared.outcome.Outcome.TheVariants as outcome
 use Rattle.core_events.specs.declared.view.CoreView.{CoreView}
-use Rattle.core_events.specs.declared.view.Phase.{Phase}
 use Rattle.core_events.specs.declared.view.Phase.TheVariants as phase
 use Rattle.core_events.specs.ShownSteps.{is_ripe_field}
 use Rattle.core_events.specs.Views.{slot_of}
@@ -25,8 +21,8 @@ use Rattle.acquire_retire.specs.Collecting.{Walks, move}
 use Rattle.acquire_retire.specs.Domains.{DomainState}
 use Rattle.acquire_retire.specs.Seats.{SeatState}
 use Rattle.retiring_stores.specs.Scanning.{Collected}
-use Rattle.slot_store.specs.Reaping.{Answers, Clears, Destroys, FindsRipe, Reaps, SeesAll, Waits}
-use Rattle.slot_store.specs.Settling.{GoesOn, Settles, Turn, Turns}
+use Rattle.slot_store.specs.Reaping.{Answers, Clears, FindsRipe, Reaps, SeesAll, Waits}
+use Rattle.slot_store.specs.Settling.{Settles, Turn, Turns}
 use Rattle.lone_heap.specs.Lone.{known_plain}
 use Rattle.lone_heap.proofs.Stepping.{step_does}
 use Rattle.lone_heap.proofs.Tidying.{Knows, Reaches, clear_shown, collect_reaches, due_reaches, give_shown, knows_step, reaches_on, reaches_same}

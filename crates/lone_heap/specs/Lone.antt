@@ -1,5 +1,5 @@
 -- A seat that is alone in its domain, and the plain state that it knows.
-use Rattle.std.specs.Prelude.{ℕ, ◌≡◌, IsSome}
+use Rattle.std.specs.Prelude.{◌≡◌, IsSome}
 use Rattle.plain_state.specs.declared.slot.Kind.TheVariants.{Disposal}
 use Rattle.plain_state.specs.declared.slot.SlotId.{SlotId}
 use Rattle.plain_state.specs.Lists.{entry_times}

@@ -1,7 +1,7 @@
-use Rattle.std.proofs.Common.{◌≡◌, sym, subst, ap, ◌∙◌}
+use Rattle.std.proofs.Common.{ap, ◌∙◌}
 use Rattle.plain_state.specs.References.{weak_refs}
 use Rattle.plain_state.specs.State.{Plain}
-use Rattle.lone_heap.specs.Lone.{IsReady, known_plain}
+use Rattle.lone_heap.specs.Lone.{IsReady}
 use Rattle.lone_heap.proofs.Counted.{strong_ready, strong_told, weak_is, weak_ready, weak_same}
 use Rattle.lone_heap.proofs.telling.counts.Given as given
 use Rattle.lone_heap.proofs.telling.counts.Goals as goal
