@@ -10,7 +10,6 @@ use Rattle.core_events.specs.Views.{without}
 use Rattle.core_invariant.proofs.Kit.{one_same, times_push, times_without}
 use Rattle.core_events.specs.declared.view.CoreView.{CoreView}
 use Rattle.core_events.specs.declared.view.Move.{Move}
-use Rattle.domain_rule.specs.Views.{object_in}
 use Rattle.acquire_retire.specs.Collecting.{ends}
 use Rattle.acquire_retire.specs.Domains.{DomainState}
 use Rattle.acquire_retire.specs.Seats.{SeatState}

@@ -1,5 +1,5 @@
 -- What a compare and exchange with the deed BindHead asks, and what it leaves.
-use Rattle.std.proofs.Common.{◌≡◌, ⊎_elim, inr, ℕ, ◌+◌, ◌<◌, ◌≤◌, Bool, true, false, List, [], ◌∷◌, ◌++◌, refl, ap, sym, ◌∙◌, subst, arith, Some, None}
+use Rattle.std.proofs.Common.{◌≡◌, ⊎_elim, inr, ℕ, ◌+◌, ◌<◌, Bool, true, false, List, [], ◌∷◌, ◌++◌, refl, ap, sym, ◌∙◌, subst, arith, Some, None}
 use Rattle.std.specs.Prelude.{◌==◌, Option, if◌then◌else◌}
 use Rattle.plain_state.specs.declared.act.EventPlace.TheVariants.{WeakCell}
 use Rattle.plain_state.specs.declared.act.PlainAct.{PlainAct}
@@ -12,7 +12,6 @@ use Rattle.plain_protocol.specs.Acts.{Owned}
 use Rattle.plain_protocol.specs.Owns.{HasSlot, Object, OwnPart}
 use Rattle.protocol_pairs.specs.Parts.{Accepts, Frees}
 use Rattle.core_events.specs.declared.act.Act.TheVariants as act
-use Rattle.core_events.specs.declared.outcome.Outcome.{Outcome}
 use Rattle.core_events.specs.declared.outcome.Outcome.TheVariants as outcome
 use Rattle.core_events.specs.declared.view.CoreView.{CoreView}
 use Rattle.core_events.specs.Runs.{after}
@@ -23,13 +22,12 @@ use Rattle.core_events.specs.Words.{slot_in}
 use Rattle.core_invariant.proofs.Kit.{one_same, times_push, times_without}
 use Rattle.domain_rule.specs.Views.{object_in, own_of}
 use Rattle.acquire_retire.specs.Calls.{IsReady, IsSameView, same_view}
-use Rattle.acquire_retire.specs.Collecting.{rest_of}
 use Rattle.acquire_retire.specs.Domains.{DomainState}
 use Rattle.acquire_retire.specs.Seats.{SeatState}
 use Rattle.control_word.specs.Calls.{DropsWeak, GainsWeak, with_weak, without_weak}
 use Rattle.control_word.specs.Moves.{KnowsStill}
 use Rattle.protected_loads.proofs.Telling.{holds_has}
-use Rattle.retiring_stores.specs.Exchanging.{Loses, LosesTo, Replaces}
+use Rattle.retiring_stores.specs.Exchanging.{LosesTo, Replaces}
 use Rattle.retiring_stores.specs.Scanning.{ScansWhereDue}
 use Rattle.directory_law.specs.declared.view.Rope.{Rope}
 use Rattle.directory_law.specs.declared.view.View.{View}
@@ -41,10 +39,10 @@ use Rattle.directory_law.specs.Views.{rope}
 use Rattle.directory_law.specs.Walks.{Walked}
 use Rattle.directory_protocol.specs.Keeping.{KeepsAll, MindsNone}
 use Rattle.weak_intern.specs.Directories.{CanCount}
-use Rattle.weak_intern.specs.Interning.{Binds, ComesBy, HasNotedLast, candidate_in}
+use Rattle.weak_intern.specs.Interning.{ComesBy, HasNotedLast, candidate_in}
 use Rattle.weak_intern.specs.Sought.{IsOne}
 use Rattle.weak_intern.specs.Steps.{AfterStep, GoesOn, Leaves, aside}
-use Rattle.weak_intern.proofs.Going.{goes_none, goes_then, holds_by, leaves_as, leaves_core, leaves_less, leaves_then, seat_same, some_earlier, some_later, some_step, step_goes, walks_go}
+use Rattle.weak_intern.proofs.Going.{goes_none, goes_then, holds_by, leaves_as, leaves_core, leaves_then, seat_same, some_earlier, some_later, some_step, step_goes, walks_go}
 use Rattle.weak_intern.proofs.Made.{own_life}
 use Rattle.weak_intern.proofs.Parts.{Place, lift_ready, lifts, tells}
 

@@ -1,10 +1,9 @@
 -- What a seat met in a cell, and what it owns afterwards.
-use Rattle.std.proofs.Common.{◌≡◌, inl, inr, ℕ, ◌+◌, ◌<◌, ◌≤◌, List, [], ◌∷◌, ◌++◌, refl, sym, ap, subst, ◌∙◌, arith, Some, None}
+use Rattle.std.proofs.Common.{◌≡◌, inl, inr, ℕ, ◌<◌, ◌≤◌, List, [], ◌∷◌, ◌++◌, refl, sym, ap, subst, ◌∙◌, arith, Some, None}
 use Rattle.std.specs.Prelude.{◌≢◌, Bool, true, false, Err, IfOk, Ok, Option, Result}
 use Rattle.plain_state.specs.declared.slot.SlotId.{SlotId}
 use Rattle.plain_state.specs.Lists.{times}
 use Rattle.plain_protocol.specs.Owns.{Object}
-use Rattle.core_events.specs.Counts.{one}
 use Rattle.core_events.specs.Views.{without}
 use Rattle.core_invariant.proofs.Kit.{one_same, times_push, times_without}
 use Rattle.domain_rule.specs.Views.{object_in}
@@ -24,7 +23,7 @@ use Rattle.weak_intern.specs.declared.looking.Sight.{Sight}
 use Rattle.weak_intern.specs.declared.looking.Sight.TheVariants as sight
 use Rattle.weak_intern.specs.Seeing.{BeginsText, HasSeenAt, HasSeenIn, Sees, seen_in}
 use Rattle.weak_intern.specs.Steps.{AtStep, Leaves, with_found}
-use Rattle.weak_intern.specs.Walking.{Meets, MeetsIn, met}
+use Rattle.weak_intern.specs.Walking.{Meets, MeetsIn}
 use Rattle.weak_intern.proofs.Going.{also, from_earlier, holds_by, leaves_as, leaves_less, leaves_then, seat_same}
 use Rattle.weak_intern.proofs.Heads.{short_text}
 use Rattle.weak_intern.proofs.Learnt.{walked_still}

@@ -1,5 +1,5 @@
 -- A directory as a part of a protocol: what its deeds ask of the whole, and what they do to a view.
-use Rattle.std.proofs.Common.{◌≡◌, ◌+◌, ℕ, refl, ap, sym, subst, ◌∙◌, arith}
+use Rattle.std.proofs.Common.{◌≡◌, ◌+◌, ℕ, ap, sym, subst, ◌∙◌, arith}
 use Rattle.plain_state.specs.declared.act.PlainAct.{PlainAct}
 use Rattle.plain_state.specs.State.{Plain}
 use Rattle.plain_protocol.specs.Acts.{Owned}

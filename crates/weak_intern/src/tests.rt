@@ -1,9 +1,9 @@
-ghost use Rattle.std.specs.Prelude.{◌≡◌, IfOk};
+ghost use Rattle.std.specs.Prelude.{◌≡◌, ◌<◌, IfOk};
 ghost use Rattle.core_events.specs.Steps.{HasRoom};
 ghost use Rattle.control_word.specs.Resting.{IsAtRest};
 ghost use Rattle.weak_intern.specs.Directories.{HasQuota};
 
-use crate::{Directory, cell_on, find, hash_of, see};
+use crate::{Directory, cell_on, find, hash_of, intern, see};
 use acquire_retire::{Domain, OpenError, Quota, Seat, Shape, open_domain};
 use directory_protocol::DirectoryLaw;
 use std::test::Fail;
@@ -50,5 +50,30 @@ fn a_text_that_was_never_interned_is_not_found(rt: HostRuntime) -> Result<(), Fa
     let Ok(None) = find(&rt, &domain, &mut seat, &directory, b"ab") else {
         panic!(rt; "found")
     };
+    Ok(())
+}
+
+/// A domain of one seat that may intern three texts, with a directory of ten cells, and that seat.
+fn open_for_three(rt: &HostRuntime) -> Result<(Domain<DirectoryLaw>, Seat<DirectoryLaw>), Fail>
+    ensures { IfOk result (λ r. IsAtRest r.0 r.1 × HasRoom r.1.view.core
+        × (r.1.view.client.used < r.1.view.client.quota)
+        × (r.0.protocol.first ≡ 0) × (r.0.protocol.cells ≡ 10) × (r.0.shape.weak_cells ≡ 10)) }
+{
+    let law = DirectoryLaw::new(0, 10, vec![in rt.alloc(); 3]?);
+    let (domain, mut seats) = open_domain(rt.alloc(), SHAPE, &[Quota { makes: 1, adds: 7 }], law)?;
+    Ok((domain, seats.remove(0)))
+}
+
+#[test]
+fn a_text_is_interned_in_cell_5(rt: HostRuntime) -> Result<(), Fail> {
+    let (domain, mut seat) = open_for_three(&rt)?;
+    let directory = Directory::over(0, 10);
+    let Ok(record) = intern(&rt, &domain, &mut seat, &directory, b"ab") else {
+        panic!(rt; "refused")
+    };
+    let Ok(Some(seen)) = see(&rt, &domain, &mut seat, &directory, 5) else {
+        panic!(rt; "null")
+    };
+    assert_eq!(rt; seen.slot(), record.slot());
     Ok(())
 }
