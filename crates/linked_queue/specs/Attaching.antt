@@ -23,8 +23,8 @@ is_slot None = false
 is_slot (Some s) = true
 
 -- by one look the seat found this in the head cell, as the domain showed it then
-pub record LooksAtHead (fits : List ℕ → Type 0) (d : DomainState QueueLaw) (found : Option SlotId) (old new : SeatState View)
-    : Type 0 where
+pub record LooksAtHead (fits : List ℕ → Type 0) (d : DomainState QueueLaw) (found : Option SlotId)
+    (old new : SeatState View) : Type 0 where
   pub becomes :
       Becomes fits d attach_next (AttachTells (ends_of d))
       (move (act.Look (Cell d.protocol.head)) (outcome.Found found) ∷ []) old.view.core old new

@@ -36,7 +36,8 @@ with_noted e v = record v { noted = e ∷ v.noted }
 abbrev pub ComesBy : Area → View → List ℕ → ℕ → Type 0
 ComesBy z v head c = (m : ℕ) × Walked z v (head ∷ []) m × (on z (head ∷ []) m ≡ c)
 
--- where s was put into a cell, it was the live record of this text after a step, and is kept; else the view is as it was
+-- where s was put into a cell, it was the live record of this text after a step, and is kept; else the view is as it
+-- was
 abbrev pub Binds : {P V : Type 0} → (V → View) → (V → View → V) → DomainState P → Area → List ℕ
     → SlotId → Bool → SeatState V → SeatState V → Type 0
 Binds seen with_seen d z head s true old new =

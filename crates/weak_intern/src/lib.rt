@@ -9,7 +9,8 @@
 //!
 //! All calls are over each protocol that has a directory as a part, and change nothing else of the seat's view.
 //!
-//! It isn't promised that a call which may wait returns. Texts are of 1 to 120 bytes here, and nothing reads a text back.
+//! It isn't promised that a call which may wait returns. Texts are of 1 to 120 bytes here, and nothing reads a text
+//! back.
 //!
 //! ```text
 //! let directory = Directory::over(0, 10);                              // weak cells 0 to 9
