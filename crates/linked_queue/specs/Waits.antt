@@ -74,8 +74,10 @@ module _ (fits : List ℕ → Type 0) (d : DomainState QueueLaw) where
     pub pushes : PushesNodeAtLast node loaded pushed
     pub drops : DropsStrong fits d item pushed new
 
-  -- why it pushed nothing: no node could be made that carries the item, or its last try had at most three adds left
-  abbrev pub IsWhyNeverPushed : MakeError → SeatState View → Type 0
-  IsWhyNeverPushed error old =
+  -- why it pushed nothing: no node could be made that carries the item, or one was, and its last try had at most three
+  -- adds left
+  abbrev pub IsWhyNeverPushed : SlotId → MakeError → SeatState View → Type 0
+  IsWhyNeverPushed item error old =
       IsWhyRefused fits d 1 error old
-      ⊎ ((error ≡ refused.AddsSpent) × (loaded : SeatState View) × LinksTooFew 3 loaded)
+      ⊎ ((error ≡ refused.AddsSpent) × (node : SlotId) × (loaded : SeatState View)
+      × LoadsNode fits d item node old loaded × LinksTooFew 3 loaded)

@@ -54,7 +54,7 @@ impl LinkedQueue {
             (seen_by P.seen seat.new)) }
         ensures back { IfErr result (λ refused. refused.back ≡ item) }
         ensures why { IfErr result (λ refused. IsWhyNeverPushed P.Kind.fits
-            (as_part P.part domain.now) refused.why (seen_by P.seen seat.old)) }
+            (as_part P.part domain.now) item.slot refused.why (seen_by P.seen seat.old)) }
         ensures attached { IsAttached (P.seen seat.new.view.client) }
         ensures beside { StaysBeside P.seen P.with_seen seat.old seat.new }
         ensures room { HasRoom seat.new.view.core }

@@ -1,4 +1,4 @@
-use Rattle.std.proofs.Common.{◌<◌, refl, ap, sym, ◌∙◌, arith}
+use Rattle.std.proofs.Common.{◌<◌, inr, refl, ap, sym, ◌∙◌, arith}
 use Rattle.std.specs.Prelude.{None}
 use Rattle.queue_law.specs.declared.view.Item.{Item}
 use Rattle.queue_law.specs.declared.view.View.{View}
@@ -80,3 +80,13 @@ returns-in-Err-push_at_last-clause-beside g c =
     stays_beside g.P.Part.seen g.P.Part.with_seen first_view g.P.Part.puts_back
     g.P.Part.puts_over c.args.seat.now c.push_at_last.new.seat
     (c.push_at_last.ensures.beside_part ∙ c.load_node.ensures.beside_part)
+
+pub returns-in-Err-push_at_last-clause-why : goal.returns-in-Err-push_at_last-clause-why
+returns-in-Err-push_at_last-clause-why g c =
+    inr (
+      refl,
+      c.in-Ok.node.slot,
+      (seen_by g.P.Part.seen c.load_node.new.seat),
+      c.in-Ok.ensures.events,
+      c.in-Err-push_at_last.ensures.why,
+    )
