@@ -38,8 +38,6 @@ mod tests;
 mod tests_pair;
 #[cfg(test)]
 mod tests_threads;
-#[cfg(test)]
-mod tests_waits;
 mod unless_ripe;
 mod waiting;
 
