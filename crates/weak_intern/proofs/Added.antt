@@ -20,12 +20,12 @@ use Rattle.directory_law.specs.declared.view.View.{View}
 use Rattle.directory_law.specs.Cells.{Area}
 use Rattle.directory_law.specs.Law.{IsBound}
 use Rattle.control_word.specs.Resting.{IsSpent}
-use Rattle.weak_intern.specs.Directories.{CanCount}
+use Rattle.directory_calls.specs.Directories.{CanCount}
 use Rattle.weak_intern.specs.Interning.{Grows, HasNotedLast, HasPassed, Places, candidate_in, named_or, placed_by, with_noted}
-use Rattle.weak_intern.specs.Steps.{Leaves, with_found}
+use Rattle.directory_calls.specs.Steps.{Leaves, with_found}
 use Rattle.weak_intern.specs.Walking.{found_by}
-use Rattle.weak_intern.proofs.Going.{holds_by, leaves_as, leaves_less, leaves_then, seat_same, some_earlier, some_later}
-use Rattle.weak_intern.proofs.Parts.{Place}
+use Rattle.directory_calls.proofs.Going.{holds_by, leaves_as, leaves_less, leaves_then, seat_same, some_earlier, some_later}
+use Rattle.directory_calls.proofs.Parts.{Place}
 use Rattle.weak_intern.proofs.Placed.{GrowsBy, grow_then, lift_grows}
 use Rattle.directory_law.specs.declared.view.Rope.{Rope}
 

@@ -10,10 +10,10 @@ use Rattle.directory_law.specs.Law.{IsBound, NoneBound}
 use Rattle.directory_law.proofs.Bytes.{one_text}
 use Rattle.weak_intern.specs.declared.walking.Walk.{Walk}
 use Rattle.weak_intern.specs.declared.walking.Walk.TheVariants as walk
-use Rattle.weak_intern.specs.Directories.{HasNoRecord, IsRecord}
-use Rattle.weak_intern.specs.Steps.{AfterStep, AtStep}
+use Rattle.directory_calls.specs.Directories.{HasNoRecord, IsRecord}
+use Rattle.directory_calls.specs.Steps.{AfterStep, AtStep}
 use Rattle.weak_intern.specs.Walking.{ComesTo}
-use Rattle.weak_intern.proofs.Going.{also, also_some}
+use Rattle.directory_calls.proofs.Going.{also, also_some}
 
 module _ {P V : Type 0} (d : DomainState P) (z : Area) (bytes head : List ℕ)
     (is : IsTextOf bytes (head ∷ [])) (a b : SeatState V) where

@@ -38,13 +38,13 @@ use Rattle.directory_law.specs.Steps.{life_in}
 use Rattle.directory_law.specs.Views.{rope}
 use Rattle.directory_law.specs.Walks.{Walked}
 use Rattle.directory_protocol.specs.Keeping.{KeepsAll, MindsNone}
-use Rattle.weak_intern.specs.Directories.{CanCount}
+use Rattle.directory_calls.specs.Directories.{CanCount}
 use Rattle.weak_intern.specs.Interning.{ComesBy, HasNotedLast, candidate_in}
 use Rattle.weak_intern.specs.Sought.{IsOne}
-use Rattle.weak_intern.specs.Steps.{AfterStep, GoesOn, Leaves, aside}
-use Rattle.weak_intern.proofs.Going.{goes_none, goes_then, holds_by, leaves_as, leaves_core, leaves_then, seat_same, some_earlier, some_later, some_step, step_goes, walks_go}
+use Rattle.directory_calls.specs.Steps.{AfterStep, GoesOn, Leaves, aside}
+use Rattle.directory_calls.proofs.Going.{goes_none, goes_then, holds_by, leaves_as, leaves_core, leaves_then, seat_same, some_earlier, some_later, some_step, step_goes, walks_go}
 use Rattle.weak_intern.proofs.Made.{own_life}
-use Rattle.weak_intern.proofs.Parts.{Place, lift_ready, lifts, tells}
+use Rattle.directory_calls.proofs.Parts.{Place, lift_ready, lifts, tells}
 
 -- whether a compare and exchange that expects null found it
 is_done : (w : ℕ) (b : Bool) → (w == 0) ≡ b

@@ -15,8 +15,8 @@ use Rattle.control_word.specs.Moves.{KnowsStill}
 use Rattle.control_word.specs.Resting.{IsAtRest}
 use Rattle.protected_loads.proofs.Telling.{holds_has}
 use Rattle.slot_store.specs.Calls.{SeesWord}
-use Rattle.weak_intern.specs.Steps.{Leaves}
-use Rattle.weak_intern.proofs.Going.{leaves_as, leaves_core, leaves_none, leaves_then}
+use Rattle.directory_calls.specs.Steps.{Leaves}
+use Rattle.directory_calls.proofs.Going.{leaves_as, leaves_core, leaves_none, leaves_then}
 
 -- the first n words of the slot's payload are these
 pub record Same {P V : Type 0} (d : DomainState P) (s : SlotId) (n : ℕ) (payload : List ℕ)

@@ -24,14 +24,14 @@ use Rattle.directory_law.specs.Places.{text_hash}
 use Rattle.directory_law.specs.Walks.{Passes, Walked}
 use Rattle.weak_intern.specs.declared.looking.Sight.{Sight}
 use Rattle.weak_intern.specs.declared.looking.Sight.TheVariants as sight
-use Rattle.weak_intern.specs.Learning.{LearnsIn}
-use Rattle.weak_intern.specs.Steps.{AtStep, Leaves, with_found}
+use Rattle.directory_calls.specs.Learning.{LearnsIn}
+use Rattle.directory_calls.specs.Steps.{AtStep, Leaves, with_found}
 use Rattle.weak_intern.specs.declared.walking.Walk.{Walk}
 use Rattle.weak_intern.specs.declared.walking.Walk.TheVariants as walk
 use Rattle.weak_intern.specs.Walking.{ComesTo, EndsAround, Meets, met, taken, used_by}
-use Rattle.weak_intern.proofs.Going.{at_step, from_earlier, holds_by, leaves_as, leaves_core, leaves_none, leaves_then, seat_same}
-use Rattle.weak_intern.proofs.Learnt.{passes_still, walked_still}
-use Rattle.weak_intern.proofs.Parts.{LearnsBy, Place, lifts, part_none, tells, zero_then}
+use Rattle.directory_calls.proofs.Going.{at_step, from_earlier, holds_by, leaves_as, leaves_core, leaves_none, leaves_then, seat_same}
+use Rattle.directory_calls.proofs.Learnt.{passes_still, walked_still}
+use Rattle.directory_calls.proofs.Parts.{LearnsBy, Place, lifts, part_none, tells, zero_then}
 
 -- A LAST LOOK
 module _ {P V : Type 0} (fits : List ℕ → Type 0) (d : DomainState P) (l : Place V) (z : Area)

@@ -13,13 +13,13 @@ use Rattle.directory_law.specs.Cells.{Area}
 use Rattle.directory_law.specs.Law.{IsBound, NoneBound}
 use Rattle.weak_intern.specs.declared.walking.Walk.{Walk}
 use Rattle.weak_intern.specs.declared.walking.Walk.TheVariants as walk
-use Rattle.weak_intern.specs.Directories.{CanCount, HasNoRecord}
+use Rattle.directory_calls.specs.Directories.{CanCount, HasNoRecord}
 use Rattle.weak_intern.specs.Interning.{Interns, Places}
-use Rattle.weak_intern.specs.Steps.{AtStep, GoesOn, Leaves, with_found}
+use Rattle.directory_calls.specs.Steps.{AtStep, GoesOn, Leaves, with_found}
 use Rattle.weak_intern.specs.Walking.{ComesTo, used_by, walked_by}
 use Rattle.weak_intern.proofs.Answered.{is_record, is_record_after, no_record}
-use Rattle.weak_intern.proofs.Going.{from_earlier, holds_by, leaves_as, leaves_then, seat_same, some_earlier, to_later}
-use Rattle.weak_intern.proofs.Parts.{LearnsBy, Place}
+use Rattle.directory_calls.proofs.Going.{from_earlier, holds_by, leaves_as, leaves_then, seat_same, some_earlier, to_later}
+use Rattle.directory_calls.proofs.Parts.{LearnsBy, Place}
 use Rattle.weak_intern.proofs.Placed.{GrowsBy, grow_then, part_grows}
 
 -- the live record that the walk came to

@@ -1,6 +1,3 @@
-pub mod Going
-pub mod Learnt
-pub mod Parts
 pub mod Seen
 pub mod Raised
 pub mod Compared

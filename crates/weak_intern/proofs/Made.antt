@@ -35,9 +35,9 @@ use Rattle.directory_law.specs.Steps.{life_in, life_of, payload_in, payload_of}
 use Rattle.directory_law.specs.Views.{rope}
 use Rattle.directory_protocol.specs.Keeping.{MindsNone}
 use Rattle.weak_intern.specs.Interning.{candidate_in, with_noted}
-use Rattle.weak_intern.specs.Steps.{Leaves, handle_by, with_found}
-use Rattle.weak_intern.proofs.Going.{leaves_core, leaves_none}
-use Rattle.weak_intern.proofs.Parts.{Place, lift_ready, lifts, tells}
+use Rattle.directory_calls.specs.Steps.{Leaves, handle_by, with_found}
+use Rattle.directory_calls.proofs.Going.{leaves_core, leaves_none}
+use Rattle.directory_calls.proofs.Parts.{Place, lift_ready, lifts, tells}
 
 -- WHAT A SEAT HAS it knows by its own part
 module _ {V : Type 0} (s : SlotId) (seat : SeatState V)

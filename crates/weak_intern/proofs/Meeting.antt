@@ -22,12 +22,12 @@ use Rattle.directory_law.specs.Views.{In, note}
 use Rattle.weak_intern.specs.declared.looking.Sight.{Sight}
 use Rattle.weak_intern.specs.declared.looking.Sight.TheVariants as sight
 use Rattle.weak_intern.specs.Seeing.{BeginsText, HasSeenAt, HasSeenIn, Sees, seen_in}
-use Rattle.weak_intern.specs.Steps.{AtStep, Leaves, with_found}
+use Rattle.directory_calls.specs.Steps.{AtStep, Leaves, with_found}
 use Rattle.weak_intern.specs.Walking.{Meets, MeetsIn}
-use Rattle.weak_intern.proofs.Going.{also, from_earlier, holds_by, leaves_as, leaves_less, leaves_then, seat_same}
+use Rattle.directory_calls.proofs.Going.{also, from_earlier, holds_by, leaves_as, leaves_less, leaves_then, seat_same}
 use Rattle.weak_intern.proofs.Heads.{short_text}
-use Rattle.weak_intern.proofs.Learnt.{walked_still}
-use Rattle.weak_intern.proofs.Parts.{LearnsBy, Place}
+use Rattle.directory_calls.proofs.Learnt.{walked_still}
+use Rattle.directory_calls.proofs.Parts.{LearnsBy, Place}
 
 -- a test that failed
 pub is_not : (b : Bool) → b ≡ false → b ≡ true → ⊥

@@ -21,14 +21,14 @@ use Rattle.directory_law.specs.Views.{rope}
 use Rattle.directory_law.specs.Walks.{Passes}
 use Rattle.weak_intern.specs.declared.looking.Sight.{Sight}
 use Rattle.weak_intern.specs.declared.looking.Sight.TheVariants as sight
-use Rattle.weak_intern.specs.Directories.{CanCount}
+use Rattle.directory_calls.specs.Directories.{CanCount}
 use Rattle.weak_intern.specs.Interning.{Binds, ComesBy, Grows, GrowsIn, HasNotedLast, HasPassed, Places, candidate_in, placed_by}
-use Rattle.weak_intern.specs.Learning.{Learns, LearnsIn}
-use Rattle.weak_intern.specs.Steps.{Leaves, with_found}
+use Rattle.directory_calls.specs.Learning.{Learns, LearnsIn}
+use Rattle.directory_calls.specs.Steps.{Leaves, with_found}
 use Rattle.weak_intern.specs.Walking.{Meets, found_by, met, taken}
-use Rattle.weak_intern.proofs.Going.{from_earlier, holds_by, leaves_as, leaves_none, leaves_then, seat_same, some_earlier}
-use Rattle.weak_intern.proofs.Learnt.{learns_keeps, passes_still}
-use Rattle.weak_intern.proofs.Parts.{LearnsBy, Place, part_none, zero_then}
+use Rattle.directory_calls.proofs.Going.{from_earlier, holds_by, leaves_as, leaves_none, leaves_then, seat_same, some_earlier}
+use Rattle.directory_calls.proofs.Learnt.{learns_keeps, passes_still}
+use Rattle.directory_calls.proofs.Parts.{LearnsBy, Place, part_none, zero_then}
 
 -- MORE LEARNT, and more kept
 pub learns_grows : (n : ℕ) (v w : View) → Learns n v w → Grows n v w

@@ -35,12 +35,12 @@ use Rattle.directory_law.specs.Law.{IsBound}
 use Rattle.directory_law.specs.Lessons.{UpgradeReady, UpgradeTells, spent, starts_at, upgrade_next}
 use Rattle.directory_law.specs.Steps.{life_in, life_of, payload_in, payload_of, slot_in}
 use Rattle.directory_protocol.specs.Keeping.{KeepsAll, MindsNone}
-use Rattle.weak_intern.specs.Directories.{CanCount}
+use Rattle.directory_calls.specs.Directories.{CanCount}
 use Rattle.weak_intern.specs.Seeing.{BeginsText, HasSeenIn}
-use Rattle.weak_intern.specs.Steps.{AtStep, GoesOn, Leaves, handle_by, with_found}
+use Rattle.directory_calls.specs.Steps.{AtStep, GoesOn, Leaves, handle_by, with_found}
 use Rattle.weak_intern.specs.Walking.{raised_by}
-use Rattle.weak_intern.proofs.Going.{also, at_step, holds_by, leaves_as, leaves_core, leaves_less, leaves_none, leaves_then, to_later}
-use Rattle.weak_intern.proofs.Parts.{LearnsBy, Place, lift_learns, lift_ready, lifts, part_none, tells}
+use Rattle.directory_calls.proofs.Going.{also, at_step, holds_by, leaves_as, leaves_core, leaves_less, leaves_none, leaves_then, to_later}
+use Rattle.directory_calls.proofs.Parts.{LearnsBy, Place, lift_learns, lift_ready, lifts, part_none, tells}
 
 counts : (w : ℕ) → outcome.Up ≡ (if nat_lt w ZERO then outcome.Up else outcome.Dead)
     → ((if nat_lt w ZERO then 0 else 1) == 0) ≡ true

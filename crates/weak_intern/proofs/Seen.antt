@@ -38,10 +38,10 @@ use Rattle.directory_law.specs.Lessons.{SeeReady, SeeTells, see_next, sees}
 use Rattle.directory_law.specs.Steps.{LooksAt}
 use Rattle.directory_protocol.specs.Keeping.{MindsNone}
 use Rattle.weak_intern.specs.Seeing.{EndsAt, HasSeenAt, Sees, seen_in}
-use Rattle.weak_intern.specs.Steps.{AtStep, GoesOn, Leaves, with_found}
-use Rattle.weak_intern.proofs.Going.{at_step, from_earlier, leaves_core}
-use Rattle.weak_intern.proofs.Learnt.{learns_keeps, learns_none, see_learns, sees_learns, walked_still}
-use Rattle.weak_intern.proofs.Parts.{LearnsBy, Place, lift_learns, lift_ready, lifts, part_none, part_then, tells}
+use Rattle.directory_calls.specs.Steps.{AtStep, GoesOn, Leaves, with_found}
+use Rattle.directory_calls.proofs.Going.{at_step, from_earlier, leaves_core}
+use Rattle.directory_calls.proofs.Learnt.{learns_keeps, learns_none, see_learns, sees_learns, walked_still}
+use Rattle.directory_calls.proofs.Parts.{LearnsBy, Place, lift_learns, lift_ready, lifts, part_none, part_then, tells}
 
 abbrev looked : ℕ → List Move
 looked i = move (act.Look (WeakCell i)) (outcome.Found None) ∷ []

@@ -17,8 +17,8 @@ use Rattle.directory_law.specs.Making.{bound}
 use Rattle.directory_law.specs.Views.{In, rope}
 use Rattle.directory_law.specs.Walks.{Walked}
 use Rattle.directory_protocol.specs.Keeping.{KeepsAll}
-use Rattle.weak_intern.specs.Directories.{IsRecord}
-use Rattle.weak_intern.specs.Steps.{AfterStep, AtStep}
+use Rattle.directory_calls.specs.Directories.{IsRecord}
+use Rattle.directory_calls.specs.Steps.{AfterStep, AtStep}
 
 -- s as a rope that stands nowhere yet, of a text that has this head and no part
 abbrev pub candidate_in : {V : Type 0} → SlotId → List ℕ → SeatState V → Rope

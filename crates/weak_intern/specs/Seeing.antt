@@ -12,7 +12,7 @@ use Rattle.directory_law.specs.Views.{In}
 use Rattle.directory_law.specs.Cells.{Area, on}
 use Rattle.directory_law.specs.Law.{IsBound, NoneBound}
 use Rattle.directory_law.specs.Walks.{Walked}
-use Rattle.weak_intern.specs.Steps.{AtStep}
+use Rattle.directory_calls.specs.Steps.{AtStep}
 
 -- what the seat has in s, as a head that it saw in a cell
 abbrev pub seen_in : {V : Type 0} → ℕ → SlotId → SeatState V → Seen

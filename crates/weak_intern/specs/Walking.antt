@@ -15,9 +15,9 @@ use Rattle.weak_intern.specs.declared.looking.Sight.{Sight}
 use Rattle.weak_intern.specs.declared.looking.Sight.TheVariants as sight
 use Rattle.weak_intern.specs.declared.walking.Walk.{Walk}
 use Rattle.weak_intern.specs.declared.walking.Walk.TheVariants as walk
-use Rattle.weak_intern.specs.Directories.{HasNoRecord, IsRecord}
+use Rattle.directory_calls.specs.Directories.{HasNoRecord, IsRecord}
 use Rattle.weak_intern.specs.Seeing.{EndsAt, HasSeenAt}
-use Rattle.weak_intern.specs.Steps.{AtStep}
+use Rattle.directory_calls.specs.Steps.{AtStep}
 
 -- the record that a walk met, if it met one
 abbrev pub met : Sight → Option SlotId

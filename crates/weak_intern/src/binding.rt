@@ -4,18 +4,18 @@ ghost use Rattle.plain_state.specs.Lists.{times};
 ghost use Rattle.core_events.specs.Steps.{HasRoom};
 ghost use Rattle.control_word.specs.Resting.{IsAtRest, IsSpent};
 ghost use Rattle.domain_rule.specs.Views.{object_in};
-ghost use Rattle.weak_intern.specs.Directories.{CanCount, IsOver, area_of};
+ghost use Rattle.directory_calls.specs.Directories.{CanCount, IsOver, area_of};
 ghost use Rattle.weak_intern.specs.Interning.{Binds, ComesBy, HasNotedLast, candidate_in};
 ghost use Rattle.weak_intern.specs.Sought.{IsOne};
-ghost use Rattle.weak_intern.specs.Steps.{Leaves};
+ghost use Rattle.directory_calls.specs.Steps.{Leaves};
 
-use crate::directory::Directory;
 use crate::seeing::number;
 use crate::texts::Sought;
 use acquire_retire::{Domain, Seat};
 use atomic_weak::{WeakPlace, try_replace_weak};
 use control_word::{drop_weak, weaken};
 use counted_handles::{Spent, Strong, Weak};
+use directory_calls::Directory;
 use directory_protocol::{BindHead, DirectoryLaw, HasDirectory};
 use protocol_pairs::InPart;
 

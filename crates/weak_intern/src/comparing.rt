@@ -4,7 +4,7 @@ ghost use Rattle.core_events.specs.Steps.{HasRoom};
 ghost use Rattle.core_events.specs.Views.{Holds};
 ghost use Rattle.control_word.specs.Resting.{IsAtRest};
 ghost use Rattle.domain_rule.specs.Views.{object_in};
-ghost use Rattle.weak_intern.specs.Steps.{Leaves};
+ghost use Rattle.directory_calls.specs.Steps.{Leaves};
 
 use acquire_retire::{Domain, Seat, SlotId};
 use plain_protocol::Protocol;

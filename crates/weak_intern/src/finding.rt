@@ -3,16 +3,16 @@ ghost use Rattle.std.specs.Prelude.{◌≤◌, IfOk, IsErr, length};
 ghost use Rattle.core_events.specs.Steps.{HasRoom};
 ghost use Rattle.atomic_weak.specs.Places.{named};
 ghost use Rattle.control_word.specs.Resting.{IsAtRest, IsSpent};
-ghost use Rattle.weak_intern.specs.Directories.{HasQuota, IsOver, area_of};
-ghost use Rattle.weak_intern.specs.Learning.{LearnsIn};
-ghost use Rattle.weak_intern.specs.Steps.{Leaves, with_found};
+ghost use Rattle.directory_calls.specs.Directories.{HasQuota, IsOver, area_of};
+ghost use Rattle.directory_calls.specs.Learning.{LearnsIn};
+ghost use Rattle.directory_calls.specs.Steps.{Leaves, with_found};
 ghost use Rattle.weak_intern.specs.Walking.{Finds, found_by};
 
-use crate::directory::Directory;
 use crate::texts::sought_of;
 use crate::walking::{Walk, seek};
 use acquire_retire::{Domain, Seat};
 use counted_handles::{Spent, Strong};
+use directory_calls::Directory;
 use directory_protocol::HasDirectory;
 use std::sync::Wait;
 

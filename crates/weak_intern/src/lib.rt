@@ -25,7 +25,6 @@
 
 mod binding;
 mod comparing;
-mod directory;
 mod finding;
 mod interning;
 mod looking;
@@ -37,7 +36,7 @@ mod texts;
 mod walking;
 
 pub use comparing::is_payload;
-pub use directory::Directory;
+pub use directory_calls::Directory;
 pub use finding::find;
 pub use interning::intern;
 pub use seeing::{raise, see};

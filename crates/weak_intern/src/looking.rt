@@ -4,18 +4,18 @@ ghost use Rattle.plain_state.specs.Lists.{times};
 ghost use Rattle.core_events.specs.Steps.{HasRoom};
 ghost use Rattle.core_events.specs.Views.{without};
 ghost use Rattle.control_word.specs.Resting.{IsAtRest, IsSpent};
-ghost use Rattle.weak_intern.specs.Directories.{CanCount, IsOver, area_of};
-ghost use Rattle.weak_intern.specs.Learning.{LearnsIn};
+ghost use Rattle.directory_calls.specs.Directories.{CanCount, IsOver, area_of};
+ghost use Rattle.directory_calls.specs.Learning.{LearnsIn};
 ghost use Rattle.weak_intern.specs.Seeing.{HasSeenIn};
-ghost use Rattle.weak_intern.specs.Steps.{Leaves, with_found};
+ghost use Rattle.directory_calls.specs.Steps.{Leaves, with_found};
 ghost use Rattle.weak_intern.specs.Walking.{Meets, MeetsIn, met_by, taken_by};
 
 use crate::comparing::is_payload;
-use crate::directory::Directory;
 use crate::seeing::{raise, see};
 use acquire_retire::{Domain, Seat};
 use control_word::{UpgradeError, drop_weak};
 use counted_handles::{Spent, Strong, Weak};
+use directory_calls::Directory;
 use directory_protocol::HasDirectory;
 use std::sync::Wait;
 

@@ -9,7 +9,7 @@ ghost use Rattle.slot_store.specs.Calls.{HasNoMake};
 ghost use Rattle.slot_store.specs.Searching.{Misses};
 ghost use Rattle.weak_intern.specs.Interning.{candidate_in, with_noted};
 ghost use Rattle.weak_intern.specs.Sought.{IsOne};
-ghost use Rattle.weak_intern.specs.Steps.{Leaves, handle_by, with_found};
+ghost use Rattle.directory_calls.specs.Steps.{Leaves, handle_by, with_found};
 
 use crate::texts::Sought;
 use acquire_retire::{Domain, Seat};

@@ -1,7 +1,7 @@
 ghost use Rattle.std.specs.Prelude.{◌≡◌, ◌<◌, IfOk};
 ghost use Rattle.core_events.specs.Steps.{HasRoom};
 ghost use Rattle.control_word.specs.Resting.{IsAtRest};
-ghost use Rattle.weak_intern.specs.Directories.{HasQuota};
+ghost use Rattle.directory_calls.specs.Directories.{HasQuota};
 
 use crate::{Directory, cell_on, find, hash_of, intern, see};
 use acquire_retire::{Domain, OpenError, Quota, Seat, Shape, open_domain};

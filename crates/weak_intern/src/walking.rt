@@ -2,18 +2,18 @@
 ghost use Rattle.std.specs.Prelude.{◌≡◌, IfOk, IsErr};
 ghost use Rattle.core_events.specs.Steps.{HasRoom};
 ghost use Rattle.control_word.specs.Resting.{IsAtRest, IsSpent};
-ghost use Rattle.weak_intern.specs.Directories.{CanCount, IsOver, area_of};
-ghost use Rattle.weak_intern.specs.Learning.{LearnsIn};
+ghost use Rattle.directory_calls.specs.Directories.{CanCount, IsOver, area_of};
+ghost use Rattle.directory_calls.specs.Learning.{LearnsIn};
 ghost use Rattle.weak_intern.specs.Sought.{IsOne};
-ghost use Rattle.weak_intern.specs.Steps.{Leaves, with_found};
+ghost use Rattle.directory_calls.specs.Steps.{Leaves, with_found};
 ghost use Rattle.weak_intern.specs.Walking.{ComesTo, EndsAround, used_by, walked_by};
 
-use crate::directory::Directory;
 use crate::looking::{Sight, look};
 use crate::seeing::number;
 use crate::texts::{Sought, cell_on};
 use acquire_retire::{Domain, EventPlace, Seat};
 use counted_handles::{Spent, Strong};
+use directory_calls::Directory;
 use directory_protocol::{DirectoryLaw, HasDirectory, LookAtCell};
 use protocol_pairs::InPart;
 use std::sync::Wait;

@@ -1,7 +1,7 @@
 use Rattle.std.proofs.Common.{◌∙◌, arith, sym}
-use Rattle.weak_intern.specs.Directories.{area_of}
+use Rattle.directory_calls.specs.Directories.{area_of}
 use Rattle.weak_intern.proofs.Bound.{bound_after, bound_client, bound_leaves, lost_client, lost_leaves, ready}
-use Rattle.weak_intern.proofs.Parts.{place_of}
+use Rattle.directory_calls.proofs.Parts.{place_of}
 use Rattle.weak_intern.proofs.binding.bind.Goals as goal
 
 pub try_replace_weak-requires-clause-deed : goal.try_replace_weak-requires-clause-deed

@@ -1,4 +1,4 @@
-use Rattle.weak_intern.specs.Directories.{area_of}
+use Rattle.directory_calls.specs.Directories.{area_of}
 use Rattle.weak_intern.proofs.Answered.{came_to_none}
 use Rattle.weak_intern.proofs.finding.find.Goals as goal
 

@@ -1,8 +1,8 @@
 use Rattle.std.proofs.Common.{ap, ◌∙◌, Some, None}
 use Rattle.std.specs.Prelude.{Ok}
-use Rattle.weak_intern.specs.Directories.{area_of}
+use Rattle.directory_calls.specs.Directories.{area_of}
 use Rattle.weak_intern.proofs.Added.{dropped, dropped_leaves, dropped_places, err_grows, err_leaves, noted_made, ok_grows, ok_leaves, ok_places, owned_then, passed_made, quota_made}
-use Rattle.weak_intern.proofs.Parts.{place_of}
+use Rattle.directory_calls.proofs.Parts.{place_of}
 use Rattle.weak_intern.proofs.Placed.{grows_as}
 use Rattle.weak_intern.proofs.interning.add.Goals as goal
 

@@ -1,10 +1,10 @@
 use Rattle.std.proofs.Common.{ap, ◌∙◌}
 use Rattle.std.specs.Prelude.{Ok}
-use Rattle.weak_intern.specs.Directories.{area_of}
+use Rattle.directory_calls.specs.Directories.{area_of}
 use Rattle.weak_intern.specs.Interning.{interned_by}
-use Rattle.weak_intern.specs.Steps.{handle_by}
+use Rattle.directory_calls.specs.Steps.{handle_by}
 use Rattle.weak_intern.proofs.Interned.{absent_learns, absent_leaves, absent_none, added_grows, added_leaves, added_none, all_interns}
-use Rattle.weak_intern.proofs.Parts.{place_of}
+use Rattle.directory_calls.proofs.Parts.{place_of}
 use Rattle.weak_intern.proofs.interning.intern.Goals as goal
 
 pub returns-in-Ok-Absent-clause-interns : goal.returns-in-Ok-Absent-clause-interns

@@ -1,8 +1,8 @@
 use Rattle.std.proofs.Common.{arith, None}
 use Rattle.std.proofs.lemmas.Result.{err_from_is_err_and}
-use Rattle.weak_intern.specs.Directories.{area_of}
+use Rattle.directory_calls.specs.Directories.{area_of}
 use Rattle.weak_intern.proofs.Found.{at_cell}
-use Rattle.weak_intern.proofs.Parts.{place_of}
+use Rattle.directory_calls.proofs.Parts.{place_of}
 use Rattle.weak_intern.proofs.Placed.{bound_places, enter_leaves, enters_lost, found_places, not_bound, null_on, other_on, record_leaves, refused_grows, refused_leaves, same_learns}
 use Rattle.weak_intern.proofs.interning.place.Goals as goal
 

@@ -1,4 +1,4 @@
-use Rattle.weak_intern.specs.Directories.{area_of}
+use Rattle.directory_calls.specs.Directories.{area_of}
 use Rattle.weak_intern.proofs.Placed.{Enters}
 use Rattle.weak_intern.proofs.interning.place.Given as goal
 

@@ -1,6 +1,6 @@
-use Rattle.weak_intern.specs.Directories.{area_of}
+use Rattle.directory_calls.specs.Directories.{area_of}
 use Rattle.weak_intern.specs.Walking.{met_by, taken_by}
-use Rattle.weak_intern.proofs.Parts.{place_of, zero_then}
+use Rattle.directory_calls.proofs.Parts.{place_of, zero_then}
 use Rattle.weak_intern.proofs.Meeting.{held_there, look_leaves, look_met, saw_owned, saw_there}
 use Rattle.weak_intern.proofs.looking.look.Goals as goal
 

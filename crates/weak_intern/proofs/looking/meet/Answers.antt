@@ -1,8 +1,8 @@
 use Rattle.std.proofs.Common.{ap, sym, ◌∙◌, Some, None}
 use Rattle.std.specs.Prelude.{Err}
 use Rattle.domain_rule.specs.Views.{object_in}
-use Rattle.weak_intern.specs.Directories.{area_of}
-use Rattle.weak_intern.proofs.Parts.{place_of}
+use Rattle.directory_calls.specs.Directories.{area_of}
+use Rattle.directory_calls.proofs.Parts.{place_of}
 use Rattle.weak_intern.proofs.Meeting.{ended_met, is_not, met_leaves, other_leaves, other_met, record_met, seen_still}
 use Rattle.weak_intern.proofs.looking.meet.Goals as goal
 

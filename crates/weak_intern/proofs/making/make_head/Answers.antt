@@ -1,6 +1,6 @@
-use Rattle.weak_intern.specs.Directories.{area_of}
+use Rattle.directory_calls.specs.Directories.{area_of}
 use Rattle.weak_intern.proofs.Made.{head_ready, made_all, made_leaves}
-use Rattle.weak_intern.proofs.Parts.{place_of}
+use Rattle.directory_calls.proofs.Parts.{place_of}
 use Rattle.weak_intern.proofs.making.make_head.Goals as goal
 
 pub make-requires-clause-fits : goal.make-requires-clause-fits

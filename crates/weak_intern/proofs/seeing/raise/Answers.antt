@@ -1,7 +1,7 @@
 use Rattle.std.proofs.Common.{ap, sym, subst}
-use Rattle.weak_intern.specs.Directories.{CanCount, area_of}
+use Rattle.directory_calls.specs.Directories.{CanCount, area_of}
 use Rattle.weak_intern.specs.Walking.{raised_by}
-use Rattle.weak_intern.proofs.Parts.{part_as, place_of}
+use Rattle.directory_calls.proofs.Parts.{part_as, place_of}
 use Rattle.weak_intern.proofs.Raised.{raised_ended, raised_learns, raised_leaves, raised_live, ready}
 use Rattle.weak_intern.proofs.seeing.raise.Goals as goal
 

@@ -1,6 +1,6 @@
 use Rattle.std.proofs.Common.{ap, sym, subst, ◌∙◌, ◌<◌, Some, None}
-use Rattle.weak_intern.specs.Directories.{area_of}
-use Rattle.weak_intern.proofs.Parts.{place_of}
+use Rattle.directory_calls.specs.Directories.{area_of}
+use Rattle.directory_calls.proofs.Parts.{place_of}
 use Rattle.weak_intern.proofs.Seen.{after_load, ready}
 use Rattle.weak_intern.proofs.seeing.see.Goals as goal
 

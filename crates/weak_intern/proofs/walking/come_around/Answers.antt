@@ -1,6 +1,6 @@
-use Rattle.weak_intern.specs.Directories.{area_of}
+use Rattle.directory_calls.specs.Directories.{area_of}
 use Rattle.weak_intern.proofs.Found.{around_client, around_ends, around_leaves, around_rest}
-use Rattle.weak_intern.proofs.Parts.{place_of}
+use Rattle.directory_calls.proofs.Parts.{place_of}
 use Rattle.weak_intern.proofs.walking.come_around.Goals as goal
 
 pub returns-clause-ends : goal.returns-clause-ends

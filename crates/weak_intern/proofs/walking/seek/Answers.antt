@@ -1,8 +1,8 @@
 use Rattle.std.proofs.Common.{arith}
 use Rattle.std.proofs.lemmas.Result.{err_from_is_err_and}
-use Rattle.weak_intern.specs.Directories.{area_of}
+use Rattle.directory_calls.specs.Directories.{area_of}
 use Rattle.weak_intern.proofs.Found.{around_found, at_cell, null_found, null_leaves, other_passed, record_found, record_leaves, refused_learns}
-use Rattle.weak_intern.proofs.Parts.{place_of}
+use Rattle.directory_calls.proofs.Parts.{place_of}
 use Rattle.weak_intern.proofs.walking.seek.Goals as goal
 
 pub returns-in_err-look-clause-learns : goal.returns-in_err-look-clause-learns

@@ -1,4 +1,4 @@
-use Rattle.weak_intern.specs.Directories.{area_of}
+use Rattle.directory_calls.specs.Directories.{area_of}
 use Rattle.weak_intern.proofs.Found.{Walks}
 use Rattle.weak_intern.proofs.walking.seek.Given as goal
 

@@ -8,8 +8,8 @@ use Rattle.protocol_pairs.specs.Parts.{Accepts, Frees, PutsBack, PutsOver, Reads
 use Rattle.protocol_pairs.specs.Spared.{IsWithin}
 use Rattle.directory_law.specs.declared.view.View.{View}
 use Rattle.directory_protocol.specs.Keeping.{KeepsAll, MindsNone}
-use Rattle.weak_intern.specs.Learning.{Learns, LearnsIn}
-use Rattle.weak_intern.proofs.Learnt.{learns_none, learns_then}
+use Rattle.directory_calls.specs.Learning.{Learns, LearnsIn}
+use Rattle.directory_calls.proofs.Learnt.{learns_none, learns_then}
 
 -- how a view has that of a directory
 pub record Place (V : Type 0) : Type 0 where

@@ -14,7 +14,7 @@ use Rattle.directory_law.specs.Lessons.{see_next, sees}
 use Rattle.directory_law.specs.Steps.{id}
 use Rattle.directory_law.specs.Walks.{IsOther, Passes, Walked}
 use Rattle.directory_protocol.specs.Keeping.{KeepsAll}
-use Rattle.weak_intern.specs.Learning.{Learns}
+use Rattle.directory_calls.specs.Learning.{Learns}
 
 pub learns_none : (v : View) → Learns 0 v v
 learns_none v = record {

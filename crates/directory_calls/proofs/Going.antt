@@ -24,7 +24,7 @@ use Rattle.domain_rule.specs.Views.{object_in}
 use Rattle.acquire_retire.specs.Calls.{Steps}
 use Rattle.acquire_retire.specs.Domains.{DomainState}
 use Rattle.acquire_retire.specs.Seats.{SeatState}
-use Rattle.weak_intern.specs.Steps.{AtSome, AtStep, GoesOn, Leaves, aside}
+use Rattle.directory_calls.specs.Steps.{AtSome, AtStep, GoesOn, Leaves, aside}
 
 -- TRAILS
 pub goes_none : (v w : CoreView) → w.trail ≡ v.trail → GoesOn v w

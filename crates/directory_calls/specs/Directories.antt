@@ -10,7 +10,7 @@ use Rattle.directory_law.specs.Cells.{Area, area}
 use Rattle.directory_law.specs.Law.{IsBound, NoneBound}
 use Rattle.directory_law.specs.Lessons.{spent}
 use Rattle.directory_protocol.specs.declared.law.DirectoryLaw.{DirectoryLaw}
-pub use Rattle.weak_intern.specs.declared.directory.Directory.{Directory}
+pub use Rattle.directory_calls.specs.declared.directory.Directory.{Directory}
 
 -- the directory whose law this is
 abbrev pub area_of : DirectoryLaw → Area
