@@ -12,7 +12,7 @@ use Rattle.core_events.specs.Views.{Terms}
 use Rattle.core_events.specs.declared.shape.Quota.{Quota}
 use Rattle.core_events.specs.Runs.{AreTerms, IsShape}
 use Rattle.core_events.specs.Words.{each_from}
-use Rattle.core_events.specs.Words.{first_words, word_count}
+use Rattle.core_events.specs.Words.{first_words, slot_at, word_count}
 use Rattle.core_invariant.proofs.Starts.{start_sound}
 use Rattle.core_shows.proofs.Lists.{each_push}
 use Rattle.domain_rule.specs.declared.view.SeatView.{SeatView}
@@ -32,19 +32,22 @@ same_terms a b g h quotas grants = λ i. record { quotas = quotas i; grants = gr
 
 -- a table with the first words is one of a domain
 pub begun_domain : (z : Shape) (ts kept : Terms) (table : TableId) (key : Shape)
-    (words grants : List ℕ) → IsShape z → AreTerms z ts → key ≡ z → kept ≡ ts
-    → grants ≡ ts.grants → words ≡ first_words z → table.words ≡ length words → table.slots ≡ 0
-    → IsDomain table key kept (record { shape = z; grants = grants })
-begun_domain z ts kept table key words grants shape terms same same_terms own are count none = record {
-  shape = subst IsShape (sym same) shape;
-  terms = subst (λ (t : Shape × Terms). AreTerms t.0 t.1)
-      (λ i. (sym same i, sym same_terms i)) terms;
-  same = sym same;
-  grants = own ∙ sym (ap (λ (t : Terms). t.grants) same_terms);
-  words = subst (λ (y : Shape). table.words ≡ word_count y) (sym same)
-      (count ∙ (ap length are ∙ (start_sound z ts shape terms).words));
-  slots = none;
-}
+    (words grants : List ℕ) (first : ℕ) → IsShape z → AreTerms z ts → key ≡ z → kept ≡ ts
+    → grants ≡ ts.grants → first ≡ slot_at z 0 → words ≡ first_words z
+    → table.words ≡ length words → table.slots ≡ 0
+    → IsDomain table key kept (record { shape = z; first_slot = first; grants = grants })
+begun_domain z ts kept table key words grants first shape terms same same_terms own at are count
+    none = record {
+      shape = subst IsShape (sym same) shape;
+      terms = subst (λ (t : Shape × Terms). AreTerms t.0 t.1)
+          (λ i. (sym same i, sym same_terms i)) terms;
+      same = sym same;
+      first = at ∙ ap (λ (y : Shape). slot_at y 0) (sym same);
+      grants = own ∙ sym (ap (λ (t : Terms). t.grants) same_terms);
+      words = subst (λ (y : Shape). table.words ≡ word_count y) (sym same)
+          (count ∙ (ap length are ∙ (start_sound z ts shape terms).words));
+      slots = none;
+    }
 
 -- and the rule holds of it
 pub begun_kept : {V : Type 0} (law : Plain → List V → Type 0) (first : ℕ → V)

@@ -9,7 +9,7 @@ ghost use Rattle.acquire_retire.specs.Calls.{IsOf, IsReady, IsSameView, Steps, s
 use crate::domain::Domain;
 use crate::seat::Seat;
 use core_events::{Act, Kind, Outcome, Phase, SlotId};
-use core_functions::{counter_index, given_up, slot_index};
+use core_functions::given_up;
 use counter_word::{HELP, ZERO, has_help, value};
 use plain_protocol::{Deed, Protocol, Still};
 use std::marker::Brand;
@@ -35,7 +35,7 @@ impl<P: Protocol> Domain<P> {
         ensures { Steps P.Kind.fits self.now (D.next deed self.now.protocol)
             (D.allows deed self.now.protocol) (act.Add slot) seat.old seat.new result }
     {
-        let word = slot_index(&self.shape, slot);
+        let word = self.slot_word(slot);
         let found = self.fetch_add_as::<D, Brand>(&mut seat.seat, Act::Add(slot), deed, word, 1);
         seat.adds += 1;
         added(found)
@@ -49,7 +49,7 @@ impl<P: Protocol> Domain<P> {
         ensures { Steps P.Kind.fits self.now same_view IsSameView (act.Drop slot)
             seat.old seat.new result }
     {
-        let word = slot_index(&self.shape, slot);
+        let word = self.slot_word(slot);
         let found = self.fetch_sub_as::<Still, Brand>(&mut seat.seat, Act::Drop(slot), Still, word);
         let (phase, outcome) = given_up(Kind::Strong, slot, found);
         seat.phase = phase;
@@ -66,7 +66,7 @@ impl<P: Protocol> Domain<P> {
         let Some((kind, slot)) = seat.batch.next_owed() else {
             return Outcome::Left;
         };
-        let word = counter_index(&self.shape, kind, slot);
+        let word = self.counter_word(kind, slot);
         let found = self.fetch_sub_as::<Still, Brand>(&mut seat.seat, Act::Pay, Still, word);
         let (phase, outcome) = given_up(kind, slot, found);
         seat.phase = phase;
@@ -81,10 +81,11 @@ impl<P: Protocol> Domain<P> {
         ensures { Steps P.Kind.fits self.now same_view IsSameView act.Finish
             seat.old seat.new result }
     {
+        let _sizes = &self.shape;
         let Phase::Finish(slot) = seat.phase else {
             unreachable!()
         };
-        let word = slot_index(&self.shape, slot);
+        let word = self.slot_word(slot);
         let found = self.compare_exchange_as::<Still, Brand>(
             &mut seat.seat,
             Act::Finish,
@@ -113,10 +114,11 @@ impl<P: Protocol> Domain<P> {
         ensures { Steps P.Kind.fits self.now same_view IsSameView act.Take
             seat.old seat.new result }
     {
+        let _sizes = &self.shape;
         let Phase::Help(slot) = seat.phase else {
             unreachable!()
         };
-        let word = slot_index(&self.shape, slot);
+        let word = self.slot_word(slot);
         let found = self.fetch_and_as::<Still, Brand>(
             &mut seat.seat,
             Act::Take,
@@ -142,7 +144,7 @@ impl<P: Protocol> Domain<P> {
         ensures { Steps P.Kind.fits self.now (D.next deed self.now.protocol)
             (D.allows deed self.now.protocol) (act.Count slot) seat.old seat.new result }
     {
-        let word = slot_index(&self.shape, slot);
+        let word = self.slot_word(slot);
         let found = self.load_as::<D, Brand>(&mut seat.seat, Act::Count(slot), deed, word);
         if found == 0 {
             seat.phase = Phase::Zero(slot);
@@ -163,7 +165,7 @@ impl<P: Protocol> Domain<P> {
         let Phase::Zero(slot) = seat.phase else {
             unreachable!()
         };
-        let word = slot_index(&self.shape, slot);
+        let word = self.slot_word(slot);
         let found = self.compare_exchange_as::<D, Brand>(
             &mut seat.seat,
             Act::Mark,

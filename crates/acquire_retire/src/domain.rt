@@ -11,6 +11,8 @@ use std::marker::Model;
 pub struct Domain<P: Protocol> {
     pub(crate) table: Table<(), SeatView<P::View>, Charter<P>, DomainRule<P>, Global>,
     pub(crate) shape: Shape,
+    /// The word at which the words of slot 0 begin.
+    pub(crate) first_slot: usize,
     /// How many makes each ticket grants.
     pub(crate) grants: Vec<u64>,
 }
@@ -35,5 +37,5 @@ impl<P: Protocol> Model for Domain<P> {
         (record {
           quotas = d.table.shared.key.quotas.items;
           grants = d.table.shared.key.grants.items;
-        }) (record { shape = d.shape; grants = d.grants.items }) };
+        }) (record { shape = d.shape; first_slot = d.first_slot; grants = d.grants.items }) };
 }

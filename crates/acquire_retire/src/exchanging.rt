@@ -8,7 +8,7 @@ use crate::domain::Domain;
 use crate::seat::Seat;
 use crate::splitting::retire;
 use core_events::{Act, EventPlace, Outcome, SlotId};
-use core_functions::{found_in, held_as, kind_of, place_index};
+use core_functions::{found_in, held_as, kind_of};
 use plain_protocol::{Deed, Protocol};
 use std::marker::Brand;
 
@@ -29,7 +29,8 @@ impl<P: Protocol> Domain<P> {
         ensures { Steps P.Kind.fits self.now (D.next deed self.now.protocol)
             (D.allows deed self.now.protocol) (act.Swap place new) seat.old seat.new result }
     {
-        let at = place_index(&self.shape, place);
+        let _sizes = &self.shape;
+        let at = self.place_word(place);
         let word = held_as(new);
         let found = self.swap_as::<D, Brand>(&mut seat.seat, Act::Swap(place, new), deed, at, word);
         let old = found_in(found);
@@ -53,7 +54,8 @@ impl<P: Protocol> Domain<P> {
         ensures { Steps P.Kind.fits self.now (D.next deed self.now.protocol)
             (D.allows deed self.now.protocol) (act.Cas place old new) seat.old seat.new result }
     {
-        let at = place_index(&self.shape, place);
+        let _sizes = &self.shape;
+        let at = self.place_word(place);
         let expected = held_as(old);
         let word = held_as(new);
         let found = self.compare_exchange_as::<D, Brand>(

@@ -11,7 +11,7 @@ ghost use Rattle.acquire_retire.specs.Calls.{IsOf, IsReady, IsSameView, Steps, s
 use crate::domain::Domain;
 use crate::seat::Seat;
 use core_events::{Act, Kind, Outcome, Phase, SlotId};
-use core_functions::{bit_alone, bits_index, counter_index, has_bit, payload_index, slot_index};
+use core_functions::{bit_alone, has_bit};
 use plain_protocol::{Deed, Protocol, Still};
 use std::marker::Brand;
 
@@ -24,7 +24,7 @@ impl<P: Protocol> Domain<P> {
         ensures { Steps P.Kind.fits self.now same_view IsSameView (act.Claim slot)
             seat.old seat.new result }
     {
-        let word = bits_index(&self.shape, slot);
+        let word = self.bits_word(slot);
         let mask = !bit_alone(slot);
         let found = self.fetch_and_as::<Still, Brand>(
             &mut seat.seat,
@@ -51,7 +51,7 @@ impl<P: Protocol> Domain<P> {
         let Phase::Bare(slot) = seat.phase else {
             unreachable!()
         };
-        let word = counter_index(&self.shape, Kind::Weak, slot);
+        let word = self.counter_word(Kind::Weak, slot);
         self.store_as::<Still, Brand>(&mut seat.seat, Act::Arm, Still, word, 1);
         seat.phase = Phase::Blank(slot);
         Outcome::Plain
@@ -67,7 +67,18 @@ impl<P: Protocol> Domain<P> {
         let Phase::Blank(slot) = seat.phase else {
             unreachable!()
         };
-        let at = payload_index(&self.shape, slot, index);
+        self.fill_in(seat, slot, index, word)
+    }
+
+    /// The same of the slot that the seat fills, named by the caller, so that where the word stands needn't be read.
+    pub fn fill_in(&self, seat: &mut Seat<P>, slot: SlotId, index: u32, word: u64) -> Outcome
+        requires seat { IsOf self.now seat.old }
+        requires may { May self.now.shape (act.Fill index word) seat.old.view.core }
+        requires blank { seat.old.view.core.phase ≡ phase.Blank slot }
+        ensures { Steps P.Kind.fits self.now same_view IsSameView (act.Fill index word) seat.old
+            seat.new result }
+    {
+        let at = self.payload_word(slot, index);
         self.store_as::<Still, Brand>(&mut seat.seat, Act::Fill(index, word), Still, at, word);
         Outcome::Plain
     }
@@ -87,7 +98,7 @@ impl<P: Protocol> Domain<P> {
         let Phase::Blank(slot) = seat.phase else {
             unreachable!()
         };
-        let word = slot_index(&self.shape, slot);
+        let word = self.slot_word(slot);
         self.store_as::<D, Brand>(&mut seat.seat, Act::Start, deed, word, 1);
         seat.adds += 1;
         seat.phase = Phase::Idle;
@@ -101,7 +112,7 @@ impl<P: Protocol> Domain<P> {
         ensures { Steps P.Kind.fits self.now same_view IsSameView (act.See slot index) seat.old
             seat.new result }
     {
-        let at = payload_index(&self.shape, slot, index);
+        let at = self.payload_word(slot, index);
         let found = self.load_as::<Still, Brand>(&mut seat.seat, Act::See(slot, index), Still, at);
         Outcome::Word(found)
     }

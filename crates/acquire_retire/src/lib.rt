@@ -35,6 +35,7 @@ mod image;
 mod leaving;
 mod opening;
 mod payment;
+mod places;
 mod protecting;
 mod reading;
 mod seat;

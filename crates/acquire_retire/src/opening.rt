@@ -15,8 +15,8 @@ use crate::errors::OpenError;
 use crate::seat::{Seat, SeatOf};
 use crate::site::Site;
 use atomic_table::{Split, Table};
-use core_events::{Note, Phase, Quota, Shape};
-use core_functions::{first_bad, first_words};
+use core_events::{Note, Phase, Quota, Shape, SlotId};
+use core_functions::{first_bad, first_words, slot_index};
 use domain_rule::{Charter, SeatView};
 use dying_slots::Dying;
 use eject_scan::Seen;
@@ -101,6 +101,7 @@ impl<P: Protocol> Domain<P> {
         ensures root { IfOk result (λ r. IsFirst (P.first protocol) r.0 1 r.1) }
     {
         let words = first_words(alloc, &shape)?;
+        let first_slot = slot_index(&shape, SlotId(0));
         let charter = Charter {
             protocol,
             shape,
@@ -113,6 +114,7 @@ impl<P: Protocol> Domain<P> {
             Domain {
                 table,
                 shape,
+                first_slot,
                 grants,
             },
             root,

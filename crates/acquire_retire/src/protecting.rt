@@ -10,9 +10,7 @@ use crate::seat::Seat;
 use crate::splitting::split;
 use announce_slots::announced_as;
 use core_events::{Act, EventPlace, Kind, Note, Outcome, Phase, SlotId};
-use core_functions::{
-    found_in, held_as, note_index, note_of, place_index, slot_in_note, slot_index, validated,
-};
+use core_functions::{found_in, held_as, note_index, note_of, slot_in_note, validated};
 use counter_word::value;
 use plain_protocol::{Deed, Protocol, Still};
 use std::marker::Brand;
@@ -60,7 +58,8 @@ impl<P: Protocol> Domain<P> {
         ensures { Steps P.Kind.fits self.now (D.next deed self.now.protocol)
             (D.allows deed self.now.protocol) (act.Look place) seat.old seat.new result }
     {
-        let at = place_index(&self.shape, place);
+        let _sizes = &self.shape;
+        let at = self.place_word(place);
         let found = self.load_as::<D, Brand>(&mut seat.seat, Act::Look(place), deed, at);
         Outcome::Found(found_in(found))
     }
@@ -81,7 +80,8 @@ impl<P: Protocol> Domain<P> {
         ensures { Steps P.Kind.fits self.now (D.next deed self.now.protocol)
             (D.allows deed self.now.protocol) (act.Check note place) seat.old seat.new result }
     {
-        let at = place_index(&self.shape, place);
+        let _sizes = &self.shape;
+        let at = self.place_word(place);
         let found = self.load_as::<D, Brand>(&mut seat.seat, Act::Check(note, place), deed, at);
         if let Note::Announced(kind, slot) = seat.notes[note as usize] {
             if found == held_as(Some(slot)) {
@@ -106,7 +106,7 @@ impl<P: Protocol> Domain<P> {
         let Some(slot) = slot_in_note(announced) else {
             unreachable!()
         };
-        let word = slot_index(&self.shape, slot);
+        let word = self.slot_word(slot);
         let found = self.load_as::<D, Brand>(&mut seat.seat, Act::Alive(note), deed, word);
         if value(found) > 0 {
             seat.notes[note as usize] = validated(announced);

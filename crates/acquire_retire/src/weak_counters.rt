@@ -9,7 +9,7 @@ use crate::domain::Domain;
 use crate::hints::remember;
 use crate::seat::Seat;
 use core_events::{Act, Kind, Outcome, Phase, SlotId};
-use core_functions::{bit_alone, bits_index, counter_index, given_up};
+use core_functions::{bit_alone, given_up};
 use plain_protocol::{Protocol, Still};
 use std::marker::Brand;
 
@@ -21,7 +21,7 @@ impl<P: Protocol> Domain<P> {
         ensures { Steps P.Kind.fits self.now same_view IsSameView (act.Wadd slot)
             seat.old seat.new result }
     {
-        let word = counter_index(&self.shape, Kind::Weak, slot);
+        let word = self.counter_word(Kind::Weak, slot);
         self.fetch_add_as::<Still, Brand>(&mut seat.seat, Act::Wadd(slot), Still, word, 1);
         seat.adds += 1;
         Outcome::Plain
@@ -35,7 +35,7 @@ impl<P: Protocol> Domain<P> {
         ensures { Steps P.Kind.fits self.now same_view IsSameView (act.Wdrop slot)
             seat.old seat.new result }
     {
-        let word = counter_index(&self.shape, Kind::Weak, slot);
+        let word = self.counter_word(Kind::Weak, slot);
         let found = self.fetch_sub_as::<Still, Brand>(
             &mut seat.seat,
             Act::Wdrop(slot),
@@ -54,7 +54,7 @@ impl<P: Protocol> Domain<P> {
         ensures { Steps P.Kind.fits self.now same_view IsSameView (act.Wcount slot)
             seat.old seat.new result }
     {
-        let word = counter_index(&self.shape, Kind::Weak, slot);
+        let word = self.counter_word(Kind::Weak, slot);
         let found = self.load_as::<Still, Brand>(&mut seat.seat, Act::Wcount(slot), Still, word);
         Outcome::Word(found)
     }
@@ -68,7 +68,8 @@ impl<P: Protocol> Domain<P> {
         ensures { Steps P.Kind.fits self.now same_view IsSameView (act.Destroy slot)
             seat.old seat.new result }
     {
-        let word = counter_index(&self.shape, Kind::Weak, slot);
+        let _sizes = &self.shape;
+        let word = self.counter_word(Kind::Weak, slot);
         let found = self.fetch_sub_as::<Still, Brand>(
             &mut seat.seat,
             Act::Destroy(slot),
@@ -92,7 +93,7 @@ impl<P: Protocol> Domain<P> {
         let Phase::Give(slot) = seat.phase else {
             unreachable!()
         };
-        let word = bits_index(&self.shape, slot);
+        let word = self.bits_word(slot);
         let bit = bit_alone(slot);
         self.fetch_add_as::<Still, Brand>(&mut seat.seat, Act::Free, Still, word, bit);
         seat.phase = Phase::Idle;

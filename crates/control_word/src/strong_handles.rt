@@ -42,6 +42,7 @@ pub fn copy_strong<P: Protocol>(
 
 /// Gives up a reference that the seat owns, at once. Where it was the last strong one the object ends, and its slot
 /// joins the seat's dying list, unless another seat has been quicker. At most three steps.
+#[inline(always)]
 pub fn drop_strong<P: Protocol>(domain: &Domain<P>, seat: &mut Seat<P>, handle: Strong)
     requires rest { IsAtRest domain.now seat.old }
     requires owned { 0 < times handle.slot seat.old.view.core.owned }

@@ -24,6 +24,8 @@ use plain_state::{EventPlace, Kind};
 /// where the first step found null, and it is the only step then. `Moved` exactly where the place held another
 /// content after the announcement; only the trail has grown then. The deed holds at the look where that finds null,
 /// else at the check. At most five steps, and one add where a slot is answered.
+// Where the place is known at the call, so is the word that is read.
+#[inline(always)]
 pub fn try_load<P: Protocol, D: Deed<P>>(
     domain: &Domain<P>,
     seat: &mut Seat<P>,
@@ -58,6 +60,7 @@ pub fn try_load<P: Protocol, D: Deed<P>>(
 }
 
 /// A try to load, by a seat that has an add left.
+#[inline(always)]
 pub(crate) fn load_once<P: Protocol, D: Deed<P>>(
     domain: &Domain<P>,
     seat: &mut Seat<P>,

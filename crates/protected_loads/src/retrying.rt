@@ -19,6 +19,8 @@ use std::sync::Wait;
 /// again as long as the place changes between its look and its check, so it may wait for other threads. `Spent` comes
 /// first, exactly where the seat has used all adds of its quota, and then nothing has changed. `None` exactly where
 /// the last try found null. At most five steps for each try, and one add where a slot is answered.
+// Where the place is known at the call, so is the word that is read.
+#[inline(always)]
 pub fn load<P: Protocol, D: Deed<P>, R: Wait>(
     rt: &R,
     domain: &Domain<P>,

@@ -79,6 +79,6 @@ fn fill_all<P: Protocol>(domain: &Domain<P>, seat: &mut Seat<P>, slot: SlotId, p
     ensures { Fills P.Kind.fits domain.now payload.now slot seat.old seat.new }
 {
     for index in 0..16u32 {
-        domain.fill(seat, index, payload[index as usize]);
+        domain.fill_in(seat, slot, index, payload[index as usize]);
     }
 }

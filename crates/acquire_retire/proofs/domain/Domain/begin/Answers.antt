@@ -18,8 +18,8 @@ invariant_of-result g c =
     let are : c.as_slice.result.now ≡ first_words c.args.shape = search rules in
     let told = c.in_ok-table.ensures in
     begun_domain c.args.shape
-    (record { quotas = c.args.quotas.now; grants = c.args.grants.now }) _ _ _ _ _ c.requires.shape
+    (record { quotas = c.args.quotas.now; grants = c.args.grants.now }) _ _ _ _ _ _ c.requires.shape
     c.requires.terms (search rules)
     (same_terms _ c.args.quotas.now _ c.args.grants.now (search rules) (search rules))
-    (search rules) are told.0
+    (search rules) c.slot_index-first_slot.ensures.at are told.0
     told.1

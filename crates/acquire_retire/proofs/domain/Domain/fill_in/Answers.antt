@@ -1,7 +1,7 @@
 use Rattle.std.proofs.Common.{refl}
 use Rattle.core_events.specs.declared.act.Act.TheVariants as act
 use Rattle.acquire_retire.proofs.Calls.{call_tells, can_still}
-use Rattle.acquire_retire.proofs.domain.Domain.fill.Goals as goal
+use Rattle.acquire_retire.proofs.domain.Domain.fill_in.Goals as goal
 
 pub store_as-requires-clause-can : goal.store_as-requires-clause-can
 store_as-requires-clause-can g c =
