@@ -5,13 +5,13 @@ use Rattle.slot_store.proofs.making.fill_all.Goals as goal
 pub loop-index-init : goal.loop-index-init
 loop-index-init g c = none_filled c.args.domain.now c.args.payload.now c.args.slot c.args.seat.now
 
-pub fill-requires-clause-seat : goal.fill-requires-clause-seat
-fill-requires-clause-seat g c =
+pub fill_in-requires-clause-seat : goal.fill_in-requires-clause-seat
+fill_in-requires-clause-seat g c =
     is_of_still c.args.domain.now c.args.payload.now c.args.slot c.args.seat.now c.requires.blank
     c.loop-index.index c.loop-index.seat c.loop-index.invariant c.requires.seat
 
-pub fill-requires-clause-may : goal.fill-requires-clause-may
-fill-requires-clause-may g c = (
+pub fill_in-requires-clause-may : goal.fill_in-requires-clause-may
+fill_in-requires-clause-may g c = (
   (
     c.args.slot,
     still_blank c.args.domain.now c.args.payload.now c.args.slot c.args.seat.now c.requires.blank
@@ -21,11 +21,16 @@ fill-requires-clause-may g c = (
   search rules,
 )
 
+pub fill_in-requires-clause-blank : goal.fill_in-requires-clause-blank
+fill_in-requires-clause-blank g c =
+    still_blank c.args.domain.now c.args.payload.now c.args.slot c.args.seat.now c.requires.blank
+    c.loop-index.index c.loop-index.seat c.loop-index.invariant
+
 pub loop-index-preserved : goal.loop-index-preserved
 loop-index-preserved g c =
     one_filled c.args.domain.now c.args.payload.now c.args.slot c.args.seat.now c.requires.blank
-    c.loop-index.index c.loop-index.seat c.loop-index.invariant c.fill.new.seat c.fill.result
-    c.loop-index-test.true c.fill.ensures
+    c.loop-index.index c.loop-index.seat c.loop-index.invariant c.fill_in.new.seat c.fill_in.result
+    c.loop-index-test.true c.fill_in.ensures
 
 pub returns : goal.returns
 returns g c =
