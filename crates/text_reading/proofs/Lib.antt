@@ -6,3 +6,4 @@ pub mod Protected
 pub mod LetGo
 pub mod HandOver
 pub mod Running
+pub mod Pieces

@@ -9,7 +9,7 @@ use Rattle.core_events.specs.declared.view.CoreView.{CoreView}
 use Rattle.core_events.specs.declared.view.Note.TheVariants as note
 use Rattle.core_events.specs.Shows.{show_seat}
 use Rattle.core_events.specs.Steps.{HasRoom, with_note}
-use Rattle.core_events.specs.Views.{Holds, note_of}
+use Rattle.core_events.specs.Views.{HoldsStrongly, note_of}
 use Rattle.domain_rule.specs.Views.{object_in}
 use Rattle.acquire_retire.specs.Domains.{DomainState}
 use Rattle.acquire_retire.specs.Notes.{least_free}
@@ -19,8 +19,9 @@ use Rattle.control_word.specs.Resting.{IsAtRest}
 use Rattle.protected_loads.proofs.Noting.{more_has, snapshot_gains, written}
 use Rattle.protected_loads.proofs.Telling.{holds_has}
 use Rattle.snapshot_ptr.specs.Handles.{IsHeldBy}
-use Rattle.snapshot_ptr.proofs.Under.{IsFreeWord, holds_under, least_is_free}
+use Rattle.snapshot_ptr.proofs.Under.{IsFreeWord, has_strongly, least_is_free}
 use Rattle.directory_law.specs.declared.view.Ran.{Ran}
+use Rattle.directory_law.specs.Views.{Each}
 use Rattle.directory_law.specs.Bytes.{piece_bytes, text_bytes}
 use Rattle.directory_law.specs.Lessons.{first_ran, reads_on}
 use Rattle.directory_law.specs.Payloads.{IsHead, IsText, Text, size}
@@ -28,7 +29,7 @@ use Rattle.directory_calls.specs.Steps.{Leaves}
 use Rattle.directory_calls.proofs.Going.{leaves_core}
 use Rattle.directory_calls.proofs.Parts.{LearnsBy, Place, part_none, part_then}
 use Rattle.text_reading.specs.Going.{ComesTo, IsReading, ReadsOn, freed, last_run, one_if}
-use Rattle.text_reading.specs.Reading.{HasBegun, HasRead, HasTwoFree, begun}
+use Rattle.text_reading.specs.Reading.{AreBytesOf, HasBegun, HasRead, HasTwoFree, begun}
 use Rattle.text_reading.proofs.Cuts.{HasLeft, bytes_head, bytes_more, left_head, left_none, left_part, left_some}
 use Rattle.text_reading.proofs.LetGo.{IsFreeIn, free_in_rest, freed_hold, hold_after, least_there, one_free, with_hold}
 use Rattle.text_reading.proofs.Steps.{comes_then, freed_trail}
@@ -45,8 +46,8 @@ ran_to s old before slot now = record {
 
 -- from `old` on the seat has read the head of s and n parts, the last of them in a slot that it holds by this word, or
 -- by its own reference; these bytes were read, and so many are left
-pub record IsUpTo {P V : Type 0} (d : DomainState P) (l : Place V) (s : SlotId) (n left : ℕ)
-    (bytes : List ℕ) (word : Option ℕ) (slot : SlotId) (old now : SeatState V) : Type 0 where
+pub record IsUpTo {P V : Type 0} (fits : List ℕ → Type 0) (d : DomainState P) (l : Place V)
+    (s : SlotId) (n left : ℕ) (bytes : List ℕ) (word : Option ℕ) (slot : SlotId) (old now : SeatState V) : Type 0 where
   pub steps : ℕ
   pub few : steps + one_if word ≤ 16 + 20 * n
   pub core : ComesTo steps (with_hold word slot old.view.core) old.view.core now.view.core
@@ -58,6 +59,7 @@ pub record IsUpTo {P V : Type 0} (d : DomainState P) (l : Place V) (s : SlotId) 
   pub ran : (l.seen now.view.client).ran ≡ ran_to s old before slot now ∷ earlier
   pub some_left : HasLeft left before
   pub read : bytes ≡ text_bytes before
+  pub fit : Each fits before
   pub learns : LearnsBy l 0 old.view.client now.view.client
   pub rest : IsAtRest d now
 
@@ -82,7 +84,12 @@ part_put n done m next out new words less few after put =
     ap (λ (k : ℕ). take k new) a
     ∙ (put ∙ (λ i. take (sym b i) out ++ piece_bytes (few i) words))
 
-module _ {P V : Type 0} (d : DomainState P) (l : Place V) (s : SlotId) (old : SeatState V)
+each_more : (fits : List ℕ → Type 0) (before : Text) (t : List ℕ) → Each fits before → fits t
+    → Each fits (before ++ t ∷ [])
+each_more fits [] t all more = (more, tt)
+each_more fits (u ∷ us) t all more = (all.0, each_more fits us t all.1 more)
+
+module _ {P V : Type 0} (fits : List ℕ → Type 0) (d : DomainState P) (l : Place V) (s : SlotId) (old : SeatState V)
     (owns : 0 < times s old.view.core.owned) (four : length old.view.core.notes ≡ 4) where
   -- what the seat has without the hold is what it had
   rest_is : (w : Option ℕ) (slot : SlotId) (now : SeatState V) {n : ℕ}
@@ -103,7 +110,7 @@ module _ {P V : Type 0} (d : DomainState P) (l : Place V) (s : SlotId) (old : Se
   has_head : HasSlot (show_seat old.view.core) s
   has_head = holds_has old.view.core s (omega (arith, owns))
 
-  pub holds_head : Holds old.view.core s
+  pub holds_head : HoldsStrongly old.view.core s
   holds_head = omega (arith, owns)
 
   -- THE HEAD was read
@@ -113,8 +120,9 @@ module _ {P V : Type 0} (d : DomainState P) (l : Place V) (s : SlotId) (old : Se
       → (bytes : List ℕ) (n left : ℕ) → n ≡ size (object_in old.view s).payload
       → left ≡ n - 120
       → bytes ≡ piece_bytes (min n 120) (object_in old.view s).payload
-      → IsUpTo d l s 0 left bytes None s old now
-  head_read begins head now core client knows rest bytes n left is less put = record {
+      → fits (object_in old.view s).payload
+      → IsUpTo fits d l s 0 left bytes None s old now
+  head_read begins head now core client knows rest bytes n left is less put fit = record {
     steps = 16;
     few = omega arith;
     core = core;
@@ -133,13 +141,14 @@ module _ {P V : Type 0} (d : DomainState P) (l : Place V) (s : SlotId) (old : Se
         ∙ (ap (λ (k : ℕ). piece_bytes k (object_in old.view s).payload)
         (ap (λ (k : ℕ). min k 120) is ∙ min_other (size (object_in old.view s).payload))
         ∙ sym (bytes_head (object_in old.view s).payload));
+    fit = (fit, tt);
     learns = subst (λ v. LearnsBy l 0 old.view.client v) (sym client)
         (part_none l old.view.client);
     rest = rest;
   }
 
   module _ (two : HasTwoFree old.view.core) (n left : ℕ) (bytes : List ℕ) (w : Option ℕ)
-      (slot : SlotId) (now : SeatState V) (up : IsUpTo d l s n left bytes w slot old now) where
+      (slot : SlotId) (now : SeatState V) (up : IsUpTo fits d l s n left bytes w slot old now) where
     -- A PART MORE may be read
     free_now_by : (m k : ℕ) (v : CoreView) → ComesTo m v old.view.core now.view.core
         → IsFreeWord k v → IsFreeWord k now.view.core
@@ -211,11 +220,11 @@ module _ {P V : Type 0} (d : DomainState P) (l : Place V) (s : SlotId) (old : Se
             ∙ written old.view.core j there (note.Valid Strong part),
       )
 
-      pub holds_part : Holds mid.view.core part
-      holds_part = holds_under (record { slot = part; word = Some j }) mid.view.core held_mid
+      pub holds_part : HoldsStrongly mid.view.core part
+      holds_part = has_strongly (record { slot = part; word = Some j }) mid.view.core held_mid
 
       has_part : HasSlot (show_seat mid.view.core) part
-      has_part = holds_has mid.view.core part holds_part
+      has_part = holds_has mid.view.core part (omega (arith, holds_part))
 
       has_mid : (x : SlotId) → HasSlot (show_seat old.view.core) x
           → HasSlot (show_seat mid.view.core) x
@@ -249,11 +258,11 @@ module _ {P V : Type 0} (d : DomainState P) (l : Place V) (s : SlotId) (old : Se
       pub part_read : (late : SeatState V)
           → ComesTo 16 mid.view.core mid.view.core late.view.core
           → late.view.client ≡ mid.view.client → KnowsStill mid.view.core mid late
-          → IsAtRest d late → (words new : List ℕ) (more : ℕ) → words ≡ object.payload
+          → IsAtRest d late → (words new : List ℕ) (more : ℕ) → words ≡ object.payload → fits words
           → more ≡ left - 120
           → new ≡ bytes ++ piece_bytes (min left 120) words
-          → IsUpTo d l s (n + 1) more new (Some j) part old late
-      part_read late moves' client knows' rest words new more is less put =
+          → IsUpTo fits d l s (n + 1) more new (Some j) part old late
+      part_read late moves' client knows' rest words new more is fit less put =
           let o = knows' part has_part in
           let most = up.few in record {
             steps = up.steps + (3 + one_if w) + 16;
@@ -285,6 +294,7 @@ module _ {P V : Type 0} (d : DomainState P) (l : Place V) (s : SlotId) (old : Se
                 ∙ (ap (λ (k : ℕ). bytes ++ piece_bytes k object.payload) (min_other left)
                 ∙ (ap (λ (b : List ℕ). b ++ piece_bytes (min 120 left) object.payload) up.read
                 ∙ sym (bytes_more left up.before object.payload up.some_left cut.0))));
+            fit = each_more fits up.before object.payload up.fit (subst fits is fit);
             learns = subst (λ v. LearnsBy l 0 old.view.client v) (sym client)
                 (part_then l 0 0 old.view.client now.view.client mid.view.client up.learns learns);
             rest = rest;
@@ -330,11 +340,11 @@ module _ {P V : Type 0} (d : DomainState P) (l : Place V) (s : SlotId) (old : Se
       pub text_learns : LearnsBy l 0 old.view.client new.view.client
       text_learns = subst (λ v. LearnsBy l 0 old.view.client v) (sym client) up.learns
 
-      pub text_read : left ≡ 0 → (text : Text) × (bytes ≡ text_bytes text)
+      pub text_read : left ≡ 0 → (text : Text) × AreBytesOf fits bytes text
           × HasRead l.seen s text new
       text_read none = (
         up.before,
-        up.read,
+        record { same = up.read; fit = up.fit },
         record {
           ran = ran_to s old up.before slot now;
           earlier = up.earlier;

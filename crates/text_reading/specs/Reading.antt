@@ -9,6 +9,8 @@ use Rattle.acquire_retire.specs.Seats.{SeatState}
 use Rattle.directory_law.specs.declared.view.Ran.{Ran}
 use Rattle.directory_law.specs.declared.view.View.{View}
 use Rattle.directory_law.specs.Payloads.{Text, IsText}
+use Rattle.directory_law.specs.Bytes.{text_bytes}
+use Rattle.directory_law.specs.Views.{Each}
 
 -- the payload of s is read, as the seat has it
 abbrev pub begun : {V : Type 0} → SlotId → SeatState V → Ran
@@ -24,6 +26,11 @@ begun s seat = record {
 abbrev pub HasBegun : {V : Type 0} → (V → View) → SlotId → SeatState V → Type 0
 HasBegun seen s seat =
     (earlier : List Ran) × ((seen seat.view.client).ran ≡ begun s seat ∷ earlier)
+
+-- the bytes are those of the text, and each of its payloads fits the kind
+pub record AreBytesOf (fits : List ℕ → Type 0) (bytes : List ℕ) (text : Text) : Type 0 where
+  pub same : bytes ≡ text_bytes text
+  pub fit : Each fits text
 
 -- the text that the seat read last is that of s, in the life in which it has it, and is whole
 pub record HasRead {V : Type 0} (seen : V → View) (s : SlotId) (text : Text) (seat : SeatState V)

@@ -1,6 +1,6 @@
 //! The payload of an object, as a seat that holds its slot reads it.
 ghost use Rattle.std.specs.Prelude.{◌≡◌, length};
-ghost use Rattle.core_events.specs.Views.{Holds};
+ghost use Rattle.core_events.specs.Views.{HoldsStrongly};
 ghost use Rattle.domain_rule.specs.Views.{object_in};
 ghost use Rattle.control_word.specs.Moves.{KnowsStill};
 ghost use Rattle.control_word.specs.Resting.{IsAtRest};
@@ -10,15 +10,16 @@ use acquire_retire::{Domain, Seat, SlotId};
 use plain_protocol::Protocol;
 use slot_store::read;
 
-/// The payload of the object in a slot that the seat holds, in 16 steps.
+/// The payload of the object in a slot that the seat holds strongly, in 16 steps.
 pub(crate) fn payload_of<P: Protocol>(
     domain: &Domain<P>,
     seat: &mut Seat<P>,
     slot: SlotId,
 ) -> [u64; 16]
     requires rest { IsAtRest domain.now seat.old }
-    requires holds { Holds seat.old.view.core slot }
+    requires held { HoldsStrongly seat.old.view.core slot }
     ensures payload { result ≡ (object_in seat.old.view slot).payload }
+    ensures fits { P.Kind.fits result }
     ensures core { ComesTo 16 seat.old.view.core seat.old.view.core seat.new.view.core }
     ensures four { length seat.old.view.core.notes ≡ 4 }
     ensures client { seat.new.view.client ≡ seat.old.view.client }

@@ -4,11 +4,10 @@ ghost use Rattle.plain_state.specs.Lists.{times};
 ghost use Rattle.core_events.specs.Steps.{HasRoom};
 ghost use Rattle.domain_rule.specs.Views.{object_in};
 ghost use Rattle.control_word.specs.Resting.{IsAtRest};
-ghost use Rattle.directory_law.specs.Bytes.{text_bytes};
 ghost use Rattle.directory_law.specs.Payloads.{IsHead, Text};
 ghost use Rattle.directory_calls.specs.Learning.{LearnsIn};
 ghost use Rattle.directory_calls.specs.Steps.{Leaves};
-ghost use Rattle.text_reading.specs.Reading.{HasBegun, HasRead, HasTwoFree};
+ghost use Rattle.text_reading.specs.Reading.{AreBytesOf, HasBegun, HasRead, HasTwoFree};
 
 use crate::copying::put_payload;
 use crate::going_on::{Hold, go_on, let_go};
@@ -31,7 +30,7 @@ pub fn read_text<S, P: HasDirectory<S>>(
     requires begun { HasBegun P.seen slot seat.old }
     requires head { IsHead (object_in seat.old.view slot).payload }
     requires free { HasTwoFree seat.old.view.core }
-    ensures reads { (text : Text) × (take result out.new ≡ text_bytes text)
+    ensures reads { (text : Text) × AreBytesOf P.Kind.fits (take result out.new) text
         × HasRead P.seen slot text seat.new }
     ensures size { result ≡ slice_index (object_in seat.old.view slot).payload 0 }
     ensures leaves { Leaves seat.old.view.core.owned seat.old.view.core.weaks seat.old seat.new }
