@@ -1,4 +1,24 @@
-//! Reading the text of a record.
+//! Reading the text of a record: how a seat of a running domain goes along the chain of a record's
+//! slots, hand over hand, and puts the text's bytes into a buffer.
+//!
+//! The rule that it keeps is the law of `directory_law`, by deeds of `directory_protocol` and by
+//! `ReadPart`. The seat owns a reference to the head. From each slot it goes on to the part that
+//! field 1 holds: it looks at the field, announces what it found, and checks that the field holds it
+//! still, which the law promises as long as the slot before lives. So nothing is tried again, and no
+//! reference is counted. It lets a slot go once it has the next one, so two of its announcement words
+//! are enough. What the law promises of texts tells how long to go on: a whole text ends where so many
+//! bytes were read as its head tells.
+//!
+//! The call is over each protocol that has a directory as a part, and changes nothing else of the
+//! seat's view.
+//!
+//! Nothing is promised of a slot of which the seat hasn't begun to read the text.
+//!
+//! ```text
+//! let mut bytes = [0; 4096];
+//! let length = read_text(&domain, &mut seat, record.slot(), &mut bytes);   // its head was upgraded
+//! let text = &bytes[..length as usize];
+//! ```
 #![tactic(auto)]
 
 mod copying;
@@ -7,6 +27,8 @@ mod going_on;
 mod laws;
 mod payloads;
 mod reading;
+#[cfg(test)]
+mod tests;
 
 pub use deeds::ReadPart;
 pub use going_on::Hold;
