@@ -1,8 +1,8 @@
 -- Bytes of words that were copied so far, and those that are left.
-use Rattle.std.proofs.Common.{◌≡◌, ℕ, zero, suc, ◌+◌, ◌-◌, ◌<◌, ◌≤◌, List, [], ◌∷◌, ◌++◌, length, set, take, drop, refl, ap, sym, ◌∙◌, arith, append_assoc}
-use Rattle.std.specs.Prelude.{◌%◌, ◌/◌, min, slice_index}
-use Rattle.std.proofs.lemmas.List.{append-nil, take_more_set}
-use Rattle.directory_law.specs.Bytes.{low_bytes, bytes_of_words}
+use Rattle.std.proofs.Common.{◌≡◌, ℕ, zero, suc, ◌+◌, ◌-◌, ◌<◌, List, [], ◌∷◌, ◌++◌, length, set, take, refl, ap, sym, ◌∙◌, arith, append_assoc}
+use Rattle.std.specs.Prelude.{◌%◌, ◌/◌, min}
+use Rattle.std.proofs.lemmas.List.{take_more_set}
+use Rattle.directory_law.specs.Bytes.{low_bytes, piece_bytes}
 
 -- BYTES OF A WORD. One more of them
 low_more : (n word : ℕ) → 0 < n → low_bytes n word ≡ word % 256 ∷ low_bytes (n - 1) (word / 256)
@@ -27,43 +27,20 @@ byte_put out from index count word all there some' is =
     ∙ (ap (λ (x : List ℕ). take at out ++ x)
     (sym (low_more (count - index) word (omega (arith, some')))) ∙ is))))
 
--- WORDS. The bytes of one word more
-words_more : (n k : ℕ) (words : List ℕ) → k < length words
-    → bytes_of_words n (drop k words)
-    ≡ low_bytes (min 8 n) (slice_index words k) ++ bytes_of_words (n - 8) (drop (k + 1) words)
-words_more n zero [] low = absurd (omega (arith, low))
-words_more n zero (w ∷ ws) low = refl
-words_more n (suc k) [] low = absurd (omega (arith, low))
-words_more n (suc k) (w ∷ ws) low =
-    let e : suc k + 1 ≡ suc (k + 1) = omega arith in
-    words_more n k ws (omega (arith, low))
-    ∙ ap (λ (i : ℕ). low_bytes (min 8 n) (slice_index ws k)
-    ++ bytes_of_words (n - 8) (drop i (w ∷ ws))) (sym e)
+-- BYTES that were put behind others
+pub head_put : (n m : ℕ) (out old words payload : List ℕ) → m ≡ min n 120 → words ≡ payload
+    → take (0 + m) out ≡ take 0 old ++ piece_bytes m words
+    → take (min n 120) out ≡ piece_bytes (min n 120) payload
+head_put n m out old words payload few is put =
+    let e : min n 120 ≡ 0 + m = omega (arith, few) in
+    ap (λ (k : ℕ). take k out) e
+    ∙ (put ∙ (λ i. piece_bytes (few i) (is i)))
 
-pub word_put : (words out new : List ℕ) (k at left : ℕ) (goal : List ℕ) → k < length words
-    → take (at + min left 8) new ≡ take at out ++ low_bytes (min left 8) (slice_index words k)
-    → take at out ++ bytes_of_words left (drop k words) ≡ goal
-    → take (at + min left 8) new ++ bytes_of_words (left - min left 8) (drop (k + 1) words) ≡ goal
-word_put words out new k at left goal there put is =
-    let less : left - min left 8 ≡ left - 8 = grind arith in
-    let few : min left 8 ≡ min 8 left = grind arith in
-    ap (λ (n : ℕ). take (at + min left 8) new ++ bytes_of_words n (drop (k + 1) words)) less
-    ∙ (ap (λ (x : List ℕ). x ++ bytes_of_words (left - 8) (drop (k + 1) words)) put
-    ∙ (append_assoc (take at out) (low_bytes (min left 8) (slice_index words k))
-    (bytes_of_words (left - 8) (drop (k + 1) words))
-    ∙ (ap (λ (n : ℕ). take at out ++ (low_bytes n (slice_index words k)
-    ++ bytes_of_words (left - 8) (drop (k + 1) words))) few
-    ∙ (ap (λ (x : List ℕ). take at out ++ x) (sym (words_more left k words there)) ∙ is))))
-
--- nothing is left of no word
-pub all_put : (words out : List ℕ) (at n : ℕ) (goal : List ℕ) → length words ≤ n
-    → take at out ++ bytes_of_words 0 (drop n words) ≡ goal → take at out ≡ goal
-all_put words out at n goal past is =
-    sym (append-nil (take at out))
-    ∙ (ap (λ (x : List ℕ). take at out ++ x) (sym (none words n past)) ∙ is)
-  where
-    none : (ws : List ℕ) (k : ℕ) → length ws ≤ k → bytes_of_words 0 (drop k ws) ≡ []
-    none [] zero low = refl
-    none [] (suc k) low = refl
-    none (w ∷ ws) zero low = absurd (omega (arith, low))
-    none (w ∷ ws) (suc k) low = none ws k (omega (arith, low))
+pub part_put : (n done m next : ℕ) (out new words : List ℕ) → done < n → m ≡ min (n - done) 120
+    → next ≡ done + 120 → take (done + m) new ≡ take done out ++ piece_bytes m words
+    → take (min n next) new ≡ take (min n done) out ++ piece_bytes (min (n - done) 120) words
+part_put n done m next out new words less few after put =
+    let a : min n next ≡ done + m = grind arith in
+    let b : min n done ≡ done = grind arith in
+    ap (λ (k : ℕ). take k new) a
+    ∙ (put ∙ (λ i. take (sym b i) out ++ piece_bytes (few i) words))

@@ -2,6 +2,7 @@
 use Rattle.std.proofs.Common.{◌≡◌, ℕ, ◌+◌, ◌-◌, ◌<◌, List, [], ◌∷◌, ◌++◌, refl, ap, sym, ◌∙◌, subst, arith, append_assoc}
 use Rattle.std.specs.Prelude.{min}
 use Rattle.std.proofs.lemmas.List.{append-nil}
+use Rattle.directory_law.specs.Views.{Each}
 use Rattle.directory_law.specs.Payloads.{Text, size, IsHead, IsCut, IsRest, IsText}
 use Rattle.directory_law.specs.Bytes.{part_bytes, piece_bytes, text_bytes}
 
@@ -98,3 +99,9 @@ bytes_more n before t left is =
 
 pub bytes_head : (t : List ℕ) → text_bytes (t ∷ []) ≡ piece_bytes (min 120 (size t)) t
 bytes_head t = append-nil (piece_bytes (min 120 (size t)) t)
+
+-- WHAT FITS of each slot
+pub each_more : (fits : List ℕ → Type 0) (before : Text) (t : List ℕ) → Each fits before → fits t
+    → Each fits (before ++ t ∷ [])
+each_more fits [] t all more = (more, tt)
+each_more fits (u ∷ us) t all more = (all.0, each_more fits us t all.1 more)

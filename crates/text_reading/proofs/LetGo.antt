@@ -24,7 +24,7 @@ use Rattle.snapshot_ptr.proofs.Released.{released}
 use Rattle.snapshot_ptr.proofs.Under.{IsFreeWord}
 use Rattle.text_reading.specs.Going.{ComesTo, freed, one_if}
 use Rattle.text_reading.specs.Reading.{HasTwoFree}
-use Rattle.text_reading.proofs.Steps.{comes_none}
+use Rattle.text_reading.proofs.Steps.{comes_none, freed_trail}
 
 -- A WORD that is released
 module _ {V : Type 0} (old : SeatState V) where
@@ -77,9 +77,9 @@ pub freed_hold : (w : Option ℕ) (s : SlotId) (v : CoreView) → IsFreeIn w v
     → freed w (with_hold w s v) ≡ v
 freed_hold None s v free = refl
 freed_hold (Some j) s v free =
-    ap (λ (ns : List Note). record v { notes = ns }) (set-set v.notes j (note.Valid Strong s) note.Idle)
+    ap (λ (ns : List Note). record v { notes = ns })
+    (set-set v.notes j (note.Valid Strong s) note.Idle)
     ∙ written_back v j note.Idle free.2
-
 
 module _ (v : CoreView) (four : length v.notes ≡ 4) where
   -- a word that is free beside one that holds a slot is another one, and free without it
@@ -157,3 +157,20 @@ least_there v k free none =
     go false false false x y z is (suc (suc zero)) free = taken 2 y free.2
     go false false false x y z is (suc (suc (suc zero))) free = taken 3 z free.2
     go false false false x y z is (suc (suc (suc (suc k)))) free = omega (arith, free.1)
+
+-- what the seat has without the hold is what it had
+pub rest_is : {V : Type 0} (old now : SeatState V) (w : Option ℕ) (slot : SlotId) {n : ℕ}
+    → (core : ComesTo n (with_hold w slot old.view.core) old.view.core now.view.core)
+    → IsFreeIn w old.view.core
+    → freed w now.view.core ≡ record old.view.core { trail = now.view.core.trail }
+rest_is old now w slot core free =
+    bare_freed w now.view.core
+    ∙ (ap (λ (v : CoreView). record (freed w v) { trail = now.view.core.trail }) core.1
+    ∙ (freed_trail w (with_hold w slot old.view.core) _ _
+    ∙ ap (λ (v : CoreView). record v { trail = now.view.core.trail })
+    (freed_hold w slot old.view.core free)))
+  where
+    bare_freed : (w : Option ℕ) (v : CoreView)
+        → freed w v ≡ record (freed w v) { trail = v.trail }
+    bare_freed None v = refl
+    bare_freed (Some j) v = refl

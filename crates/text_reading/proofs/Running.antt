@@ -1,6 +1,6 @@
 -- How far a text was read, from slot to slot.
-use Rattle.std.proofs.Common.{◌≡◌, ◌≢◌, ℕ, ◌+◌, ◌-◌, ◌*◌, ◌<◌, ◌≤◌, List, [], ◌∷◌, ◌++◌, length, length-append, refl, ap, sym, ◌∙◌, subst, arith}
-use Rattle.std.specs.Prelude.{Option, Some, None, min, slice_set, take}
+use Rattle.std.proofs.Common.{◌≡◌, ◌≢◌, ℕ, ◌+◌, ◌-◌, ◌*◌, ◌<◌, ◌≤◌, List, [], ◌∷◌, ◌++◌, length, ap, sym, ◌∙◌, subst, arith}
+use Rattle.std.specs.Prelude.{Option, Some, None, min, slice_set}
 use Rattle.plain_state.specs.declared.slot.Kind.TheVariants.{Strong}
 use Rattle.plain_state.specs.declared.slot.SlotId.{SlotId}
 use Rattle.plain_state.specs.Lists.{times}
@@ -8,7 +8,7 @@ use Rattle.plain_protocol.specs.Owns.{HasSlot, Object}
 use Rattle.core_events.specs.declared.view.CoreView.{CoreView}
 use Rattle.core_events.specs.declared.view.Note.TheVariants as note
 use Rattle.core_events.specs.Shows.{show_seat}
-use Rattle.core_events.specs.Steps.{HasRoom, with_note}
+use Rattle.core_events.specs.Steps.{with_note}
 use Rattle.core_events.specs.Views.{HoldsStrongly, note_of}
 use Rattle.domain_rule.specs.Views.{object_in}
 use Rattle.acquire_retire.specs.Domains.{DomainState}
@@ -25,13 +25,11 @@ use Rattle.directory_law.specs.Views.{Each}
 use Rattle.directory_law.specs.Bytes.{piece_bytes, text_bytes}
 use Rattle.directory_law.specs.Lessons.{first_ran, reads_on}
 use Rattle.directory_law.specs.Payloads.{IsHead, IsText, Text, size}
-use Rattle.directory_calls.specs.Steps.{Leaves}
-use Rattle.directory_calls.proofs.Going.{leaves_core}
 use Rattle.directory_calls.proofs.Parts.{LearnsBy, Place, part_none, part_then}
 use Rattle.text_reading.specs.Going.{ComesTo, IsReading, ReadsOn, freed, last_run, one_if}
-use Rattle.text_reading.specs.Reading.{AreBytesOf, HasBegun, HasRead, HasTwoFree, begun}
-use Rattle.text_reading.proofs.Cuts.{HasLeft, bytes_head, bytes_more, left_head, left_none, left_part, left_some}
-use Rattle.text_reading.proofs.LetGo.{IsFreeIn, free_in_rest, freed_hold, hold_after, least_there, one_free, with_hold}
+use Rattle.text_reading.specs.Reading.{HasBegun, HasTwoFree, begun}
+use Rattle.text_reading.proofs.Cuts.{HasLeft, bytes_head, bytes_more, each_more, left_head, left_part, left_some}
+use Rattle.text_reading.proofs.LetGo.{IsFreeIn, free_in_rest, hold_after, least_there, one_free, rest_is, with_hold}
 use Rattle.text_reading.proofs.Steps.{comes_then, freed_trail}
 
 -- the text of s was read up to a slot: n parts of it, and this is the rest
@@ -44,10 +42,11 @@ ran_to s old before slot now = record {
   now_life = (object_in now.view slot).life;
 }
 
--- from `old` on the seat has read the head of s and n parts, the last of them in a slot that it holds by this word, or
--- by its own reference; these bytes were read, and so many are left
+-- from `old` on the seat has read the head of s and n parts, the last of them in a slot that it
+-- holds by this word, or by its own reference; these bytes were read, and so many are left
 pub record IsUpTo {P V : Type 0} (fits : List ℕ → Type 0) (d : DomainState P) (l : Place V)
-    (s : SlotId) (n left : ℕ) (bytes : List ℕ) (word : Option ℕ) (slot : SlotId) (old now : SeatState V) : Type 0 where
+    (s : SlotId) (n left : ℕ) (bytes : List ℕ) (word : Option ℕ) (slot : SlotId)
+    (old now : SeatState V) : Type 0 where
   pub steps : ℕ
   pub few : steps + one_if word ≤ 16 + 20 * n
   pub core : ComesTo steps (with_hold word slot old.view.core) old.view.core now.view.core
@@ -66,47 +65,9 @@ pub record IsUpTo {P V : Type 0} (fits : List ℕ → Type 0) (d : DomainState P
 min_other : (n : ℕ) → min n 120 ≡ min 120 n
 min_other n = grind arith
 
--- BYTES that were put behind others
-pub head_put : (n m : ℕ) (out old words payload : List ℕ) → m ≡ min n 120 → words ≡ payload
-    → take (0 + m) out ≡ take 0 old ++ piece_bytes m words
-    → take (min n 120) out ≡ piece_bytes (min n 120) payload
-head_put n m out old words payload few is put =
-    let e : min n 120 ≡ 0 + m = omega (arith, few) in
-    ap (λ (k : ℕ). take k out) e
-    ∙ (put ∙ (λ i. piece_bytes (few i) (is i)))
-
-pub part_put : (n done m next : ℕ) (out new words : List ℕ) → done < n → m ≡ min (n - done) 120
-    → next ≡ done + 120 → take (done + m) new ≡ take done out ++ piece_bytes m words
-    → take (min n next) new ≡ take (min n done) out ++ piece_bytes (min (n - done) 120) words
-part_put n done m next out new words less few after put =
-    let a : min n next ≡ done + m = grind arith in
-    let b : min n done ≡ done = grind arith in
-    ap (λ (k : ℕ). take k new) a
-    ∙ (put ∙ (λ i. take (sym b i) out ++ piece_bytes (few i) words))
-
-each_more : (fits : List ℕ → Type 0) (before : Text) (t : List ℕ) → Each fits before → fits t
-    → Each fits (before ++ t ∷ [])
-each_more fits [] t all more = (more, tt)
-each_more fits (u ∷ us) t all more = (all.0, each_more fits us t all.1 more)
-
-module _ {P V : Type 0} (fits : List ℕ → Type 0) (d : DomainState P) (l : Place V) (s : SlotId) (old : SeatState V)
-    (owns : 0 < times s old.view.core.owned) (four : length old.view.core.notes ≡ 4) where
-  -- what the seat has without the hold is what it had
-  rest_is : (w : Option ℕ) (slot : SlotId) (now : SeatState V) {n : ℕ}
-      → (core : ComesTo n (with_hold w slot old.view.core) old.view.core now.view.core)
-      → IsFreeIn w old.view.core
-      → freed w now.view.core ≡ record old.view.core { trail = now.view.core.trail }
-  rest_is w slot now core free =
-      bare_freed w now.view.core
-      ∙ (ap (λ (v : CoreView). record (freed w v) { trail = now.view.core.trail }) core.1
-      ∙ (freed_trail w (with_hold w slot old.view.core) _ _
-      ∙ ap (λ (v : CoreView). record v { trail = now.view.core.trail })
-      (freed_hold w slot old.view.core free)))
-    where
-      bare_freed : (w : Option ℕ) (v : CoreView) → freed w v ≡ record (freed w v) { trail = v.trail }
-      bare_freed None v = refl
-      bare_freed (Some j) v = refl
-
+module _ {P V : Type 0} (fits : List ℕ → Type 0) (d : DomainState P) (l : Place V) (s : SlotId)
+    (old : SeatState V) (owns : 0 < times s old.view.core.owned)
+    (four : length old.view.core.notes ≡ 4) where
   has_head : HasSlot (show_seat old.view.core) s
   has_head = holds_has old.view.core s (omega (arith, owns))
 
@@ -237,7 +198,7 @@ module _ {P V : Type 0} (fits : List ℕ → Type 0) (d : DomainState P) (l : Pl
       knows_mid : KnowsStill old.view.core old mid
       knows_mid x has =
           knows x (subst (λ (v : CoreView). HasSlot (show_seat v) x)
-          (sym (rest_is w slot now up.core up.free)) has)
+          (sym (rest_is old now w slot up.core up.free)) has)
           ∙ up.knows x has
 
       abbrev object : Object
@@ -284,7 +245,8 @@ module _ {P V : Type 0} (fits : List ℕ → Type 0) (d : DomainState P) (l : Pl
             earlier = ran_to s old up.before slot now ∷ up.earlier;
             ran = ap (λ v. (l.seen v).ran) client
                 ∙ (ran_mid
-                ∙ ap (λ (x : Object). record (ran_to s old (up.before ++ object.payload ∷ []) part mid) {
+                ∙ ap (λ (x : Object).
+                record (ran_to s old (up.before ++ object.payload ∷ []) part mid) {
                   now_life = x.life;
                 } ∷ (ran_to s old up.before slot now ∷ up.earlier)) (sym o));
             some_left = subst (λ (k : ℕ). HasLeft k (up.before ++ object.payload ∷ [])) (sym less)
@@ -299,60 +261,3 @@ module _ {P V : Type 0} (fits : List ℕ → Type 0) (d : DomainState P) (l : Pl
                 (part_then l 0 0 old.view.client now.view.client mid.view.client up.learns learns);
             rest = rest;
           }
-
-    -- ALL WAS READ
-    module _ (new : SeatState V)
-        (moves : ComesTo (one_if w) (freed w now.view.core) now.view.core new.view.core)
-        (client : new.view.client ≡ now.view.client)
-        (knows : KnowsStill (freed w now.view.core) now new) where
-      core_new : ComesTo (up.steps + one_if w) old.view.core old.view.core new.view.core
-      core_new =
-          comes_then up.steps (one_if w) old.view.core (with_hold w slot old.view.core)
-          old.view.core now.view.core new.view.core up.core (
-            moves.0,
-            moves.1 ∙ ap (λ (v : CoreView). record v { trail = now.view.core.trail ++ moves.0 })
-                (rest_is w slot now up.core up.free),
-            moves.2,
-          )
-
-      knows_new : KnowsStill old.view.core old new
-      knows_new x has =
-          knows x (subst (λ (v : CoreView). HasSlot (show_seat v) x)
-          (sym (rest_is w slot now up.core up.free)) has)
-          ∙ up.knows x has
-
-      pub text_leaves : Leaves old.view.core.owned old.view.core.weaks old new
-      text_leaves = leaves_core old new old.view.core core_new.0 core_new.1 refl knows_new
-
-      pub text_room : HasRoom old.view.core → HasRoom new.view.core
-      text_room room = subst HasRoom (sym core_new.1) room
-
-      pub text_few : length new.view.core.trail ≤ length old.view.core.trail + (16 + 20 * n)
-      text_few =
-          let most = up.few in
-          let all : length new.view.core.trail
-              ≡ length old.view.core.trail + (up.steps + one_if w) =
-          ap (λ (v : CoreView). length v.trail) core_new.1
-          ∙ (length-append old.view.core.trail core_new.0
-          ∙ ap (λ (k : ℕ). length old.view.core.trail + k) core_new.2) in
-          omega (arith, most, all)
-
-      pub text_learns : LearnsBy l 0 old.view.client new.view.client
-      text_learns = subst (λ v. LearnsBy l 0 old.view.client v) (sym client) up.learns
-
-      pub text_read : left ≡ 0 → (text : Text) × AreBytesOf fits bytes text
-          × HasRead l.seen s text new
-      text_read none = (
-        up.before,
-        record { same = up.read; fit = up.fit },
-        record {
-          ran = ran_to s old up.before slot now;
-          earlier = up.earlier;
-          last = ap (λ v. (l.seen v).ran) client ∙ up.ran;
-          slot = refl;
-          life = ap (λ (o : Object). o.life) (sym (knows_new s has_head));
-          whole = refl;
-          is = left_none up.before
-              (subst (λ (k : ℕ). HasLeft k up.before) none up.some_left);
-        },
-      )

@@ -98,7 +98,8 @@ module _ {P V : Type 0} (fits : List ℕ → Type 0) (d : DomainState P) (s : Sl
         let told = seen.becomes.walks.1.told in
         let some' = strong_some told s
         (subst (λ (v : CoreView). HoldsStrongly v s) (sym has.core.1) strongly) in
-        let live = ((shows_lawful d.shape told.happened.before (sound_before told)).strong s some').0 in
+        let lawful = shows_lawful d.shape told.happened.before (sound_before told) in
+        let live = (lawful.strong s some').0 in
         subst (λ (o : Object). fits o.payload)
         (sym (told.said.objects s (holds_has now.view.core s (holds_still n now has.core)))
         ∙ object)

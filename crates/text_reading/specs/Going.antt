@@ -27,7 +27,8 @@ abbrev pub one_if : Option ℕ → ℕ
 one_if None = 0
 one_if (Some j) = 1
 
--- what a step of the deed ReadPart tells: what ReadOn tells, and that each text that was begun goes on to a whole one
+-- what a step of the deed ReadPart tells: what ReadOn tells, and that each text that was begun goes
+-- on to a whole one
 pub record PartTells (p q : Plain) (n : ℕ) (v w : View) : Type 0 where
   pub read : ReadTells p q n v w
   pub goes_on : (e : Ran) → In e w.ran → (rest : Text) × IsText (e.before ++ rest)

@@ -18,7 +18,8 @@ pub(crate) fn put_payload(payload: &[u64; 16], count: u32, out: &mut [u8; 4096],
     }
 }
 
-/// Puts so many bytes of a word, the lowest first, behind the first `from` bytes of `out`, which stay.
+/// Puts so many bytes of a word, the lowest first, behind the first `from` bytes of `out`, which
+/// stay.
 fn put_word(word: u64, count: u32, out: &mut [u8; 4096], from: u32)
     requires few { count ≤ 8 }
     requires fits { from + count ≤ 4096 }

@@ -7,8 +7,8 @@ ghost use Rattle.text_reading.specs.Deeds.{part_keeps};
 use directory_protocol::DirectoryLaw;
 use plain_protocol::Deed;
 
-/// A check of field 1 of the slot that was read last, as with `ReadOn`. It tells also that each text that the seat has
-/// begun to read goes on to a whole one.
+/// A check of field 1 of the slot that was read last, as with `ReadOn`. It tells also that each
+/// text that the seat has begun to read goes on to a whole one.
 #[derive(Clone, Copy, Drop)]
 pub struct ReadPart;
 

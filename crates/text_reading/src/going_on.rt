@@ -19,15 +19,16 @@ use plain_protocol::Protocol;
 use plain_state::Kind;
 use protocol_pairs::InPart;
 
-/// A slot that the seat holds strongly, and the announcement word by which it does so; none where it owns a reference.
+/// A slot that the seat holds strongly, and the announcement word by which it does so; none where
+/// it owns a reference.
 #[derive(Clone, Copy, Drop)]
 pub struct Hold {
     pub slot: SlotId,
     pub word: Option<u32>,
 }
 
-/// The part that follows in the text that the seat reads last, under a snapshot in place of that of the slot before.
-/// At most four steps.
+/// The part that follows in the text that the seat reads last, under a snapshot in place of that of
+/// the slot before. Four steps, or three where that had none.
 pub(crate) fn go_on<S, P: HasDirectory<S>>(
     domain: &Domain<P>,
     seat: &mut Seat<P>,
@@ -59,8 +60,8 @@ pub(crate) fn go_on<S, P: HasDirectory<S>>(
     }
 }
 
-/// The part that field 1 of the slot holds which the seat reads last, under a snapshot by this word. What the look
-/// finds stays as long as that slot lives, so the check finds it too. Three steps.
+/// The part that field 1 of the slot holds which the seat read last, under a snapshot by this word.
+/// What the look finds stays as long as that slot lives, so the check finds it too. Three steps.
 fn protect_part<S, P: HasDirectory<S>>(
     domain: &Domain<P>,
     seat: &mut Seat<P>,
@@ -86,16 +87,15 @@ fn protect_part<S, P: HasDirectory<S>>(
     let Outcome::Found(found) = domain.look(seat, place, look) else {
         unreachable!()
     };
-    let Some(part) = found else {
-        unreachable!()
-    };
+    let Some(part) = found else { unreachable!() };
     domain.announce(seat, word, Kind::Strong, part);
     let check = InPart::<DirectoryLaw, S, ReadPart>::new(ReadPart);
     domain.check(seat, word, place, check);
     part
 }
 
-/// The announcement word by which the seat holds the slot stands for nothing again, if it does so by a word.
+/// The announcement word by which the seat holds the slot stands for nothing again, in one step, if
+/// there is one.
 pub(crate) fn let_go<P: Protocol>(domain: &Domain<P>, seat: &mut Seat<P>, last: Hold)
     requires rest { IsAtRest domain.now seat.old }
     requires held { IsHeldBy last.word last.slot seat.old.view.core.owned

@@ -6,8 +6,8 @@ ghost use Rattle.text_reading.specs.Reading.{AreBytesOf};
 
 use plain_state::PayloadKind;
 
-/// Where what fits a kind and is a directory's is the payload of a head or of a part, the text of the bytes that were
-/// read is the one that was read. The call does nothing.
+/// Where what fits a kind and is a directory's is the payload of a head or of a part, the bytes
+/// that were read have the text that was read. The call does nothing.
 #[tactic(auto, using(crate::proofs::Pieces::bytes_have_text))]
 pub fn bytes_have_their_text<K: PayloadKind>()
     ensures { ((words : List ℕ) → K.fits words → IsOwn words → IsPiece words)

@@ -3,11 +3,10 @@
 //!
 //! The rule that it keeps is the law of `directory_law`, by deeds of `directory_protocol` and by
 //! `ReadPart`. The seat owns a reference to the head. From each slot it goes on to the part that
-//! field 1 holds: it looks at the field, announces what it found, and checks that the field holds it
-//! still, which the law promises as long as the slot before lives. So nothing is tried again, and no
-//! reference is counted. It lets a slot go once it has the next one, so two of its announcement words
-//! are enough. What the law promises of texts tells how long to go on: a whole text ends where so many
-//! bytes were read as its head tells.
+//! field 1 holds: it looks at the field, announces what it found, and checks that the field holds
+//! it still, which the law promises as long as the slot before lives. So nothing is tried again,
+//! and no reference is counted. It lets a slot go once it has the next one, so two of its
+//! announcement words are enough. A text ends where as many bytes were read as its head tells.
 //!
 //! The call is over each protocol that has a directory as a part, and changes nothing else of the
 //! seat's view.
@@ -16,7 +15,7 @@
 //!
 //! ```text
 //! let mut bytes = [0; 4096];
-//! let length = read_text(&domain, &mut seat, record.slot(), &mut bytes);   // its head was upgraded
+//! let length = read_text(&domain, &mut seat, record.slot(), &mut bytes); // of an upgraded head
 //! let text = &bytes[..length as usize];
 //! ```
 #![tactic(auto)]

@@ -15,9 +15,10 @@ use crate::payloads::payload_of;
 use acquire_retire::{Domain, Seat, SlotId};
 use directory_protocol::HasDirectory;
 
-/// Reads the text of the record in a slot that the seat owns strongly, of which it has begun to read the head, and puts
-/// its bytes, 1 to 4,096, at the begin of `out`. The result is their number; what stands behind them in `out` is of no
-/// meaning. 16 steps for the head and 20 for each part, at most 696.
+/// Reads the text of the record in a slot that the seat owns strongly, of which it has begun to
+/// read the head, and puts its bytes, 1 to 4,096, at the begin of `out`. The result is their
+/// number; what stands behind them in `out` is of no meaning. 16 steps for the head and 20 for each
+/// part, at most 696.
 pub fn read_text<S, P: HasDirectory<S>>(
     domain: &Domain<P>,
     seat: &mut Seat<P>,

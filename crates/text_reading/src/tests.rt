@@ -40,7 +40,7 @@ fn the_bytes_of_a_part_are_put_behind_those_of_the_head(rt: HostRuntime) {
     assert_eq!(rt; out[129], 0);
 }
 
-/// Where the directory is the domain's only client, the bytes that are read are those that have the text.
+/// Where the directory is the domain's only client, the bytes that are read have the text.
 fn read_alone(
     domain: &Domain<DirectoryLaw>,
     seat: &mut Seat<DirectoryLaw>,

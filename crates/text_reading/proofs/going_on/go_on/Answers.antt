@@ -20,9 +20,9 @@ returns-clause-word g c = (
   refl,
   sym c.free_note.ensures ∙ c.in-Some.is,
   hand_core g.P.Part.seen c.args.last.word c.args.last.slot c.in-Some.word
-    c.protect_part-part.result c.args.seat.now c.protect_part-part.new.seat c.let_go.new.seat
-    c.protect_part-part.ensures.four c.requires.held (sym c.free_note.ensures ∙ c.in-Some.is)
-    c.protect_part-part.ensures.core c.let_go.ensures.core c.let_go.ensures.objects,
+      c.protect_part-part.result c.args.seat.now c.protect_part-part.new.seat c.let_go.new.seat
+      c.protect_part-part.ensures.four c.requires.held (sym c.free_note.ensures ∙ c.in-Some.is)
+      c.protect_part-part.ensures.core c.let_go.ensures.core c.let_go.ensures.objects,
 )
 
 pub returns-clause-objects : goal.returns-clause-objects

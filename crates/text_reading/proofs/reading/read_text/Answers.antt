@@ -2,7 +2,9 @@ use Rattle.std.proofs.Common.{◌≡◌, ℕ, ◌+◌, ◌-◌, ◌*◌, List, a
 use Rattle.std.specs.Prelude.{Option, min, slice_index, take}
 use Rattle.directory_calls.proofs.Parts.{place_of}
 use Rattle.text_reading.specs.Reading.{AreBytesOf}
-use Rattle.text_reading.proofs.Running.{IsUpTo, head_put, head_read, holds_part, more, part_put, part_read, text_leaves, text_read}
+use Rattle.text_reading.proofs.Copied.{head_put, part_put}
+use Rattle.text_reading.proofs.Running.{IsUpTo, head_read, holds_part, more, part_read}
+use Rattle.text_reading.proofs.WholeTexts.{text_leaves, text_read}
 use Rattle.text_reading.proofs.reading.read_text.Goals as goal
 
 pub loop-part-init : goal.loop-part-init
@@ -73,18 +75,19 @@ loop-part-preserved g c =
     (part_put (slice_index c.payload_of-head.result 0) (120 * (c.loop-part.part + 1))
     c.min-in-loop-part.result (120 * (c.loop-part.part + 1 + 1)) c.loop-part.out
     c.put_payload-in-loop-part.new.out c.payload_of-words.result
-    (omega (arith, c.loop-part-test.true)) c.min-in-loop-part.ensures (omega arith) c.put_payload-in-loop-part.ensures))
+    (omega (arith, c.loop-part-test.true)) c.min-in-loop-part.ensures (omega arith)
+    c.put_payload-in-loop-part.ensures))
 
 pub returns-clause-reads : goal.returns-clause-reads
 returns-clause-reads g c =
     let past = c.loop-part-test.false in
     let end = c.loop-part.auto.part-end in
     let all : min (slice_index c.payload_of-head.result 0) (120 * (c.loop-part.part + 1))
-        ≡ slice_index c.payload_of-head.result 0 = grind arith in
+    ≡ slice_index c.payload_of-head.result 0 = grind arith in
     let read = text_read g.P.Kind.PayloadKind.fits c.args.domain.now
     (place_of g.P.Part.seen g.P.Part.with_seen g.P.Part.reads g.P.Part.puts_back
     g.P.Part.puts_over)
-    c.args.slot c.args.seat.now c.requires.held c.payload_of-head.ensures.four c.requires.free
+    c.args.slot c.args.seat.now c.requires.held
     c.loop-part.part (slice_index c.payload_of-head.result 0 - 120 * (c.loop-part.part + 1))
     (take (min (slice_index c.payload_of-head.result 0) (120 * (c.loop-part.part + 1)))
     c.loop-part.out) c.loop-part.last.word c.loop-part.last.slot c.loop-part.seat
@@ -102,7 +105,7 @@ returns-clause-leaves g c =
     text_leaves g.P.Kind.PayloadKind.fits c.args.domain.now
     (place_of g.P.Part.seen g.P.Part.with_seen g.P.Part.reads g.P.Part.puts_back
     g.P.Part.puts_over)
-    c.args.slot c.args.seat.now c.requires.held c.payload_of-head.ensures.four c.requires.free
+    c.args.slot c.args.seat.now c.requires.held
     c.loop-part.part (slice_index c.payload_of-head.result 0 - 120 * (c.loop-part.part + 1))
     (take (min (slice_index c.payload_of-head.result 0) (120 * (c.loop-part.part + 1)))
     c.loop-part.out) c.loop-part.last.word c.loop-part.last.slot c.loop-part.seat
