@@ -32,7 +32,7 @@ use Rattle.text_reading.proofs.Cuts.{HasLeft, bytes_head, bytes_more, each_more,
 use Rattle.text_reading.proofs.LetGo.{IsFreeIn, free_in_rest, hold_after, least_there, one_free, rest_is, with_hold}
 use Rattle.text_reading.proofs.Steps.{comes_then, freed_trail}
 
--- the text of s was read up to a slot: n parts of it, and this is the rest
+-- the text of s was read up to a slot, and these are the payloads so far
 abbrev pub ran_to : {V : Type 0} → SlotId → SeatState V → Text → SlotId → SeatState V → Ran
 ran_to s old before slot now = record {
   slot = s;

@@ -30,6 +30,5 @@ mod reading;
 mod tests;
 
 pub use deeds::ReadPart;
-pub use going_on::Hold;
 pub use laws::bytes_have_their_text;
 pub use reading::read_text;
