@@ -30,5 +30,5 @@ mod reading;
 mod tests;
 
 pub use deeds::ReadPart;
-pub use laws::bytes_have_their_text;
+pub use laws::{bytes_have_their_text, pairs_have_pieces};
 pub use reading::read_text;
