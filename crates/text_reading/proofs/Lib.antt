@@ -1,0 +1,11 @@
+pub mod Copied
+pub mod Cuts
+pub mod Steps
+pub mod WordsRead
+pub mod Leading
+pub mod Protected
+pub mod LetGo
+pub mod HandOver
+pub mod Running
+pub mod WholeTexts
+pub mod Pieces
