@@ -58,7 +58,9 @@ module _ (z : Shape) (c : Core) (n : ℕ) (so : Sound z c) (hn : n < z.seats) (s
 
   -- where the bit is clear afterwards it was so before, or the slot is claimed now
   abbrev pub Clears : Act → Type 0
-  Clears a = free_bit z (after z c n a) s ≡ 0 → (free_bit z c s ≡ 0) ⊎ (0 < claims (after z c n a) s)
+  Clears a =
+      free_bit z (after z c n a) s ≡ 0
+      → (free_bit z c s ≡ 0) ⊎ (0 < claims (after z c n a) s)
 
   same : (a : Act) → free_bit z (after z c n a) s ≡ free_bit z c s → Clears a
   same a e clear = inl (sym e ∙ clear)
@@ -70,7 +72,8 @@ module _ (z : Shape) (c : Core) (n : ℕ) (so : Sound z c) (hn : n < z.seats) (s
   reads : (a : Act) → next a v (found z c n a) ≡ found z c n a → Clears a
   reads a stays = same a
       (ap (λ (w : ℕ). bit_in s (slice_index (set c.words (place z a v) w) (bits_at z s))) stays
-      ∙ ap (λ (ws : List ℕ). bit_in s (slice_index ws (bits_at z s))) (set-get_or c.words (place z a v) 0))
+      ∙ ap (λ (ws : List ℕ). bit_in s (slice_index ws (bits_at z s)))
+      (set-get_or c.words (place z a v) 0))
 
   law : SeatLaw z n v
   law = so.seats n hn
@@ -139,10 +142,13 @@ module _ (z : Shape) (c : Core) (n : ℕ) (so : Sound z c) (hn : n < z.seats) (s
   clears (act.Drop x) may = let p = may.1 in
       let h = named_in_range z n v x law (omega arith) in off (act.Drop x) (omega arith)
   clears act.Pay may = off act.Pay (owed_off z n v law hn v.owed refl)
-  clears act.Finish may = phase_off act.Finish (strong_at z) may.0 (ap slot_of may.1) refl (λ h. omega arith)
-  clears act.Take may = phase_off act.Take (strong_at z) may.0 (ap slot_of may.1) refl (λ h. omega arith)
+  clears act.Finish may =
+      phase_off act.Finish (strong_at z) may.0 (ap slot_of may.1) refl (λ h. omega arith)
+  clears act.Take may =
+      phase_off act.Take (strong_at z) may.0 (ap slot_of may.1) refl (λ h. omega arith)
   clears (act.Count x) may = reads (act.Count x) refl
-  clears act.Mark may = phase_off act.Mark (strong_at z) may.0 (ap slot_of may.1) refl (λ h. omega arith)
+  clears act.Mark may =
+      phase_off act.Mark (strong_at z) may.0 (ap slot_of may.1) refl (λ h. omega arith)
   clears (act.Announce j k x) may =
       let j4 = may.1 in let number = law.number in off (act.Announce j k x) (omega arith)
   clears (act.Release j) may =
@@ -156,15 +162,19 @@ module _ (z : Shape) (c : Core) (n : ℕ) (so : Sound z c) (hn : n < z.seats) (s
   clears (act.Cas q old new) may =
       off (act.Cas q old new) (place_off_bits z q (open_in_range z n v law q may.2))
   clears (act.Claim x) may = claims_it x may
-  clears act.Arm may = phase_off act.Arm (weak_at z) may.0 (ap slot_of may.1) refl (λ h. omega arith)
+  clears act.Arm may =
+      phase_off act.Arm (weak_at z) may.0 (ap slot_of may.1) refl (λ h. omega arith)
   clears (act.Fill i x) may = let below = may.1 in
-      phase_off (act.Fill i x) (λ y. payload_at z y i) may.0.0 (ap slot_of may.0.1) refl (λ h. omega arith)
-  clears act.Start may = phase_off act.Start (strong_at z) may.0 (ap slot_of may.1) refl (λ h. omega arith)
+      phase_off (act.Fill i x) (λ y. payload_at z y i) may.0.0 (ap slot_of may.0.1) refl
+      (λ h. omega arith)
+  clears act.Start may =
+      phase_off act.Start (strong_at z) may.0 (ap slot_of may.1) refl (λ h. omega arith)
   clears (act.See x i) may = reads (act.See x i) refl
   clears act.Free may = gives_it may.0 may.1
   clears act.Ticket may = let b = bits_bound z s hs in
       same act.Ticket (ap (bit_in s)
-      (get_or-set_other c.words (ticket_at z) (bits_at z s) (plus_one (found z c n act.Ticket)) 0 (omega arith)))
+      (get_or-set_other c.words (ticket_at z) (bits_at z s) (plus_one (found z c n act.Ticket)) 0
+      (omega arith)))
   clears (act.Wadd x) may = let h = held z n v law hn x may.2 in off (act.Wadd x) (omega arith)
   clears (act.Wdrop x) may = let p = may.1 in
       let h = named_in_range z n v x law (omega arith) in off (act.Wdrop x) (omega arith)

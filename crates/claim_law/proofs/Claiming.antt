@@ -81,11 +81,13 @@ module _ (z : Shape) (c : Core) (so : Sound z c) (n : ℕ) (a : Act) (on : Enabl
 
   claims_lag : SumLags claim_count make_count c (after z c n a)
   claims_lag = let b = both_grow in
-      sum_lags z c so claim_count make_count n a on (omega arith) (λ j hj root left. (both_leave j root left).0)
+      sum_lags z c so claim_count make_count n a on (omega arith)
+      (λ j hj root left. (both_leave j root left).0)
 
   makes_lag : SumLags make_count claim_count c (after z c n a)
   makes_lag = let b = both_grow in
-      sum_lags z c so make_count claim_count n a on (omega arith) (λ j hj root left. (both_leave j root left).1)
+      sum_lags z c so make_count claim_count n a on (omega arith)
+      (λ j hj root left. (both_leave j root left).1)
 
 pub claims_are_makes : (z : Shape) (ts : Terms) (es : List Event) (c : Core) → IsShape z
     → AreTerms z ts → History z ts es c → total (λ v. length (claimed v)) c.views ≡ makes_used c

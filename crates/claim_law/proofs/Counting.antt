@@ -27,7 +27,8 @@ each_rest : (f g : CoreView → ℕ) (v : CoreView) (vs : List CoreView) → Eac
 each_rest f g v vs each m h = each (suc m) (omega arith)
 
 -- so are the sums
-pub total_most : (f g : CoreView → ℕ) (vs : List CoreView) → EachMost f g vs → total f vs ≤ total g vs
+pub total_most : (f g : CoreView → ℕ) (vs : List CoreView) → EachMost f g vs
+    → total f vs ≤ total g vs
 total_most f g [] each = let a = total_nil f in let b = total_nil g in omega arith
 total_most f g (v ∷ vs) each =
     let a = total_cons f v vs in
@@ -83,9 +84,11 @@ one_below (suc n) x = ⊎_elim
     (cases_lt x.0 n)
 
 -- a list has no more slots than entries
-times_below : (n : ℕ) (xs : List SlotId) → sum_below n (λ i. times (record { 0 = i }) xs) ≤ length xs
+times_below : (n : ℕ) (xs : List SlotId)
+    → sum_below n (λ i. times (record { 0 = i }) xs) ≤ length xs
 times_below n [] =
-    let e = below_none n (λ i. times (record { 0 = i }) []) (λ i h. times_none (record { 0 = i })) in
+    let e = below_none n (λ i. times (record { 0 = i }) [])
+    (λ i h. times_none (record { 0 = i })) in
     omega arith
 times_below n (x ∷ xs) =
     let e = below_plus n (λ i. one (record { 0 = i }) x) (λ i. times (record { 0 = i }) xs)

@@ -98,7 +98,8 @@ module _ (z : Shape) (ts : Terms) (shape : IsShape z) (terms : AreTerms z ts) wh
 
   quotas_fit : (es : List Event) (c : Core) → History z ts es c
       → total quota_of c.views ≤ sum_by (λ (q : Quota). q.makes) ts.quotas
-  quotas_fit [] c h = subst (λ (d : Core). total quota_of d.views ≤ sum_by (λ (q : Quota). q.makes) ts.quotas)
+  quotas_fit [] c h = subst
+      (λ (d : Core). total quota_of d.views ≤ sum_by (λ (q : Quota). q.makes) ts.quotas)
       (sym h) (let e = first_quotas 0 ts.quotas ts.grants in omega arith)
   quotas_fit (e ∷ es) c h =
       let so = history_sound z ts es h.0 shape terms h.1 in
@@ -107,7 +108,8 @@ module _ (z : Shape) (ts : Terms) (shape : IsShape z) (terms : AreTerms z ts) wh
       subst (λ (d : Core). total quota_of d.views ≤ sum_by (λ (q : Quota). q.makes) ts.quotas)
       (sym h.2.1) (omega arith)
 
-  first_most : EachMost (committed ts.grants) (given ts.grants) (first_views z 0 ts.quotas ts.grants)
+  first_most : EachMost (committed ts.grants) (given ts.grants)
+      (first_views z 0 ts.quotas ts.grants)
   first_most m hm =
       let l = length_views z 0 ts.quotas ts.grants in
       subst (λ (v : CoreView). committed ts.grants v ≤ given ts.grants v)
@@ -118,7 +120,8 @@ module _ (z : Shape) (ts : Terms) (shape : IsShape z) (terms : AreTerms z ts) wh
     committed_fit =
         let so = history_sound z ts es c shape terms h in
         let most = always_lags z ts (committed ts.grants) (given ts.grants) shape terms
-        (total_most (committed ts.grants) (given ts.grants) (first_views z 0 ts.quotas ts.grants) first_most)
+        (total_most (committed ts.grants) (given ts.grants) (first_views z 0 ts.quotas ts.grants)
+        first_most)
         (λ hs d n a before sound on. committed_lags hs d before sound n a on) es c h in
         let split = total_plus quota_of (all_granted ts.grants) c.views in
         let quotas = quotas_fit es c h in
@@ -127,7 +130,8 @@ module _ (z : Shape) (ts : Terms) (shape : IsShape z) (terms : AreTerms z ts) wh
     each_most : EachMost (λ v. v.makes) (committed ts.grants) c.views
     each_most m hm = go (view_at c m).left refl
       where
-        go : (b : Bool) → (view_at c m).left ≡ b → (view_at c m).makes ≤ committed ts.grants (view_at c m)
+        go : (b : Bool) → (view_at c m).left ≡ b
+            → (view_at c m).makes ≤ committed ts.grants (view_at c m)
         go true gone = rw gone (omega arith)
         go false stays =
             let so = history_sound z ts es c shape terms h in
@@ -146,7 +150,9 @@ module _ (z : Shape) (ts : Terms) (shape : IsShape z) (terms : AreTerms z ts) wh
     makes_spare n hn stays left =
         let so = history_sound z ts es c shape terms h in
         let views = so.views in
-        let gap = total_gap (λ v. v.makes) (committed ts.grants) c.views n each_most (omega arith) in
+        let gap = total_gap (λ v. v.makes) (committed ts.grants) c.views n each_most
+        (omega arith) in
         let is = here ts.grants (view_at c n) stays in
-        let e = ap (λ (gs : List ℕ). granted gs (view_at c n).tickets) (same_grants es c n h hn) in
+        let e = ap (λ (gs : List ℕ). granted gs (view_at c n).tickets)
+        (same_grants es c n h hn) in
         let fit = committed_fit in omega arith

@@ -1,4 +1,4 @@
--- What all tickets of all seats grant is at most what all grants make: as if one seat had drawn them.
+-- What all tickets of all seats grant is at most what all grants make: as if one seat drew all.
 use Rattle.std.proofs.Common.{◌≡◌, ℕ, ◌+◌, ◌≤◌, List, [], ◌∷◌, ◌++◌, refl, sum, ◌∙◌, arith}
 use Rattle.std.specs.Prelude.{◌==◌, cond, slice_index_or, sum_by}
 use Rattle.std.proofs.lemmas.List.Sums.{sum_by-append, sum_by-cons}
@@ -14,7 +14,8 @@ use Rattle.claim_law.proofs.Counting.{total_cons, total_nil}
 
 -- what the tickets of a seat grant, and those of the seats that left to it
 abbrev pub all_granted : List ℕ → CoreView → ℕ
-all_granted gs v = granted gs v.tickets + sum_by (λ (l : LeftSeat). granted gs l.tickets) v.left_seats
+all_granted gs v =
+    granted gs v.tickets + sum_by (λ (l : LeftSeat). granted gs l.tickets) v.left_seats
 
 abbrev left_tickets : List LeftSeat → List ℕ
 left_tickets [] = []
@@ -90,7 +91,8 @@ grants_fit z c gs law =
           let a = total_cons (ticket_times t) owner [] in
           let n = total_nil (ticket_times t) in
           let p = pooled_times t c.views in
-          let alone : total (ticket_times t) (owner ∷ []) ≡ total (ticket_times t) c.views = omega arith in
+          let alone : total (ticket_times t) (owner ∷ []) ≡ total (ticket_times t) c.views =
+          omega arith in
           alone ∙ law.each t;
       few =
           let a = total_cons (λ (v : CoreView). v.adds) owner [] in

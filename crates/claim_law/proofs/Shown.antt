@@ -37,7 +37,8 @@ shows_either s (m ∷ ms) ns shows = ⊎_elim
 -- the bit that a claim shows clear is so in the state in which it is made
 shown_clear : (z : Shape) (c : Core) (n : ℕ) (s : SlotId) (a : Act)
     → ShownBy s a (answer z a (found z c n a) (view_at c n)) → free_bit z c s ≡ 0
-shown_clear z c n s (act.Claim x) shown = go (bit_in x (slice_index c.words (bits_at z x)) == 1) shown
+shown_clear z c n s (act.Claim x) shown =
+    go (bit_in x (slice_index c.words (bits_at z x)) == 1) shown
   where
     go : (b : Bool)
         → ShownBy s (act.Claim x)
@@ -54,7 +55,8 @@ shown_clear z c n s a shown = absurd shown
 pub record AllClaimed (z : Shape) (c : Core) : Type 0 where
   pub bits : (s : SlotId) → s.0 < z.slots → free_bit z c s ≡ 0 → 0 < claims c s
   pub trails :
-      (n : ℕ) (s : SlotId) → n < z.seats → s.0 < z.slots → ShowsTaken s (view_at c n).trail → 0 < claims c s
+      (n : ℕ) (s : SlotId) → n < z.seats → s.0 < z.slots → ShowsTaken s (view_at c n).trail
+      → 0 < claims c s
 
 module _ (z : Shape) (c : Core) (so : Sound z c) (all : AllClaimed z c) (n : ℕ) (a : Act)
     (on : Enabled z c n a) where
@@ -96,8 +98,10 @@ module _ (z : Shape) (c : Core) (so : Sound z c) (all : AllClaimed z c) (n : ℕ
   plain_told : ((j : ℕ) → a ≡ act.Leave j → ⊥) → (m : ℕ) → Told m (view_at (after z c n a) m)
   plain_told stays m = ⊎_elim
       (λ (is : m ≡ n). subst (λ (k : ℕ). Told k (view_at (after z c n a) k)) (sym is)
-      (subst (Told n) (sym (ap (λ (vs : List CoreView). get_or vs n no_view) (views_plain z c n a stays)
-      ∙ get_or-set_same c.views n (moved z a (found z c n a) (view_at c n)) no_view on.0)) told_more))
+      (subst (Told n)
+      (sym (ap (λ (vs : List CoreView). get_or vs n no_view) (views_plain z c n a stays)
+      ∙ get_or-set_same c.views n (moved z a (found z c n a) (view_at c n)) no_view on.0))
+      told_more))
       (λ (ne : m ≢ n). subst (Told m)
       (sym (ap (λ (vs : List CoreView). get_or vs m no_view) (views_plain z c n a stays)
       ∙ get_or-set_other c.views n m (moved z a (found z c n a) (view_at c n)) no_view ne))
@@ -129,10 +133,12 @@ step z c so all n a on = record {
   bits = bits_then z c so all n a on;
   trails = λ m s hm hs. ⊎_elim
       (λ (l : (j : ℕ) × (a ≡ act.Leave j)).
-      subst (λ (b : Act). ShowsTaken s (view_at (after z c n b) m).trail → 0 < claims (after z c n b) s)
+      subst
+      (λ (b : Act). ShowsTaken s (view_at (after z c n b) m).trail → 0 < claims (after z c n b) s)
       (sym l.1)
       (leave_told z c so all n l.0 (subst (λ (b : Act). Enabled z c n b) l.1 on) m s.0 hm hs))
-      (λ (stays : (j : ℕ) → a ≡ act.Leave j → ⊥). plain_told z c so all n a on stays m hm s hs)
+      (λ (stays : (j : ℕ) → a ≡ act.Leave j → ⊥).
+      plain_told z c so all n a on stays m hm s hs)
       (is_leave a);
 }
 
@@ -144,5 +150,5 @@ all_claimed z ts [] c shape terms h = subst (AllClaimed z) (sym h) (record {
 })
 all_claimed z ts (e ∷ es) c shape terms h =
     subst (AllClaimed z) (sym h.2.1)
-    (step z h.0 (history_sound z ts es h.0 shape terms h.1) (all_claimed z ts es h.0 shape terms h.1)
-    e.seat e.act h.2.0)
+    (step z h.0 (history_sound z ts es h.0 shape terms h.1)
+    (all_claimed z ts es h.0 shape terms h.1) e.seat e.act h.2.0)

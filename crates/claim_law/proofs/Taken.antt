@@ -12,8 +12,8 @@ use Rattle.claim_law.proofs.Counting.{below_each, lists_below}
 use Rattle.claim_law.proofs.Given.{makes_spare}
 use Rattle.claim_law.proofs.Shown.{all_claimed}
 
-pub taken_slots_were_made : (z : Shape) (ts : Terms) (es : List Event) (c : Core) (n : ℕ) → IsShape z
-    → AreTerms z ts → History z ts es c → n < z.seats → (view_at c n).left ≡ false
+pub taken_slots_were_made : (z : Shape) (ts : Terms) (es : List Event) (c : Core) (n : ℕ)
+    → IsShape z → AreTerms z ts → History z ts es c → n < z.seats → (view_at c n).left ≡ false
     → HasMake (view_at c n)
     → ((s : SlotId) → s.0 < z.slots → ShowsTaken s (view_at c n).trail)
     → z.slots < makes_given ts

@@ -59,7 +59,8 @@ module _ (z : Shape) (c : Core) (so : Sound z c) where
       + (f (noted (act.Leave j) outcome.Plain (taken_over (view_at c 0) (view_at c j)))
       + f (left_behind (view_at c j)))
   leave_sum f j other hj =
-      let root : CoreView = noted (act.Leave j) outcome.Plain (taken_over (view_at c 0) (view_at c j)) in
+      let root : CoreView =
+      noted (act.Leave j) outcome.Plain (taken_over (view_at c 0) (view_at c j)) in
       let gone : CoreView = left_behind (view_at c j) in
       let l = length-set c.views 0 root in
       let there = joined.atj z c so j other hj in

@@ -1,4 +1,4 @@
--- Which slots the seats have claimed, how many makes they were given, and what a trail shows of a slot.
+-- Which slots the seats have claimed, how many makes they were given, and what a trail shows.
 use Rattle.std.specs.Prelude.{ℕ, ◌≡◌, ◌⊎◌, ◌+◌, ◌/◌, List, [], ◌∷◌, ◌++◌, sum, sum_by}
 use Rattle.plain_state.specs.declared.slot.SlotId.{SlotId}
 use Rattle.plain_state.specs.Lists.{times}
@@ -15,7 +15,8 @@ use Rattle.core_events.specs.Shows.{filled}
 use Rattle.core_events.specs.Views.{Terms, alone}
 use Rattle.core_events.specs.Words.{bit_in}
 
--- the slots that a seat has claimed, an entry for each time: those that it made live, and the one that it is making
+-- the slots that a seat has claimed, an entry for each time: those that it made live, and the one
+-- that it is making
 abbrev pub claimed : CoreView → List SlotId
 claimed v = v.made ++ alone (filled v.phase)
 
@@ -31,7 +32,8 @@ makes_used c = total (λ v. v.makes) c.views
 abbrev pub makes_given : Terms → ℕ
 makes_given ts = sum_by (λ (q : Quota). q.makes) ts.quotas + sum ts.grants
 
--- a claim that found the bit of s clear in its word, be it a claim of s or of another slot with its bit in that word
+-- a claim that found the bit of s clear in its word, be it a claim of s or of another slot with its
+-- bit in that word
 abbrev pub ShownBy : SlotId → Act → Outcome → Type 0
 ShownBy s (act.Claim x) (outcome.Taken w) = (x.0 / 64 ≡ s.0 / 64) × (bit_in s w ≡ 0)
 ShownBy s a o = ⊥

@@ -29,7 +29,8 @@ pub fn shown_slots_were_claimed()
         → ShowsTaken s (view_at c n).trail → 0 < claims c s }
 {}
 
-/// The seats have used no more makes than they were given, and fewer where one of them has a make left.
+/// The seats have used no more makes than they were given, and fewer where one of them has a make
+/// left.
 pub fn makes_fit()
     ensures all { (z : Shape) (ts : Terms) (es : List Event) (c : Core) → IsShape z → AreTerms z ts
         → History z ts es c → makes_used c ≤ makes_given ts }
@@ -38,8 +39,8 @@ pub fn makes_fit()
         → HasMake (view_at c n) → makes_used c < makes_given ts }
 {}
 
-/// Where the trail of a seat shows each slot taken and the seat has a make left, more makes were given than there are
-/// slots.
+/// Where the trail of a seat shows each slot taken and the seat has a make left, more makes were
+/// given than there are slots.
 pub fn taken_slots_were_made()
     ensures { (z : Shape) (ts : Terms) (es : List Event) (c : Core) (n : ℕ) → IsShape z
         → AreTerms z ts → History z ts es c → n < z.seats → (view_at c n).left ≡ false

@@ -4,6 +4,7 @@ pub mod Tries
 pub mod Turns
 pub mod Claims
 pub mod Searches
+pub mod Exhausting
 pub mod Filling
 pub mod Beginning
 pub mod Starting
