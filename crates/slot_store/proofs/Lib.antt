@@ -22,6 +22,9 @@ pub mod Quieting
 pub mod Leftovers
 pub mod Cycles
 pub mod CyclesLeft
+pub mod Numbering
+pub mod Rescanning
+pub mod Spending
 pub mod Settles
 pub mod Chaining
 pub mod Sparing
