@@ -18,6 +18,7 @@ pub mod Objects
 pub mod Lasting
 pub mod Turning
 pub mod OwnNotes
+pub mod Scans
 pub mod Quieting
 pub mod Leftovers
 pub mod Cycles
