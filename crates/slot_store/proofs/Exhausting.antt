@@ -73,8 +73,10 @@ shown_after s (m ∷ ms) ns shows = inr (shown_after s ms ns shows)
 tries_show : (s : SlotId) (ts : List Try) → IsShownTaken s ts → ShowsTaken s (taken_by ts)
 tries_show s [] shown = absurd shown
 tries_show s (t ∷ ts) shown = ⊎_elim
-    (λ now. shown_after s (taken_by ts) (move (act.Claim t.slot) (outcome.Taken t.word) ∷ []) (inl now))
-    (λ before. shown_before s (taken_by ts) (move (act.Claim t.slot) (outcome.Taken t.word) ∷ [])
+    (λ now.
+    shown_after s (taken_by ts) (move (act.Claim t.slot) (outcome.Taken t.word) ∷ []) (inl now))
+    (λ before.
+    shown_before s (taken_by ts) (move (act.Claim t.slot) (outcome.Taken t.word) ∷ [])
     (tries_show s ts before))
     shown
 
@@ -90,15 +92,16 @@ module _ {P V : Type 0} {fits : List ℕ → Type 0} (d : DomainState P) (old ne
           → Walks fits d (taken_by ts) old new
           → ((s : SlotId) → s.0 < d.shape.slots
           → ShowsTaken s (old.view.core.trail ++ taken_by missed.tries))
-          → new.view.core ≡ record old.view.core { trail = old.view.core.trail ++ taken_by missed.tries }
+          → new.view.core
+          ≡ record old.view.core { trail = old.view.core.trail ++ taken_by missed.tries }
           → d.shape.slots < makes_given d.terms
       go [] all walks shows core = absurd (all (record { 0 = 0 }) (omega arith))
       go (t ∷ ts) all walks shows core =
-          let stood = walk_stood fits d (taken_by ts) (move (act.Claim t.slot) (outcome.Taken t.word))
-          old new walks in
+          let stood = walk_stood fits d (taken_by ts)
+          (move (act.Claim t.slot) (outcome.Taken t.word)) old new walks in
           let is = sym stood.view ∙ core in
-          taken_slots_were_made d.shape d.terms stood.events stood.core stood.seat stood.shape stood.terms
-          stood.history stood.there
+          taken_slots_were_made d.shape d.terms stood.events stood.core stood.seat stood.shape
+          stood.terms stood.history stood.there
           (ap (λ (v : CoreView). v.left) is ∙ rest.idle.1)
           (subst HasMake (sym is) left)
           (λ s hs. subst (λ (v : CoreView). ShowsTaken s v.trail) (sym is) (shows s hs))

@@ -45,7 +45,8 @@ module _ {P V : Type 0} {fits : List ℕ → Type 0} (d : DomainState P)
       let e = ap (λ (v : CoreView). length v.trail) step.told.core in
       let same = ap length (changed_trail d.shape a step.word old.view.core).trail in
       let m : Move = move a (answer d.shape a step.word old.view.core) in
-      let more = length-append (changed d.shape a step.word old.view.core).trail (m ∷ []) in omega arith
+      let more = length-append (changed d.shape a step.word old.view.core).trail (m ∷ []) in
+      omega arith
 
 module _ {P V : Type 0} (fits : List ℕ → Type 0) (d : DomainState P) where
   walk_steps : (ms : List Move) (old new : SeatState V) → Walks fits d ms old new
@@ -79,8 +80,8 @@ scan_steps seen last stay go =
     let each = length-map seen (λ w. move act.Scan (outcome.Word w)) in omega arith
 
 module _ {P V : Type 0} (d : DomainState P) where
-  -- A part of a reap takes so many steps of its own, beside its collects. Each of these ejects an entry, and comes
-  -- with an entry that is retired.
+  -- A part of a reap takes so many steps of its own, beside its collects. Each of these ejects an
+  -- entry, and comes with an entry that is retired.
   pub record Takes (collects own came : ℕ) (old new : SeatState V) : Type 0 where
     pub steps : steps_due new ≤ steps_due old + own + collects * announcements d.shape
     pub entries : entries_of new + collects ≤ entries_of old + came
@@ -97,7 +98,8 @@ module _ {P V : Type 0} (d : DomainState P) where
     few = let one = first.few in let two = more.few in omega arith;
   }
 
-  -- A reap that destroys a slot: its collects eject an entry each, but for one that it makes where nothing is ripe.
+  -- A reap that destroys a slot: its collects eject an entry each, but for one that it makes where
+  -- nothing is ripe.
   pub record ReapTakes (collects : ℕ) (old new : SeatState V) : Type 0 where
     pub steps : steps_due new ≤ steps_due old + 30 + collects * announcements d.shape
     pub entries :
@@ -122,7 +124,7 @@ module _ {P V : Type 0} {fits : List ℕ → Type 0} (d : DomainState P) where
       let all = k.all in
       let fewer = k.retired in omega arith
 
-  -- an exchange retires an entry, and collects only where as many are retired as a scan may keep, and more
+  -- an exchange retires an entry, and collects only where more are retired than a scan may keep
   clears_takes : (p : EventPlace) (old new : SeatState V) → Clears fits d p old new
       → (k : ℕ) × Takes d k 4 1 old new
   clears_takes p old new c =
@@ -156,8 +158,8 @@ module _ {P V : Type 0} {fits : List ℕ → Type 0} (d : DomainState P) where
 
 module _ {P V : Type 0} (fits : List ℕ → Type 0) (d : DomainState P) where
   frees_takes : (last : Bool) (mid new : SeatState V)
-      → MatchBool last (Steps fits d same_view IsSameView act.Free mid new outcome.Plain) (new ≡ mid)
-      → Takes d 0 1 0 mid new
+      → MatchBool last (Steps fits d same_view IsSameView act.Free mid new outcome.Plain)
+      (new ≡ mid) → Takes d 0 1 0 mid new
   frees_takes false mid new same =
       let made = ap (λ (x : SeatState V). steps_made x) same in
       let kept = ap (λ (x : SeatState V). entries_of x) same in
@@ -221,7 +223,8 @@ module _ {P V : Type 0} {fits : List ℕ → Type 0} (d : DomainState P) where
       )
 
   -- a reap that destroyed none has collected at most once
-  pub none_takes : (weight : List ℕ → ℕ) (old mid : SeatState V) → Answers fits d weight None old mid
+  pub none_takes : (weight : List ℕ → ℕ) (old mid : SeatState V)
+      → Answers fits d weight None old mid
       → (steps_due mid ≤ steps_due old + announcements d.shape) × (entries_of mid ≤ entries_of old)
   none_takes weight old mid none = ⊎_elim
       (λ (idle : (old.view.core.dying ≡ []) × (mid ≡ old)).
@@ -238,7 +241,7 @@ module _ {P V : Type 0} (fits : List ℕ → Type 0) (d : DomainState P) where
   -- the steps of a reap, whatever it answers
   pub reap_steps : (weight : List ℕ → ℕ) (answered : Option ℕ) (old new : SeatState V)
       → Answers fits d weight answered old new
-      → steps_made new ≤ steps_made old + 4 * announcements d.shape + 3 * entries_of old + 30
+      → steps_made new ≤ steps_made old + 4 * announcements d.shape + 3 * (entries_of old + 3) + 21
   reap_steps weight None old new none =
       let one = none_takes d weight old new none in
       let steps = one.0 in omega arith

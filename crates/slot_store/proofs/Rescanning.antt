@@ -1,5 +1,5 @@
--- A seat that is alone and collects twice: where the first collect ejects nothing and leaves nothing
--- ripe, so does the second.
+-- A seat that is alone and collects twice: where the first collect ejects nothing and leaves
+-- nothing ripe, so does the second.
 use Rattle.std.proofs.Common.{◌≡◌, ⊎_elim, ℕ, ◌+◌, ◌<◌, ◌≤◌, List, [], ◌∷◌, length, refl, ap, sym, ◌∙◌, arith, length-append}
 use Rattle.std.specs.Prelude.{IsSome}
 use Rattle.plain_state.specs.declared.slot.Kind.{Kind}
@@ -93,6 +93,8 @@ module _ {P V : Type 0} {fits : List ℕ → Type 0} (d : DomainState P) where
         ∙ (λ i. ripened ((is ∙ sym was) i) (one.dying i) (announced_in (words i)))
         ∙ sym one.ripe ∙ is in
         let fewer = second.collects.retired in
-        ⊎_elim (λ (less : length new.view.core.retired < length mid.view.core.retired). absurd (omega arith))
+        ⊎_elim
+        (λ (less : length new.view.core.retired < length mid.view.core.retired).
+        absurd (omega arith))
         (λ more. more ripe)
         goes.more

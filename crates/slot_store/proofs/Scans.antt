@@ -40,7 +40,8 @@ module _ {P V : Type 0} (fits : List ℕ → Type 0) (d : DomainState P) where
       let is = split_read (is_last d.shape v) last stay go step.word _ _ step.answers in
       let goes = split_goes (is_last d.shape v) last stay go step.word _ _ step.answers in
       let words : v.seen ++ step.word ∷ [] ≡ (acc ++ []) ++ last ∷ [] =
-      (λ i. begins i ++ sym is.1 i ∷ []) ∙ ap (λ (xs : List ℕ). xs ++ last ∷ []) (sym (append_nil acc)) in (
+      (λ i. begins i ++ sym is.1 i ∷ [])
+      ∙ ap (λ (xs : List ℕ). xs ++ last ∷ []) (sym (append_nil acc)) in (
         walks.0,
         walks.2,
         subst (λ (xs : List ℕ). Scanned xs go v walks.0.view.core) words (record {
@@ -70,7 +71,9 @@ module _ {P V : Type 0} (fits : List ℕ → Type 0) (d : DomainState P) where
           retired = r.2.retired ∙ (λ i. kept (retired i) (announced_in (words i ++ last ∷ [])));
           ripe = r.2.ripe ∙ (λ i. ripened (ripe i) (dying i) (announced_in (words i ++ last ∷ [])));
           dying = r.2.dying ∙ dying;
-          goes = r.2.goes ∙ (λ i. length (ejected (retired i) (announced_in (words i ++ last ∷ []))));
+          goes =
+              r.2.goes
+              ∙ (λ i. length (ejected (retired i) (announced_in (words i ++ last ∷ []))));
         },
       )
 
@@ -88,8 +91,8 @@ module _ {P V : Type 0} {fits : List ℕ → Type 0} (d : DomainState P) where
     pub own_words : IsSome a.view.whole → AreOwn a.view.core 0 (words_of a b c)
     own_words known =
         subst (λ (ss : List ℕ). AreOwn a.view.core (length ss) (words_of a b c)) unread_now
-        (own_scan fits d c.collects.seen c.collects.last _ _ (flat_map paid_by c.collects.payments) a b
-        known c.collects.goes.walks)
+        (own_scan fits d c.collects.seen c.collects.last _ _
+        (flat_map paid_by c.collects.payments) a b known c.collects.goes.walks)
 
     -- a collect that paid for nothing
     pub unpaid : c.collects.payments ≡ [] → Scanned (words_of a b c) 0 a.view.core b.view.core
@@ -99,7 +102,8 @@ module _ {P V : Type 0} {fits : List ℕ → Type 0} (d : DomainState P) where
         (subst (λ (ps : List Payment).
         Walks fits d (scanned_by c.collects.seen c.collects.last (length b.view.core.retired)
         (length ps) ++ flat_map paid_by ps) a b) none c.collects.goes.walks) in
-        subst (λ (x : SeatState V). Scanned (words_of a b c) 0 a.view.core x.view.core) (sym r.1) r.2
+        subst (λ (x : SeatState V). Scanned (words_of a b c) 0 a.view.core x.view.core) (sym r.1)
+        r.2
 
     -- as many entries were ejected as were paid for
     pub ejects : length c.collects.payments

@@ -5,7 +5,6 @@ use Rattle.std.proofs.lemmas.List.Sums.{sum_by-cons}
 use Rattle.core_events.specs.declared.view.CoreView.{CoreView}
 use Rattle.core_events.specs.Counts.{stage}
 use Rattle.core_events.specs.Steps.{HasRoom}
-use Rattle.core_events.specs.Words.{announcements}
 use Rattle.domain_rule.specs.Views.{IsAlone}
 use Rattle.acquire_retire.specs.Collecting.{rest_of}
 use Rattle.acquire_retire.specs.Domains.{DomainState}
@@ -14,7 +13,7 @@ use Rattle.acquire_retire.specs.Wholes.{known_core}
 use Rattle.control_word.specs.Resting.{IsAtRest}
 use Rattle.slot_store.specs.Leftovers.{IsQuiet, LeavesCycles}
 use Rattle.slot_store.specs.Reaping.{Answers, KnowsBoth, Reaps, Waits}
-use Rattle.slot_store.specs.Spending.{collects_most, entries_of, steps_made}
+use Rattle.slot_store.specs.Spending.{settle_most, steps_made}
 use Rattle.slot_store.specs.Settling.{GoesOn, Quiets, Settles, Turns, objects_known, weight_of}
 use Rattle.slot_store.proofs.CyclesLeft.{leaves_cycles}
 use Rattle.slot_store.proofs.Lasting.{Lasts, MayLast, collect_lasts, known_then, may_last_on, objects_last, objects_may, stands, then_lasts, knows_last}
@@ -192,9 +191,7 @@ module _ {P V : Type 0} {fits : List ℕ → Type 0} {weight : List ℕ → ℕ}
         }
 
         pub settled_steps : (now.view.core.dying ≡ [] → mid ≡ now)
-            → steps_made new
-            ≤ steps_made old + collects_most d old * announcements d.shape + 3 * entries_of old
-            + 30 * objects_known d old
+            → steps_made new ≤ steps_made old + settle_most d old
         settled_steps idle =
             settle_steps d weight u.collects old now mid new u.known u.spends none idle quiet
 

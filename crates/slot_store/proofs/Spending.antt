@@ -23,13 +23,14 @@ use Rattle.control_word.specs.Resting.{IsAtRest}
 use Rattle.retiring_stores.specs.Scanning.{Collected}
 use Rattle.slot_store.specs.Reaping.{Answers, Reaps, Waits}
 use Rattle.slot_store.specs.Settling.{GoesOn, Quiets, objects_known}
-use Rattle.slot_store.specs.Spending.{collects_most, entries_of, steps_made}
+use Rattle.slot_store.specs.Spending.{collects_most, entries_of, settle_most, steps_made}
 use Rattle.slot_store.proofs.Lasting.{Lasts, collect_lasts, known_then, objects_last, objects_may}
 use Rattle.slot_store.proofs.Numbering.{collect_steps, reap_takes, steps_due}
 use Rattle.slot_store.proofs.Rescanning.{quiet_again}
 use Rattle.slot_store.proofs.Turning.{Fewer, none_parts, none_ripe, unripe, unripe_most, unripe_some}
 
--- how many collects may come yet: one for each entry, four for each object, and one where nothing is ripe
+-- how many collects may come yet: one for each entry, four for each object, and one where nothing
+-- is ripe
 abbrev pub collects_left : {P V : Type 0} → DomainState P → SeatState V → ℕ
 collects_left d seat = entries_of seat + 4 * objects_known d seat + unripe seat.view.core.ripe
 
@@ -72,7 +73,8 @@ module _ {P V : Type 0} (d : DomainState P) where
       let shown = shown_dying z c s in
       let ended = sym (shown_stage z c s hs) ∙ ((shows_lawful z c so).dying s).1 (omega arith) in
       let one = ap standing ended in
-      let below = below_at z.slots s.0 (λ x. standing (stage z c (record { 0 = x }))) hs in omega arith)
+      let below = below_at z.slots s.0 (λ x. standing (stage z c (record { 0 = x }))) hs in
+      omega arith)
       (λ (past : length c.views ≤ n).
       let none = ap (λ (v : CoreView). times s v.dying) (get_or_past c.views n no_view past) in
       let nothing = times_none s in absurd (omega arith))
@@ -90,7 +92,8 @@ module _ {P V : Type 0} {fits : List ℕ → Type 0} (d : DomainState P) where
         record { steps = omega arith; charged = omega arith },
       )
 
-  -- where a reap destroyed nothing and a collect goes on, each collect has ejected an entry or made a slot ripe
+  -- where a reap destroyed nothing and a collect goes on, each collect has ejected an entry or made
+  -- a slot ripe
   pub collected_spends : (weight : List ℕ → ℕ) (old mid new : SeatState V) → IsAtRest d old
       → IsSome old.view.whole → Answers fits d weight None old mid → GoesOn fits d mid new
       → (k : ℕ) × Spends d k old new
@@ -126,7 +129,8 @@ module _ {P V : Type 0} {fits : List ℕ → Type 0} (d : DomainState P) where
         record { steps = omega arith; charged = omega arith },
       ))
       (λ (same : entries_of old ≤ entries_of mid).
-      absurd (quiet_again d old mid new rest known waits.1.collected same waits.0 waits.1.none goes))
+      absurd (quiet_again d old mid new rest known waits.1.collected same waits.0 waits.1.none
+      goes))
       (cases_lt (entries_of mid) (entries_of old)))
       none
 
@@ -134,9 +138,7 @@ module _ {P V : Type 0} {fits : List ℕ → Type 0} (d : DomainState P) where
   pub settle_steps : (weight : List ℕ → ℕ) (k : ℕ) (old now mid new : SeatState V)
       → IsSome now.view.whole → Spends d k old now → Answers fits d weight None now mid
       → (now.view.core.dying ≡ [] → mid ≡ now) → Quiets fits d mid new
-      → steps_made new
-      ≤ steps_made old + collects_most d old * announcements d.shape + 3 * entries_of old
-      + 30 * objects_known d old
+      → steps_made new ≤ steps_made old + settle_most d old
   settle_steps weight k old now mid new known spends none idle quiet = ⊎_elim
       (λ (same : (now.view.core.dying ≡ []) × (mid ≡ now)). alone same.1)
       (λ (waits : (now.view.core.ripe ≡ []) × Waits fits d now mid).
@@ -146,12 +148,11 @@ module _ {P V : Type 0} {fits : List ℕ → Type 0} (d : DomainState P) where
       left : unripe now.view.core.ripe ≡ 1
       left =
           let k = known_then d now mid known (none_parts d weight now mid known none).lasts in
-          ap unripe (none_ripe d weight now mid new none (collect_lasts d mid new k quiet.collected))
+          ap unripe
+          (none_ripe d weight now mid new none (collect_lasts d mid new k quiet.collected))
 
       alone : mid ≡ now
-          → steps_made new
-          ≤ steps_made old + collects_most d old * announcements d.shape + 3 * entries_of old
-          + 30 * objects_known d old
+          → steps_made new ≤ steps_made old + settle_most d old
       alone same =
           let so = spends.steps in
           let few = spends.charged in
@@ -165,9 +166,7 @@ module _ {P V : Type 0} {fits : List ℕ → Type 0} (d : DomainState P) where
           let most = mul-le-mul_right (announcements d.shape) all in omega arith
 
       go : (ds : List SlotId) → now.view.core.dying ≡ ds → Collected fits d now mid
-          → steps_made new
-          ≤ steps_made old + collects_most d old * announcements d.shape + 3 * entries_of old
-          + 30 * objects_known d old
+          → steps_made new ≤ steps_made old + settle_most d old
       go [] none first = alone (idle none)
       go (s ∷ ss) some first =
           let lasts = collect_lasts d now mid known first in

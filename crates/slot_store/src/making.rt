@@ -30,8 +30,8 @@ pub enum MakeError {
 /// Makes an object with this payload in a free slot, with one strong reference, which is the seat's. `MakesSpent` comes
 /// first, exactly where the seat has no make left, then `AddsSpent`, exactly where it has no add left; nothing has
 /// changed then. `Full` comes exactly where each claim of the call found its slot taken, and the words that they found
-/// show each slot taken: never where all makes, those of the quotas and those that tickets grant, are at most the slots.
-/// At most 18 steps more than there are slots.
+/// show each slot taken. It never comes where all makes, those of quotas and those that tickets grant, are at most the
+/// slots. At most 18 steps more than there are slots.
 pub fn make<P: Protocol, D: Deed<P>>(
     domain: &Domain<P>,
     seat: &mut Seat<P>,

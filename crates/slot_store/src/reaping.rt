@@ -20,8 +20,9 @@ use retiring_stores::{collect, exchange};
 /// is called. Where none is ripe the seat collects first. `None` exactly where none is dying, or where none is ripe and
 /// each that is dying is announced for disposal. What the fields held is retired.
 ///
-/// At most 21 steps and four collects, of which each reads all announcement words and pays for what it ejects: for A
-/// announcement words and E retired entries these are at most 4·A + 3·E + 30 steps.
+/// At most 21 steps and four collects. A collect reads each announcement word, and takes at most three steps for each
+/// entry that it ejects: so for A announcement words and E retired entries a reap takes at most 4·A + 3·(E + 3) + 21
+/// steps.
 pub fn reap<P: Protocol, F: Fn(&[u64; 16]) -> u64>(
     domain: &Domain<P>,
     seat: &mut Seat<P>,
@@ -33,7 +34,7 @@ pub fn reap<P: Protocol, F: Fn(&[u64; 16]) -> u64>(
     ensures reaps { Answers P.Kind.fits domain.now P.Kind.weight result seat.old seat.new }
     ensures idle { seat.old.view.core.dying ≡ [] → seat.new ≡ seat.old }
     ensures steps { steps_made seat.new ≤ steps_made seat.old
-        + 4 * announcements domain.now.shape + 3 * entries_of seat.old + 30 }
+        + 4 * announcements domain.now.shape + 3 * (entries_of seat.old + 3) + 21 }
     ensures client { seat.new.view.client ≡ seat.old.view.client }
     ensures notes { seat.new.view.core.notes ≡ seat.old.view.core.notes }
     ensures objects { KnowsBoth seat.old seat.new }

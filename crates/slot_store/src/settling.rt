@@ -1,16 +1,15 @@
 //! How a seat that is alone destroys all that may be destroyed.
-ghost use Rattle.std.specs.Prelude.{◌≡◌, ◌≤◌, ◌+◌, ◌*◌};
+ghost use Rattle.std.specs.Prelude.{◌≡◌, ◌≤◌, ◌+◌};
 ghost use Rattle.std.specs.Bool.{MatchBool};
 ghost use Rattle.core_events.specs.Steps.{HasRoom};
-ghost use Rattle.core_events.specs.Words.{announcements};
 ghost use Rattle.control_word.specs.Resting.{IsAtRest};
 ghost use Rattle.deleter.specs.Weighing.{Weighs};
 ghost use Rattle.domain_rule.specs.Views.{IsAlone};
 ghost use Rattle.acquire_retire.specs.Collecting.{rest_of};
 ghost use Rattle.slot_store.specs.Leftovers.{IsQuiet, LeavesCycles};
 ghost use Rattle.slot_store.specs.Reaping.{KnowsBoth};
-ghost use Rattle.slot_store.specs.Settling.{GoesOn, Quiets, Settles, objects_known};
-ghost use Rattle.slot_store.specs.Spending.{collects_most, entries_of, steps_made};
+ghost use Rattle.slot_store.specs.Settling.{GoesOn, Quiets, Settles};
+ghost use Rattle.slot_store.specs.Spending.{settle_most, steps_made};
 
 use crate::reaping::reap;
 use acquire_retire::{Domain, Seat};
@@ -37,9 +36,9 @@ fn gathers<P: Protocol>(domain: &Domain<P>, seat: &mut Seat<P>) -> bool
 /// on the payload of each. Of what was retired or dying only that is left which snapshots of the seat's own keep.
 /// Strong references that go round in a cycle keep their objects, and what these lead to.
 ///
-/// For E retired entries, L objects and A announcement words these are at most 2·E + 8·L + 2 turns, and at most
-/// (E + 4·L + 1)·A + 3·E + 30·L steps: E + 4·L + 1 collects, three steps for each entry, of which an object may add
-/// three, and 21 steps for each object.
+/// For E retired entries and L objects these are at most 2·E + 8·L + 2 turns, each of at most 21 steps and four
+/// collects. With the fields of the objects there may be F = E + 3·L entries to pay for. For A announcement words all
+/// turns together take at most (F + L + 1)·A + 3·F + 21·L steps, those of F + L + 1 collects among them.
 pub fn settle<P: Protocol, F: Fn(&[u64; 16]) -> u64>(
     domain: &Domain<P>,
     seat: &mut Seat<P>,
@@ -50,9 +49,7 @@ pub fn settle<P: Protocol, F: Fn(&[u64; 16]) -> u64>(
     requires alone { IsAlone seat.old.view }
     requires weighs { Weighs P.Kind.fits P.Kind.weight F.Fn deleter.now }
     ensures settles { Settles P.Kind.fits domain.now P.Kind.weight result seat.old seat.new }
-    ensures steps { steps_made seat.new ≤ steps_made seat.old
-        + collects_most domain.now seat.old * announcements domain.now.shape
-        + 3 * entries_of seat.old + 30 * objects_known domain.now seat.old }
+    ensures steps { steps_made seat.new ≤ steps_made seat.old + settle_most domain.now seat.old }
     ensures quiet { IsQuiet seat.new.view.core }
     ensures cycles { LeavesCycles seat.new.view }
     ensures same { rest_of seat.new.view.core ≡ rest_of seat.old.view.core }
