@@ -52,6 +52,7 @@ module _ {P V : Type 0} {fits : List ℕ → Type 0} (d : DomainState P) where
       }
 
 module _ {P V : Type 0} (fits : List ℕ → Type 0) (d : DomainState P) where
+  -- and one that has made moves, of which m was the last
   walk_stood : (ms : List Move) (m : Move) (old new : SeatState V)
       → Walks fits d (ms ++ m ∷ []) old new → Stood d.shape d.terms new.view.core
   walk_stood [] m old new walks =

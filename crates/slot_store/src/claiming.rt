@@ -72,8 +72,8 @@ fn newest_home(slot: SlotId, first: SlotId, home: u64, found: u64) -> u64
 }
 
 /// Claims the first slot that is found to be free, and remembers where it was. `None` where each was shown to be
-/// taken. The slots come once each, and one is claimed only where the newest that was found of its word has its bit
-/// set.
+/// taken, which comes only where more makes were given than there are slots. The slots come once each, and one is
+/// claimed only where the newest that was found of its word has its bit set.
 pub(crate) fn claim_any<P: Protocol>(domain: &Domain<P>, seat: &mut Seat<P>) -> Option<SlotId>
     requires rest { IsAtRest domain.now seat.old }
     requires make { HasMake seat.old.view.core }
