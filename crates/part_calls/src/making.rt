@@ -2,6 +2,7 @@
 ghost use Rattle.std.specs.Prelude.{◌≡◌, ◌<◌, ◌↔◌, Err, IfOk, OnErr};
 ghost use Rattle.plain_state.specs.Lists.{times};
 ghost use Rattle.core_events.specs.Steps.{HasRoom};
+ghost use Rattle.claim_law.specs.Claims.{makes_given};
 ghost use Rattle.control_word.specs.Moves.{KnowsStill};
 ghost use Rattle.control_word.specs.Resting.{IsAtRest, IsSpent};
 ghost use Rattle.slot_store.specs.declared.making.MakeError.TheVariants as refused;
@@ -17,8 +18,9 @@ pub use slot_store::MakeError;
 
 /// Makes an object with this payload, which is the part's, in a free slot, with one strong reference, which is the
 /// seat's. `MakesSpent` comes first, exactly where the seat has no make left, then `AddsSpent`, exactly where it has no
-/// add left; nothing has changed then. `Full` comes exactly where each claim of the call found its slot taken. At most
-/// 18 steps more than there are slots.
+/// add left; nothing has changed then. `Full` comes exactly where each claim of the call found its slot taken: never
+/// where all makes, those of the quotas and those that tickets grant, are at most the slots. At most 18 steps more than
+/// there are slots.
 pub fn make<Q: Protocol, S, P: Part<Q, S>, D: Deed<Q>>(
     domain: &Domain<P>,
     seat: &mut Seat<P>,
@@ -39,6 +41,8 @@ pub fn make<Q: Protocol, S, P: Part<Q, S>, D: Deed<Q>>(
     ensures no_add { result ≡ Err refused.AddsSpent → seat.new ≡ seat.old }
     ensures full { result ≡ Err refused.Full → Misses P.Kind.fits (as_part P.part domain.now)
         (seen_by P.seen seat.old) (seen_by P.seen seat.new) }
+    ensures full_only { result ≡ Err refused.Full
+        → domain.now.shape.slots < makes_given domain.now.terms }
     ensures made { IfOk result (λ strong. Makes P.Kind.fits (as_part P.part domain.now)
         (D.next deed (P.part domain.now.protocol)) (D.allows deed (P.part domain.now.protocol))
         payload.now strong.slot (seen_by P.seen seat.old) (seen_by P.seen seat.new)) }

@@ -4,6 +4,7 @@ pub mod Tries
 pub mod Turns
 pub mod Claims
 pub mod Searches
+pub mod Exhausting
 pub mod Filling
 pub mod Beginning
 pub mod Starting
@@ -17,10 +18,14 @@ pub mod Objects
 pub mod Lasting
 pub mod Turning
 pub mod OwnNotes
+pub mod Scans
 pub mod Quieting
 pub mod Leftovers
 pub mod Cycles
 pub mod CyclesLeft
+pub mod Numbering
+pub mod Rescanning
+pub mod Spending
 pub mod Settles
 pub mod Chaining
 pub mod Sparing

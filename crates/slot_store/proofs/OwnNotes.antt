@@ -120,7 +120,7 @@ own_times v ws settled own k s =
     (are_of v 0 v.notes ws
     (λ j. let at : 0 + j ≡ j = omega arith in ap (λ (i : ℕ). get_or v.notes i note.Idle) at) own)
 
-same_own : (v u : CoreView) (i : ℕ) (ws : List ℕ) → u.notes ≡ v.notes → AreOwn u i ws → AreOwn v i ws
+pub same_own : (v u : CoreView) (i : ℕ) (ws : List ℕ) → u.notes ≡ v.notes → AreOwn u i ws → AreOwn v i ws
 same_own v u i [] same own = tt
 same_own v u i (w ∷ ws) same own = (
   own.0 ∙ ap (λ (ns : List Note). word_of_note (get_or ns i note.Idle)) same,

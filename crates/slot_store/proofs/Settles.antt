@@ -13,12 +13,14 @@ use Rattle.acquire_retire.specs.Wholes.{known_core}
 use Rattle.control_word.specs.Resting.{IsAtRest}
 use Rattle.slot_store.specs.Leftovers.{IsQuiet, LeavesCycles}
 use Rattle.slot_store.specs.Reaping.{Answers, KnowsBoth, Reaps, Waits}
+use Rattle.slot_store.specs.Spending.{settle_most, steps_made}
 use Rattle.slot_store.specs.Settling.{GoesOn, Quiets, Settles, Turns, objects_known, weight_of}
 use Rattle.slot_store.proofs.CyclesLeft.{leaves_cycles}
 use Rattle.slot_store.proofs.Lasting.{Lasts, MayLast, collect_lasts, known_then, may_last_on, objects_last, objects_may, stands, then_lasts, knows_last}
 use Rattle.slot_store.proofs.Leftovers.{is_quiet}
 use Rattle.slot_store.proofs.Objects.{below_ones, standing_most}
 use Rattle.slot_store.proofs.Passing.{passes_collect}
+use Rattle.slot_store.proofs.Spending.{Spends, collected_spends, reaped_spends, settle_steps, spends_none, spends_on}
 use Rattle.slot_store.proofs.Turning.{less_collected, less_reaped, none_parts, reaps_fewer, unripe_most, work_left}
 
 -- the seat has settled so far, and `total` is the sum of the weights that its reaps answered
@@ -28,6 +30,8 @@ pub record UnderWay {P V : Type 0} (fits : List ℕ → Type 0) (weight : List �
   pub turns : Turns fits d weight answers old now
   pub sum : total ≡ sum_by weight_of answers
   pub few : length answers + work_left d now ≤ work_left d old
+  pub collects : ℕ
+  pub spends : Spends d collects old now
   pub light : total + 2 ^ 32 * objects_known d now ≤ 2 ^ 32 * objects_known d old
   pub lasts : MayLast d old now
   pub known : IsSome now.view.whole
@@ -60,6 +64,8 @@ module _ {P V : Type 0} {fits : List ℕ → Type 0} {weight : List ℕ → ℕ}
     turns = refl;
     sum = refl;
     few = omega arith;
+    collects = 0;
+    spends = spends_none d old;
     light = omega arith;
     lasts = inl refl;
     known = known;
@@ -96,6 +102,10 @@ module _ {P V : Type 0} {fits : List ℕ → Type 0} {weight : List ℕ → ℕ}
             few =
                 let less = less_reaped d now new fewer in
                 let so = u.few in omega arith;
+            collects = u.collects + (reaped_spends d weight answer now new reaps fewer).0;
+            spends =
+                let more = reaped_spends d weight answer now new reaps fewer in
+                spends_on d u.collects more.0 old now new u.spends more.1;
             light =
                 let one = bounded reaps.payload reaps.sees.fit in
                 let is = reaps.weighs in
@@ -148,6 +158,11 @@ module _ {P V : Type 0} {fits : List ℕ → Type 0} {weight : List ℕ → ℕ}
               few =
                   let less = less_collected d weight now mid new u.known none goes in
                   let so = u.few in omega arith;
+              collects =
+                  u.collects + (collected_spends d weight now mid new u.rest u.known none goes).0;
+              spends =
+                  let more = collected_spends d weight now mid new u.rest u.known none goes in
+                  spends_on d u.collects more.0 old now new u.spends more.1;
               light =
                   let so = u.light in
                   let first = objects_may d now mid mid_lasts in
@@ -174,6 +189,11 @@ module _ {P V : Type 0} {fits : List ℕ → Type 0} {weight : List ℕ → ℕ}
           reaps_none = none;
           quiets = quiet;
         }
+
+        pub settled_steps : (now.view.core.dying ≡ [] → mid ≡ now)
+            → steps_made new ≤ steps_made old + settle_most d old
+        settled_steps idle =
+            settle_steps d weight u.collects old now mid new u.known u.spends none idle quiet
 
         pub settled_rest : rest_of new.view.core ≡ rest_of old.view.core
         settled_rest =

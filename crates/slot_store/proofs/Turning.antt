@@ -36,7 +36,7 @@ pub unripe_most : (ss : List SlotId) → unripe ss ≤ 1
 unripe_most [] = omega arith
 unripe_most (s ∷ ss) = omega arith
 
-unripe_some : (ss : List SlotId) → ss ≢ [] → unripe ss ≡ 0
+pub unripe_some : (ss : List SlotId) → ss ≢ [] → unripe ss ≡ 0
 unripe_some [] some = absurd (some refl)
 unripe_some (s ∷ ss) some = refl
 
@@ -53,7 +53,7 @@ nothing_in (x ∷ xs) none =
     let more = times_cons x x xs in
     let one = one_same x x refl in absurd (omega arith)
 
-joined_most : (k : Kind) (held : Option SlotId) (es : List Entry)
+pub joined_most : (k : Kind) (held : Option SlotId) (es : List Entry)
     → length (joined k held es) ≤ length es + 1
 joined_most k None es = omega arith
 joined_most k (Some s) es = let more = length-append es ((k, s) ∷ []) in omega arith
@@ -204,7 +204,7 @@ module _ {P V : Type 0} {fits : List ℕ → Type 0} (d : DomainState P) where
       none
 
   -- found nothing ripe
-  none_ripe : (weight : List ℕ → ℕ) (old mid new : SeatState V) → Answers fits d weight None old mid
+  pub none_ripe : (weight : List ℕ → ℕ) (old mid new : SeatState V) → Answers fits d weight None old mid
       → Lasts d mid new → old.view.core.ripe ≡ []
   none_ripe weight old mid new none lasts = ⊎_elim
       (λ (idle : (old.view.core.dying ≡ []) × (mid ≡ old)).

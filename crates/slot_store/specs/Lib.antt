@@ -4,4 +4,5 @@ pub mod Calls
 pub mod Reaping
 pub mod Trials
 pub mod Settling
+pub mod Spending
 pub mod Leftovers

@@ -1,6 +1,7 @@
 //! The search for a free slot: a seat claims slots by what the words of bits that it finds show.
-ghost use Rattle.std.specs.Prelude.{◌<◌, ◌/◌, ◌≡◌, ◌==◌, if◌then◌else◌};
+ghost use Rattle.std.specs.Prelude.{◌<◌, ◌/◌, ◌≡◌, ◌==◌, if◌then◌else◌, IsNone};
 ghost use Rattle.core_events.specs.Steps.{HasAdd, HasMake};
+ghost use Rattle.claim_law.specs.Claims.{makes_given};
 ghost use Rattle.control_word.specs.Resting.{IsAtRest};
 ghost use Rattle.slot_store.specs.Searching.{Searches};
 ghost use Rattle.slot_store.specs.Turns.{IsAtTurn, newest};
@@ -71,13 +72,14 @@ fn newest_home(slot: SlotId, first: SlotId, home: u64, found: u64) -> u64
 }
 
 /// Claims the first slot that is found to be free, and remembers where it was. `None` where each was shown to be
-/// taken. The slots come once each, and one is claimed only where the newest that was found of its word has its bit
-/// set.
+/// taken, which comes only where more makes were given than there are slots. The slots come once each, and one is
+/// claimed only where the newest that was found of its word has its bit set.
 pub(crate) fn claim_any<P: Protocol>(domain: &Domain<P>, seat: &mut Seat<P>) -> Option<SlotId>
     requires rest { IsAtRest domain.now seat.old }
     requires make { HasMake seat.old.view.core }
     requires add { HasAdd seat.old.view.core }
-    ensures { Searches P.Kind.fits domain.now seat.old seat.new result }
+    ensures search { Searches P.Kind.fits domain.now seat.old seat.new result }
+    ensures none { IsNone result → domain.now.shape.slots < makes_given domain.now.terms }
 {
     let slots = domain.shape().slots;
     let first = first_slot(domain, seat);

@@ -3,6 +3,7 @@ ghost use Rattle.std.specs.Prelude.{ℕ, ◌≡◌, ◌≢◌, ◌<◌, ◌↔�
 ghost use Rattle.core_events.specs.declared.view.Phase.TheVariants as phase;
 ghost use Rattle.plain_state.specs.Lists.{times};
 ghost use Rattle.core_events.specs.Steps.{HasRoom};
+ghost use Rattle.claim_law.specs.Claims.{makes_given};
 ghost use Rattle.acquire_retire.specs.Calls.{IsOf};
 ghost use Rattle.control_word.specs.Moves.{KnowsStill};
 ghost use Rattle.control_word.specs.Resting.{IsAtRest, IsSpent};
@@ -22,14 +23,15 @@ pub enum MakeError {
     MakesSpent,
     /// The seat has no add left of its quota.
     AddsSpent,
-    /// Each slot was taken at some step of the call.
+    /// Each slot was taken at some step of the call. So the domain was given more makes than it has slots.
     Full,
 }
 
 /// Makes an object with this payload in a free slot, with one strong reference, which is the seat's. `MakesSpent` comes
 /// first, exactly where the seat has no make left, then `AddsSpent`, exactly where it has no add left; nothing has
 /// changed then. `Full` comes exactly where each claim of the call found its slot taken, and the words that they found
-/// show each slot taken. At most 18 steps more than there are slots.
+/// show each slot taken. It never comes where all makes, those of quotas and those that tickets grant, are at most the
+/// slots. At most 18 steps more than there are slots.
 pub fn make<P: Protocol, D: Deed<P>>(
     domain: &Domain<P>,
     seat: &mut Seat<P>,
@@ -47,6 +49,8 @@ pub fn make<P: Protocol, D: Deed<P>>(
     ensures no_add { result ≡ Err refused.AddsSpent → seat.new ≡ seat.old }
     ensures full { result ≡ Err refused.Full
         → Misses P.Kind.fits domain.now seat.old seat.new }
+    ensures full_only { result ≡ Err refused.Full
+        → domain.now.shape.slots < makes_given domain.now.terms }
     ensures made { IfOk result (λ strong. Makes P.Kind.fits domain.now
         (D.next deed domain.now.protocol) (D.allows deed domain.now.protocol) payload.now
         strong.slot seat.old seat.new) }

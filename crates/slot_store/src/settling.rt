@@ -1,5 +1,5 @@
 //! How a seat that is alone destroys all that may be destroyed.
-ghost use Rattle.std.specs.Prelude.{◌≡◌};
+ghost use Rattle.std.specs.Prelude.{◌≡◌, ◌≤◌, ◌+◌};
 ghost use Rattle.std.specs.Bool.{MatchBool};
 ghost use Rattle.core_events.specs.Steps.{HasRoom};
 ghost use Rattle.control_word.specs.Resting.{IsAtRest};
@@ -9,6 +9,7 @@ ghost use Rattle.acquire_retire.specs.Collecting.{rest_of};
 ghost use Rattle.slot_store.specs.Leftovers.{IsQuiet, LeavesCycles};
 ghost use Rattle.slot_store.specs.Reaping.{KnowsBoth};
 ghost use Rattle.slot_store.specs.Settling.{GoesOn, Quiets, Settles};
+ghost use Rattle.slot_store.specs.Spending.{settle_most, steps_made};
 
 use crate::reaping::reap;
 use acquire_retire::{Domain, Seat};
@@ -36,7 +37,8 @@ fn gathers<P: Protocol>(domain: &Domain<P>, seat: &mut Seat<P>) -> bool
 /// Strong references that go round in a cycle keep their objects, and what these lead to.
 ///
 /// For E retired entries and L objects these are at most 2·E + 8·L + 2 turns, each of at most 21 steps and four
-/// collects.
+/// collects. With the fields of the objects there may be F = E + 3·L entries to pay for. For A announcement words all
+/// turns together take at most (F + L + 1)·A + 3·F + 21·L steps, those of F + L + 1 collects among them.
 pub fn settle<P: Protocol, F: Fn(&[u64; 16]) -> u64>(
     domain: &Domain<P>,
     seat: &mut Seat<P>,
@@ -47,6 +49,7 @@ pub fn settle<P: Protocol, F: Fn(&[u64; 16]) -> u64>(
     requires alone { IsAlone seat.old.view }
     requires weighs { Weighs P.Kind.fits P.Kind.weight F.Fn deleter.now }
     ensures settles { Settles P.Kind.fits domain.now P.Kind.weight result seat.old seat.new }
+    ensures steps { steps_made seat.new ≤ steps_made seat.old + settle_most domain.now seat.old }
     ensures quiet { IsQuiet seat.new.view.core }
     ensures cycles { LeavesCycles seat.new.view }
     ensures same { rest_of seat.new.view.core ≡ rest_of seat.old.view.core }

@@ -4,6 +4,7 @@ use Rattle.core_events.specs.declared.shape.Shape.{Shape}
 use Rattle.core_events.specs.Words.{bit_in}
 use Rattle.slot_store.specs.Searching.{Claims}
 use Rattle.slot_store.specs.Turns.{IsAtTurn}
+use Rattle.slot_store.proofs.Exhausting.{more_makes}
 use Rattle.slot_store.proofs.Searches.{Trying, all_tried, may_claim, none_tried, one_missed, one_shown, one_won, rests}
 use Rattle.slot_store.proofs.claiming.claim_any.Goals as goal
 
@@ -59,8 +60,8 @@ end_search-requires g c =
     (omega arith) c.loop-turn.invariant c.slot_at-slot.result at c.requires.rest).of_domain in
     (c.claim.ensures.table ∙ was.0, c.claim.ensures.told.law.same_shape)
 
-pub returns-in_default : goal.returns-in_default
-returns-in_default g c =
+pub returns-in_default-clause-search : goal.returns-in_default-clause-search
+returns-in_default-clause-search g c =
     let slots = ap (λ (z : Shape). z.slots) c.shape-slots.ensures in
     let below = c.loop-turn-test.true in
     let at = subst (λ (n : ℕ). IsAtTurn c.first_slot-first.result.0 n c.loop-turn.turn c.slot_at-slot.result.0) slots
@@ -90,11 +91,17 @@ loop-turn-preserved g c =
     (sym c.has_bit.ensures ∙ c.if-not-has_bit.false))
     c.claim.ensures c.in-Taken.is)
 
-pub returns : goal.returns
-returns g c =
+pub returns-clause-search : goal.returns-clause-search
+returns-clause-search g c =
     let slots = ap (λ (z : Shape). z.slots) c.shape-slots.ensures in
     let past = c.loop-turn-test.false in
     let most = c.loop-turn.auto.turn-end in
     all_tried c.args.domain.now c.first_slot-first.result c.first_slot-first.ensures.there
     c.loop-turn.turn c.loop-turn.home c.loop-turn.found c.args.seat.now c.loop-turn.seat (omega arith)
     c.loop-turn.invariant
+
+pub returns-clause-none : goal.returns-clause-none
+returns-clause-none g c = λ none.
+    more_makes c.args.domain.now c.args.seat.now c.loop-turn.seat
+    (let first = c.first_slot-first.ensures.there in omega arith)
+    c.requires.rest c.requires.make (returns-clause-search g c)

@@ -10,31 +10,31 @@ use Rattle.slot_store.proofs.making.make.Goals as goal
 
 pub returns-in_default-clause-rest : goal.returns-in_default-clause-rest
 returns-in_default-clause-rest g c =
-    let missed = rw c.in_default.is at c.claim_any.ensures in
+    let missed = rw c.in_default.is at c.claim_any.ensures.search in
     still_rests c.args.domain.now c.args.seat.now c.claim_any.new.seat missed.tries missed.goes
     c.requires.rest
 
 pub arm-requires-clause-seat : goal.arm-requires-clause-seat
 arm-requires-clause-seat g c =
     is_of_bare c.args.domain.now c.in-Some.slot c.args.seat.now c.claim_any.new.seat
-    c.requires.rest c.in-Some.ensures
+    c.requires.rest c.in-Some.ensures.search
 
 pub fill_all-requires-clause-seat : goal.fill_all-requires-clause-seat
 fill_all-requires-clause-seat g c =
     is_of_blank c.args.domain.now c.in-Some.slot c.args.seat.now c.claim_any.new.seat
-    c.requires.rest c.in-Some.ensures c.arm.new.seat c.arm.result c.arm.ensures
+    c.requires.rest c.in-Some.ensures.search c.arm.new.seat c.arm.result c.arm.ensures
 
 pub start-requires-clause-seat : goal.start-requires-clause-seat
 start-requires-clause-seat g c =
     is_of_full c.args.domain.now c.in-Some.slot c.args.seat.now c.claim_any.new.seat
-    c.requires.rest c.in-Some.ensures c.arm.new.seat c.arm.result c.arm.ensures
+    c.requires.rest c.in-Some.ensures.search c.arm.new.seat c.arm.result c.arm.ensures
     c.args.payload.now c.fill_all.new.seat c.fill_all.ensures
 
 pub start-requires-clause-deed : goal.start-requires-clause-deed
 start-requires-clause-deed g c =
     c.requires.deed c.in-Some.slot c.fill_all.new.seat
     (begins c.args.domain.now c.in-Some.slot c.args.seat.now c.claim_any.new.seat
-    c.requires.rest c.in-Some.ensures c.arm.new.seat c.arm.result c.arm.ensures
+    c.requires.rest c.in-Some.ensures.search c.arm.new.seat c.arm.result c.arm.ensures
     c.args.payload.now c.fill_all.new.seat c.fill_all.ensures)
 
 pub returns-clause-made : goal.returns-clause-made
@@ -46,7 +46,7 @@ returns-clause-made g c =
     (makes c.args.domain.now c.args.payload.now c.in-Some.slot c.args.seat.now
     c.fill_all.new.seat c.start.new.seat c.requires.rest
     (begins c.args.domain.now c.in-Some.slot c.args.seat.now c.claim_any.new.seat
-    c.requires.rest c.in-Some.ensures c.arm.new.seat c.arm.result c.arm.ensures
+    c.requires.rest c.in-Some.ensures.search c.arm.new.seat c.arm.result c.arm.ensures
     c.args.payload.now c.fill_all.new.seat c.fill_all.ensures)
     c.start.result c.start.ensures)
 
@@ -55,18 +55,18 @@ returns-clause-objects g c =
     still_known c.args.domain.now c.args.payload.now c.in-Some.slot c.args.seat.now
     c.fill_all.new.seat c.start.new.seat c.requires.rest
     (begins c.args.domain.now c.in-Some.slot c.args.seat.now c.claim_any.new.seat
-    c.requires.rest c.in-Some.ensures c.arm.new.seat c.arm.result c.arm.ensures
+    c.requires.rest c.in-Some.ensures.search c.arm.new.seat c.arm.result c.arm.ensures
     c.args.payload.now c.fill_all.new.seat c.fill_all.ensures)
     c.start.result c.start.ensures
     (apart c.args.domain.now c.in-Some.slot c.args.seat.now c.claim_any.new.seat
-    c.requires.rest c.in-Some.ensures c.arm.new.seat c.arm.result c.arm.ensures)
+    c.requires.rest c.in-Some.ensures.search c.arm.new.seat c.arm.result c.arm.ensures)
 
 pub returns-clause-rest : goal.returns-clause-rest
 returns-clause-rest g c =
     rests_again c.args.domain.now c.args.payload.now c.in-Some.slot c.args.seat.now
     c.fill_all.new.seat c.start.new.seat c.requires.rest
     (begins c.args.domain.now c.in-Some.slot c.args.seat.now c.claim_any.new.seat
-    c.requires.rest c.in-Some.ensures c.arm.new.seat c.arm.result c.arm.ensures
+    c.requires.rest c.in-Some.ensures.search c.arm.new.seat c.arm.result c.arm.ensures
     c.args.payload.now c.fill_all.new.seat c.fill_all.ensures)
     c.start.result c.start.ensures
 

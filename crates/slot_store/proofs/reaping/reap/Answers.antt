@@ -1,3 +1,6 @@
+use Rattle.std.proofs.Common.{inr}
+use Rattle.std.specs.Prelude.{None, Some}
+use Rattle.slot_store.proofs.Numbering.{reap_steps}
 use Rattle.slot_store.proofs.Reaps.{knows_new, reaps}
 use Rattle.slot_store.proofs.reaping.reap.Goals as goal
 
@@ -25,3 +28,13 @@ returns-clause-objects g c =
     c.clear-2.new.seat c.clear-3.new.seat c.read_all-payload.new.seat c.ripe_slot.ensures.passes
     c.clear.ensures.passes c.clear-2.ensures.passes c.clear-3.ensures.passes
     c.read_all-payload.ensures.passes c.destroy.new.seat c.destroy.ensures.objects
+
+pub returns-clause-steps : goal.returns-clause-steps
+returns-clause-steps g c =
+    reap_steps g.P.Kind.PayloadKind.fits c.args.domain.now g.P.Kind.PayloadKind.weight
+    (Some c.call-weight.result) c.args.seat.now c.destroy.new.seat (returns-clause-reaps g c)
+
+pub returns-in_default-clause-steps : goal.returns-in_default-clause-steps
+returns-in_default-clause-steps g c =
+    reap_steps g.P.Kind.PayloadKind.fits c.args.domain.now g.P.Kind.PayloadKind.weight None
+    c.args.seat.now c.ripe_slot.new.seat (inr c.in_default.ensures.finds)

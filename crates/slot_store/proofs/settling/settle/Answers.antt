@@ -1,5 +1,5 @@
 use Rattle.std.proofs.Common.{arith}
-use Rattle.slot_store.proofs.Settles.{begins, collected_more, less_work_collected, less_work_reaped, reaped_more, settled_cycles, settled_knows, settled_quiet, settles, sum_fits}
+use Rattle.slot_store.proofs.Settles.{begins, collected_more, less_work_collected, less_work_reaped, reaped_more, settled_cycles, settled_knows, settled_quiet, settled_steps, settles, sum_fits}
 use Rattle.slot_store.proofs.settling.settle.Goals as goal
 
 pub loop-weight-init : goal.loop-weight-init
@@ -36,6 +36,13 @@ returns-then-not-gathers-clause-objects g c =
     settled_knows c.args.domain.now c.loop-weight.weights c.args.seat.now c.loop-weight.seat
     c.loop-weight.invariant c.reap.new.seat c.in_default.ensures.reaps c.reap.ensures.client
     c.reap.ensures.room c.reap.ensures.rest c.gathers.new.seat c.if-not-gathers.ensures
+
+pub returns-then-not-gathers-clause-steps : goal.returns-then-not-gathers-clause-steps
+returns-then-not-gathers-clause-steps g c =
+    settled_steps c.args.domain.now c.loop-weight.weights c.args.seat.now c.loop-weight.seat
+    c.loop-weight.invariant c.reap.new.seat c.in_default.ensures.reaps c.reap.ensures.client
+    c.reap.ensures.room c.reap.ensures.rest c.gathers.new.seat c.if-not-gathers.ensures
+    c.reap.ensures.idle
 
 pub returns-then-not-gathers-clause-quiet : goal.returns-then-not-gathers-clause-quiet
 returns-then-not-gathers-clause-quiet g c =

@@ -1,0 +1,9 @@
+pub mod Going
+pub mod Totals
+pub mod Counting
+pub mod Claiming
+pub mod Bits
+pub mod Shown
+pub mod Pooled
+pub mod Given
+pub mod Taken
