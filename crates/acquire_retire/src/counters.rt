@@ -51,9 +51,12 @@ impl<P: Protocol> Domain<P> {
     {
         let word = self.slot_word(slot);
         let found = self.fetch_sub_as::<Still, Brand>(&mut seat.seat, Act::Drop(slot), Still, word);
-        let (phase, outcome) = given_up(Kind::Strong, slot, found);
-        seat.phase = phase;
-        outcome
+        // The phase is idle already, and a write that is spared here is one that no later step waits for.
+        if found != 1 {
+            return Outcome::Left;
+        }
+        seat.phase = Phase::Finish(slot);
+        Outcome::Zeroed
     }
 
     /// Gives up the reference of the first entry that is owed, as a drop does: `Zeroed` where it was the last strong

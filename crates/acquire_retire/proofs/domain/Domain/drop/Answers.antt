@@ -12,3 +12,8 @@ pub returns : goal.returns
 returns g c =
     call_tells c.args.self.now _ _ (act.Drop c.args.slot) c.seat.inside.seat c.fetch_sub_as-found.new.seat c.fetch_sub_as-found.result c.fetch_sub_as-found.ensures
     c.args.seat.now c.seat.view_is _ (search rules)
+
+pub returns-then-found-ne1 : goal.returns-then-found-ne1
+returns-then-found-ne1 g c =
+    call_tells c.args.self.now _ _ (act.Drop c.args.slot) c.seat.inside.seat c.fetch_sub_as-found.new.seat c.fetch_sub_as-found.result c.fetch_sub_as-found.ensures
+    c.args.seat.now c.seat.view_is _ (search rules)
