@@ -10,7 +10,7 @@ ghost use Rattle.domain_rule.specs.Views.{object_in};
 ghost use Rattle.directory_law.specs.Views.{In, note};
 ghost use Rattle.directory_calls.specs.Directories.{CanCount, IsOver, area_of};
 ghost use Rattle.directory_calls.specs.Learning.{LearnsIn};
-ghost use Rattle.weak_intern.specs.Seeing.{BeginsText, HasSeenIn, Sees};
+ghost use Rattle.weak_intern.specs.Seeing.{BeginsText, HasBegun, HasSeenIn, Sees};
 ghost use Rattle.directory_calls.specs.Steps.{AtStep, Leaves, handle_by, with_found};
 ghost use Rattle.weak_intern.specs.Walking.{raised_by};
 
@@ -70,6 +70,7 @@ pub fn raise<S, P: HasDirectory<S>>(
     ensures same { IfOk result (λ strong. strong.slot ≡ weak.slot) }
     ensures live { IfOk result (λ strong. AtStep domain.now (BeginsText
         (area_of (P.part domain.now.protocol)) weak.slot seat.new) seat.old seat.new) }
+    ensures begins { IfOk result (λ strong. HasBegun P.seen weak.slot seat.new) }
     ensures ended { result ≡ Err no_raise.Ended → In
         (note weak.slot (object_in seat.old.view weak.slot).life)
         (P.seen seat.new.view.client).ended }

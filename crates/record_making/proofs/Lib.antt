@@ -1,0 +1,5 @@
+pub mod Packed
+pub mod Made
+pub mod Dropped
+pub mod Linked
+pub mod Chained
