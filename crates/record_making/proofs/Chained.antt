@@ -1,5 +1,5 @@
 -- Slots that are made one before the other.
-use Rattle.std.proofs.Common.{◌≡◌, ℕ, suc, ◌+◌, ◌-◌, ◌*◌, ◌<◌, List, [], ◌∷◌, ◌++◌, drop, length, refl, ap, sym, ◌∙◌, subst, arith}
+use Rattle.std.proofs.Common.{◌≡◌, ℕ, suc, ◌+◌, ◌-◌, ◌*◌, ◌<◌, ◌≤◌, List, [], ◌∷◌, ◌++◌, drop, length, refl, ap, sym, ◌∙◌, subst, arith}
 use Rattle.std.specs.Prelude.{Err, IfOk, IsErrAnd, None, Ok, OnErr, Option, Result, Some}
 use Rattle.std.proofs.lemmas.Result.{err_from_is_err_and}
 use Rattle.std.proofs.lemmas.List.{drop-drop}
@@ -22,7 +22,7 @@ use Rattle.directory_law.specs.Payloads.{IsPart, Text}
 use Rattle.directory_calls.specs.Steps.{GoesOn, Leaves, with_found}
 use Rattle.directory_calls.proofs.Going.{goes_none, goes_then, holds_by, leaves_as, leaves_then}
 use Rattle.directory_calls.proofs.Parts.{Place}
-use Rattle.record_making.specs.Making.{HasNotedLast, HasText, HasTwo, Links, MissesWithin, Notes, NotesOnly, PutsBefore, candidate_in, with_notes}
+use Rattle.record_making.specs.Making.{HasNotedLast, HasText, HasTwo, Links, MissesWithin, Notes, NotesOnly, PutsBefore, candidate_in, made_by, with_notes}
 use Rattle.record_making.specs.Texts.{part_of, parts_after, parts_of}
 use Rattle.record_making.proofs.Linked.{left_then}
 
@@ -296,6 +296,7 @@ pub record Chains {P V : Type 0} (d : DomainState P) (seen : V → View) (with_s
       now.view.client
   pub part : IsPart (object_in now.view s).payload
   pub owned : 0 < times s now.view.core.owned
+  pub makes : now.view.core.makes ≡ old.view.core.makes + n
   pub leaves : Leaves (old.view.core.owned ++ s ∷ []) old.view.core.weaks old now
   pub room : HasRoom now.view.core
   pub rest : IsAtRest d now
@@ -320,10 +321,10 @@ module _ {P V : Type 0} (d : DomainState P) (l : Place V) (bytes payload : List 
       → IsPart payload → (object_in b.view s).payload ≡ payload
       → b.view.client ≡ l.with_seen a.view.client (with_notes
       (candidate_in s (payload ∷ []) b ∷ (l.seen a.view.client).noted) (l.seen a.view.client))
-      → 0 < times s b.view.core.owned
+      → 0 < times s b.view.core.owned → b.view.core.makes ≡ a.view.core.makes + 1
       → Leaves (a.view.core.owned ++ s ∷ []) a.view.core.weaks a b → HasRoom b.view.core
       → IsAtRest d b → Chains d l.seen l.with_seen bytes 1 s a b
-  chain_first s is part made noted owned leaves room rest = record {
+  chain_first s is part made noted owned makes leaves room rest = record {
     noted = (
       (l.seen a.view.client).noted,
       noted ∙ ap (λ (t : Text). l.with_seen a.view.client (with_notes
@@ -336,6 +337,7 @@ module _ {P V : Type 0} (d : DomainState P) (l : Place V) (bytes payload : List 
     );
     part = subst IsPart (sym made) part;
     owned = owned;
+    makes = makes;
     leaves = leaves;
     room = room;
     rest = rest;
@@ -348,9 +350,10 @@ module _ {P V : Type 0} (d : DomainState P) (l : Place V) (bytes payload : List 
     pub chain_on : (k : ℕ) → k ≡ 120 * (parts_after (length bytes) - n)
         → n < parts_after (length bytes) → payload ≡ part_of (drop k bytes) → IsPart payload
         → (object_in c.view t).payload ≡ payload → 0 < times t c.view.core.owned
+        → c.view.core.makes ≡ b.view.core.makes + 1
         → Leaves (without s b.view.core.owned ++ t ∷ []) b.view.core.weaks b c
         → HasRoom c.view.core → IsAtRest d c → Chains d l.seen l.with_seen bytes (n + 1) t a c
-    chain_on k at low is part made owned second room rest = record {
+    chain_on k at low is part made owned makes second room rest = record {
       noted = notes_then l (candidate_in t (chained bytes (n + 1)) c) a.view.client b.view.client
           c.view.client
           (candidate_in s (chained bytes n) b ∷ chains.noted.0, chains.noted.1)
@@ -359,6 +362,7 @@ module _ {P V : Type 0} (d : DomainState P) (l : Place V) (bytes payload : List 
           chains.noted)));
       part = subst IsPart (sym made) part;
       owned = owned;
+      makes = let m = chains.makes in omega (arith, m, makes);
       leaves = taken_over s (Some t) a b c chains.leaves second;
       room = room;
       rest = rest;
@@ -397,3 +401,14 @@ module _ {P V : Type 0} (d : DomainState P) (l : Place V) (bytes payload : List 
       chain_only only =
           only_then l a.view.client b.view.client c.view.client
           (candidate_in s (chained bytes n) b ∷ chains.noted.0, chains.noted.1) only
+
+-- HOW MANY MAKES a record takes
+pub one_make : {E : Type 0} (r : Result Handle E) (m n k : ℕ) → k ≡ 1 → n ≡ m + made_by r
+    → (n ≤ m + k) × IfOk r (λ h. n ≡ m + k)
+one_make (Ok h) m n k one is = (omega (arith, one, is), omega (arith, one, is))
+one_make (Err e) m n k one is = (omega (arith, one, is), tt)
+
+pub one_make_more : {E : Type 0} (r : Result Handle E) (m n j k : ℕ) → k ≡ j + 1
+    → n ≡ m + j + made_by r → (n ≤ m + k) × IfOk r (λ h. n ≡ m + k)
+one_make_more (Ok h) m n j k more is = (omega (arith, more, is), omega (arith, more, is))
+one_make_more (Err e) m n j k more is = (omega (arith, more, is), tt)

@@ -1,5 +1,5 @@
 -- A strong reference that is given up.
-use Rattle.std.proofs.Common.{◌≡◌, ℕ, List, ◌++◌, refl, sym, subst}
+use Rattle.std.proofs.Common.{◌≡◌, ℕ, List, ◌++◌, refl, ap, sym, subst}
 use Rattle.std.specs.Prelude.{Bool, true, false}
 use Rattle.plain_state.specs.declared.slot.SlotId.{SlotId}
 use Rattle.core_events.specs.declared.view.CoreView.{CoreView}
@@ -46,6 +46,14 @@ module _ {V : Type 0} (b c : SeatState V) (s : SlotId) where
   no_make_if true ms core is = subst (λ (v : CoreView). HasNoMake v) (sym core) is
   no_make_if false ms core is = subst (λ (v : CoreView). HasNoMake v) (sym core) is
 
+  makes_if : (e : Bool) (ms : List Move)
+      → c.view.core ≡ record (with_ended e s (without_strong s b.view.core)) {
+        trail = b.view.core.trail ++ ms;
+      }
+      → c.view.core.makes ≡ b.view.core.makes
+  makes_if true ms core = ap (λ (v : CoreView). v.makes) core
+  makes_if false ms core = ap (λ (v : CoreView). v.makes) core
+
   module _ {P : Type 0} (fits : List ℕ → Type 0) (d : DomainState P)
       (drops : DropsStrong fits d s b c) where
     pub dropped : KnowsStill (without_strong s b.view.core) b c
@@ -57,3 +65,6 @@ module _ {V : Type 0} (b c : SeatState V) (s : SlotId) where
 
     pub no_make_still : HasNoMake b.view.core → HasNoMake c.view.core
     no_make_still is = no_make_if (ends drops.0) _ drops.1.core is
+
+    pub makes_still : c.view.core.makes ≡ b.view.core.makes
+    makes_still = makes_if (ends drops.0) _ drops.1.core

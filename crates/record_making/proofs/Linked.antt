@@ -85,6 +85,9 @@ module _ {P V : Type 0} (fits : List ℕ → Type 0) (d : DomainState P) (l : Pl
       beside : aside new.view.core ≡ aside old.view.core
       beside = ap aside stores.swaps.same
 
+  pub link_makes : new.view.core.makes ≡ old.view.core.makes
+  link_makes = ap (λ (u : CoreView). u.makes) stores.swaps.same
+
   loaded : new.view.client
       ≡ l.with_seen old.view.client
       (with_notes (linked (l.seen old.view.client).noted) (l.seen old.view.client))

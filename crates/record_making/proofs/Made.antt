@@ -1,5 +1,5 @@
 -- What a make with the deed MakeSlot asks, and what it leaves.
-use Rattle.std.proofs.Common.{◌≡◌, ℕ, ◌<◌, List, [], ◌∷◌, refl, ap, sym, ◌∙◌, subst, arith, Some, None}
+use Rattle.std.proofs.Common.{◌≡◌, ℕ, ◌+◌, ◌<◌, List, [], ◌∷◌, refl, ap, sym, ◌∙◌, subst, arith, Some, None}
 use Rattle.std.specs.Prelude.{Err, IfOk, Ok, Result, if◌then◌else◌}
 use Rattle.plain_state.specs.declared.act.PlainAct.{PlainAct}
 use Rattle.plain_state.specs.declared.act.PlainAct.TheVariants as plain
@@ -34,7 +34,7 @@ use Rattle.directory_law.specs.Payloads.{IsOwn}
 use Rattle.directory_law.specs.Steps.{life_in, life_of, payload_in, payload_of}
 use Rattle.directory_law.specs.Views.{rope}
 use Rattle.directory_protocol.specs.Keeping.{MindsNone}
-use Rattle.record_making.specs.Making.{candidate_in, with_notes}
+use Rattle.record_making.specs.Making.{candidate_in, made_by, with_notes}
 use Rattle.directory_calls.specs.Steps.{Leaves, handle_by, with_found}
 use Rattle.directory_calls.proofs.Going.{leaves_core, leaves_none}
 use Rattle.directory_calls.proofs.Parts.{Place, lift_ready, lifts, tells}
@@ -154,3 +154,25 @@ module _ {P V : Type 0} (fits : List ℕ → Type 0) (d : DomainState P) (l : Pl
       go (Err refused.AddsSpent) is makes = same (adds_spent is)
       go (Err refused.Full) is makes =
           leaves_core old new old.view.core _ (full is).goes.becomes.core refl knows
+
+  -- HOW MANY MAKES are used
+  pub made_makes : (r : Result Handle MakeError)
+      → (r ≡ Err refused.MakesSpent → new ≡ old) → (r ≡ Err refused.AddsSpent → new ≡ old)
+      → (r ≡ Err refused.Full → Misses fits d old new)
+      → IfOk r (λ strong. Makes fits d (lifts l make_next) (tells l (MakeTells z)) head strong.slot
+      old new)
+      → new.view.core.makes ≡ old.view.core.makes + made_by r
+  made_makes r makes_spent adds_spent full made = go r refl made
+    where
+      same : new ≡ old → new.view.core.makes ≡ old.view.core.makes + 0
+      same is = let e = ap (λ (x : SeatState V). x.view.core.makes) is in omega (arith, e)
+
+      go : (o : Result Handle MakeError) → r ≡ o
+          → IfOk o (λ strong. Makes fits d (lifts l make_next) (tells l (MakeTells z)) head
+          strong.slot old new)
+          → new.view.core.makes ≡ old.view.core.makes + made_by o
+      go (Ok strong) is makes = ap (λ (v : CoreView). v.makes) makes.core
+      go (Err refused.MakesSpent) is makes = same (makes_spent is)
+      go (Err refused.AddsSpent) is makes = same (adds_spent is)
+      go (Err refused.Full) is makes =
+          let e = ap (λ (v : CoreView). v.makes) (full is).goes.becomes.core in omega (arith, e)

@@ -1,5 +1,6 @@
 -- What a make of a record does to the view of its seat.
-use Rattle.std.specs.Prelude.{ℕ, ◌≡◌, List, [], ◌∷◌}
+use Rattle.std.specs.Prelude.{ℕ, ◌≡◌, List, [], ◌∷◌, Result, Ok, Err}
+use Rattle.counted_handles.specs.Handles.{Handle}
 use Rattle.plain_state.specs.declared.slot.SlotId.{SlotId}
 use Rattle.domain_rule.specs.Views.{object_in}
 use Rattle.acquire_retire.specs.Domains.{DomainState}
@@ -59,6 +60,11 @@ Links seen with_seen t s old new =
     ∷ candidate_in s text old ∷ others
     → Notes seen with_seen (candidate_in t ((object_in old.view t).payload ∷ text) new)
     old.view.client new.view.client
+
+-- one make where a slot was made
+abbrev pub made_by : {E : Type 0} → Result Handle E → ℕ
+made_by (Ok slot) = 1
+made_by (Err error) = 0
 
 -- between two states of the call each slot of the domain was found taken
 pub record MissesWithin {P V : Type 0} (fits : List ℕ → Type 0) (d : DomainState P)

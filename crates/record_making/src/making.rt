@@ -1,5 +1,6 @@
 //! Slots with the text of a record that doesn't stand in a cell yet.
-ghost use Rattle.std.specs.Prelude.{◌≡◌, ◌<◌, ◌≤◌, [], ◌∷◌, Err, IfOk, OnErr, drop, length};
+ghost use Rattle.std.specs.Prelude.{◌≡◌, ◌+◌, ◌<◌, ◌≤◌, [], ◌∷◌, Err, IfOk, OnErr, drop, length};
+ghost use Rattle.std.specs.Int.{div_ceil};
 ghost use Rattle.plain_state.specs.Lists.{times};
 ghost use Rattle.core_events.specs.Steps.{HasRoom};
 ghost use Rattle.core_events.specs.Views.{without};
@@ -10,7 +11,7 @@ ghost use Rattle.slot_store.specs.Calls.{HasNoMake};
 ghost use Rattle.directory_law.specs.Bytes.{IsPiece};
 ghost use Rattle.directory_law.specs.Payloads.{IsOwn, IsPart};
 ghost use Rattle.directory_calls.specs.Steps.{Leaves, handle_by, with_found};
-ghost use Rattle.record_making.specs.Making.{HasText, HasTwo, Links, MissesWithin, Notes, NotesOnly, PutsBefore, candidate_in, with_notes};
+ghost use Rattle.record_making.specs.Making.{HasText, HasTwo, Links, MissesWithin, Notes, NotesOnly, PutsBefore, candidate_in, made_by, with_notes};
 ghost use Rattle.record_making.specs.Texts.{parts_after, parts_of, text_of};
 
 use crate::texts::{head_of, part_at};
@@ -46,6 +47,10 @@ pub fn make_record<S, P: HasDirectory<S>>(
     ensures owned { IfOk result (λ made. 0 < times made.slot seat.new.view.core.owned) }
     ensures leaves { Leaves (with_found (handle_by result) seat.old.view.core.owned)
         seat.old.view.core.weaks seat.old seat.new }
+    ensures makes { seat.new.view.core.makes
+        ≤ seat.old.view.core.makes + div_ceil (length text.now) 120 }
+    ensures all { IfOk result (λ head. seat.new.view.core.makes
+        ≡ seat.old.view.core.makes + div_ceil (length text.now) 120) }
     ensures room { HasRoom seat.new.view.core }
     ensures rest { IsAtRest domain.now seat.new }
 {
@@ -79,6 +84,10 @@ fn make_parts<S, P: HasDirectory<S>>(
     ensures owned { IfOk result (λ made. 0 < times made.slot seat.new.view.core.owned) }
     ensures leaves { Leaves (with_found (handle_by result) seat.old.view.core.owned)
         seat.old.view.core.weaks seat.old seat.new }
+    ensures makes { seat.new.view.core.makes
+        ≤ seat.old.view.core.makes + parts_after (length text.now) }
+    ensures all { IfOk result (λ front. seat.new.view.core.makes
+        ≡ seat.old.view.core.makes + parts_after (length text.now)) }
     ensures room { HasRoom seat.new.view.core }
     ensures rest { IsAtRest domain.now seat.new }
 {
@@ -116,6 +125,7 @@ fn make_before<S, P: HasDirectory<S>>(
     ensures owned { IfOk result (λ made. 0 < times made.slot seat.new.view.core.owned) }
     ensures leaves { Leaves (with_found (handle_by result)
         (without rest.slot seat.old.view.core.owned)) seat.old.view.core.weaks seat.old seat.new }
+    ensures makes { seat.new.view.core.makes ≡ seat.old.view.core.makes + made_by result }
     ensures room { HasRoom seat.new.view.core }
     ensures rest { IsAtRest domain.now seat.new }
 {
@@ -145,6 +155,7 @@ fn link<S, P: HasDirectory<S>>(domain: &Domain<P>, seat: &mut Seat<P>, front: Sl
     ensures links { Links P.seen P.with_seen front rest.slot seat.old seat.new }
     ensures leaves { Leaves (without rest.slot seat.old.view.core.owned)
         seat.old.view.core.weaks seat.old seat.new }
+    ensures makes { seat.new.view.core.makes ≡ seat.old.view.core.makes }
     ensures room { HasRoom seat.new.view.core }
     ensures rest { IsAtRest domain.now seat.new }
 {
@@ -177,6 +188,7 @@ fn make_slot<S, P: HasDirectory<S>>(
     ensures owned { IfOk result (λ made. 0 < times made.slot seat.new.view.core.owned) }
     ensures leaves { Leaves (with_found (handle_by result) seat.old.view.core.owned)
         seat.old.view.core.weaks seat.old seat.new }
+    ensures makes { seat.new.view.core.makes ≡ seat.old.view.core.makes + made_by result }
     ensures room { HasRoom seat.new.view.core }
     ensures rest { IsAtRest domain.now seat.new }
 {

@@ -1,10 +1,10 @@
-use Rattle.std.proofs.Common.{◌<◌, ◌∙◌, subst, sym}
+use Rattle.std.proofs.Common.{arith, ◌<◌, ◌∙◌, subst, sym}
 use Rattle.plain_state.specs.Lists.{times}
 use Rattle.core_events.specs.Views.{without}
 use Rattle.directory_calls.proofs.Parts.{place_of}
 use Rattle.record_making.specs.Making.{HasTwo, Links}
 use Rattle.record_making.proofs.Chained.{front_left, has_two, leaves_before, made_before, misses_on, owned_before, put_before, refused_before, rest_owned, rest_part}
-use Rattle.record_making.proofs.Dropped.{dropped}
+use Rattle.record_making.proofs.Dropped.{dropped, makes_still}
 use Rattle.record_making.proofs.making.make_before.Goals as goal
 
 pub link-requires-clause-left : goal.link-requires-clause-left
@@ -90,3 +90,16 @@ returns-in-Err-clause-leaves g c =
     (dropped c.make_slot.new.seat c.drop_strong.new.seat c.args.rest.slot
     g.P.Kind.PayloadKind.fits c.args.domain.now c.drop_strong.ensures.dropped
     c.drop_strong.ensures.objects)
+
+pub returns-in-Ok-clause-makes : goal.returns-in-Ok-clause-makes
+returns-in-Ok-clause-makes g c =
+    omega (arith, c.in-Ok.ensures.makes, c.link.ensures.makes)
+
+pub returns-in-Err-clause-makes : goal.returns-in-Err-clause-makes
+returns-in-Err-clause-makes g c =
+    omega (
+      arith,
+      c.in-Err.ensures.makes,
+      makes_still c.make_slot.new.seat c.drop_strong.new.seat c.args.rest.slot
+          g.P.Kind.PayloadKind.fits c.args.domain.now c.drop_strong.ensures.dropped,
+    )

@@ -33,6 +33,7 @@ loop-made-init g c =
       c.requires.text.0,
     ))))
     c.in_ok-front.ensures.made c.in_ok-front.ensures.noted c.in_ok-front.ensures.owned
+    c.in_ok-front.ensures.makes
     c.in_ok-front.ensures.leaves c.make_slot.ensures.room c.make_slot.ensures.rest
 
 pub make_before-requires-clause-piece : goal.make_before-requires-clause-piece
@@ -100,7 +101,8 @@ loop-made-preserved g c =
     ∙ offset c.args.text.now _ _ (omega (arith, c.requires.text.0, c.loop-made-test.true)))
     (subst IsPart (sym c.part_at-in-loop-made.ensures)
     (part_at_is c.args.text.now _ (omega (arith, c.requires.text.0, c.loop-made-test.true))))
-    c.in_ok-front-2.ensures.made c.in_ok-front-2.ensures.owned c.in_ok-front-2.ensures.leaves
+    c.in_ok-front-2.ensures.made c.in_ok-front-2.ensures.owned
+    c.in_ok-front-2.ensures.makes c.in_ok-front-2.ensures.leaves
     c.make_before.ensures.room c.make_before.ensures.rest
 
 pub returns-clause-noted : goal.returns-clause-noted
@@ -112,3 +114,37 @@ returns-clause-noted g c =
     c.loop-made.front.slot
     c.loop-made.invariant
     (omega (arith, c.requires.text.0, c.loop-made-test.false, c.loop-made.auto.made-end))
+
+pub returns-in_err-front-2-clause-makes : goal.returns-in_err-front-2-clause-makes
+returns-in_err-front-2-clause-makes g c =
+    omega (
+      arith,
+      c.loop-made.invariant.makes,
+      c.in_err-front-2.ensures.makes,
+      c.requires.text.0,
+      c.loop-made-test.true,
+    )
+
+pub returns-in_err-front-clause-makes : goal.returns-in_err-front-clause-makes
+returns-in_err-front-clause-makes g c =
+    omega (arith, c.in_err-front.ensures.makes)
+
+pub returns-clause-all : goal.returns-clause-all
+returns-clause-all g c =
+    omega (
+      arith,
+      c.loop-made.invariant.makes,
+      c.requires.text.0,
+      c.loop-made-test.false,
+      c.loop-made.auto.made-end,
+    )
+
+pub returns-clause-makes : goal.returns-clause-makes
+returns-clause-makes g c =
+    omega (
+      arith,
+      c.loop-made.invariant.makes,
+      c.requires.text.0,
+      c.loop-made-test.false,
+      c.loop-made.auto.made-end,
+    )

@@ -1,10 +1,12 @@
-use Rattle.std.proofs.Common.{[], ◌∷◌, ap, arith, drop, length, ◌∙◌, subst, sym}
+use Rattle.std.specs.Int.{div_ceil}
+use Rattle.record_making.specs.Making.{made_by}
+use Rattle.std.proofs.Common.{◌+◌, [], ◌∷◌, ap, arith, drop, length, ◌∙◌, subst, sym}
 use Rattle.directory_calls.specs.Steps.{handle_by}
 use Rattle.directory_calls.proofs.Parts.{place_of}
 use Rattle.directory_law.specs.Bytes.{IsPiece}
 use Rattle.record_making.specs.Texts.{parts_after, parts_of, text_of}
 use Rattle.record_making.proofs.Packed.{begins_so, head_piece, short_is}
-use Rattle.record_making.proofs.Chained.{all_before, alone_noted, has_text, misses_after, only_if, same_refusal, taken_over}
+use Rattle.record_making.proofs.Chained.{all_before, alone_noted, has_text, misses_after, one_make, one_make_more, only_if, same_refusal, taken_over}
 use Rattle.record_making.proofs.making.make_record.Goals as goal
 
 pub make_slot-requires-clause-piece : goal.make_slot-requires-clause-piece
@@ -73,3 +75,35 @@ returns-clause-leaves g c =
     taken_over c.in_ok-rest.rest.slot (handle_by c.make_before.result) c.args.seat.now
     c.make_parts.new.seat c.make_before.new.seat c.in_ok-rest.ensures.leaves
     c.make_before.ensures.leaves
+
+pub returns-then-text-le120-clause-makes : goal.returns-then-text-le120-clause-makes
+returns-then-text-le120-clause-makes g c =
+    (one_make c.make_slot.result c.args.seat.now.view.core.makes
+    c.make_slot.new.seat.view.core.makes (div_ceil (length c.args.text.now) 120)
+    (omega (arith, c.requires.text.0, c.if-text-le120.true)) c.make_slot.ensures.makes).0
+
+pub returns-then-text-le120-clause-all : goal.returns-then-text-le120-clause-all
+returns-then-text-le120-clause-all g c =
+    (one_make c.make_slot.result c.args.seat.now.view.core.makes
+    c.make_slot.new.seat.view.core.makes (div_ceil (length c.args.text.now) 120)
+    (omega (arith, c.requires.text.0, c.if-text-le120.true)) c.make_slot.ensures.makes).1
+
+pub returns-in_err-rest-clause-makes : goal.returns-in_err-rest-clause-makes
+returns-in_err-rest-clause-makes g c =
+    omega (arith, c.make_parts.ensures.makes, c.if-text-le120.false)
+
+pub returns-clause-makes : goal.returns-clause-makes
+returns-clause-makes g c =
+    (one_make_more c.make_before.result c.args.seat.now.view.core.makes
+    c.make_before.new.seat.view.core.makes (parts_after (length c.args.text.now))
+    (div_ceil (length c.args.text.now) 120) (omega (arith, c.if-text-le120.false))
+    (c.make_before.ensures.makes
+    ∙ ap (λ n. n + made_by c.make_before.result) c.in_ok-rest.ensures.all)).0
+
+pub returns-clause-all : goal.returns-clause-all
+returns-clause-all g c =
+    (one_make_more c.make_before.result c.args.seat.now.view.core.makes
+    c.make_before.new.seat.view.core.makes (parts_after (length c.args.text.now))
+    (div_ceil (length c.args.text.now) 120) (omega (arith, c.if-text-le120.false))
+    (c.make_before.ensures.makes
+    ∙ ap (λ n. n + made_by c.make_before.result) c.in_ok-rest.ensures.all)).1
