@@ -190,6 +190,10 @@ module _ {P V : Type 0} (fits : List ℕ → Type 0) (d : DomainState P) (l : Pl
         (some_later d (λ x y. IsBound z y text s) mid late new
         (some_step d (λ x y. IsBound z y text s) step fact) (scans_go replaces.scans))
 
+    pub bound_makes : new.view.core.makes ≡ old.view.core.makes
+    bound_makes =
+        ap (λ (u : CoreView). u.makes) replaces.same ∙ ap (λ (u : CoreView). u.makes) gains.core
+
     v : CoreView
     v = without_given Weak (Some w) mid.view.core
 
@@ -242,6 +246,12 @@ module _ {P V : Type 0} (fits : List ℕ → Type 0) (d : DomainState P) (l : Pl
 
       still : KnowsStill (without_weak w lost.view.core) lost new
       still = subst (λ x. KnowsStill (without_weak x lost.view.core) lost new) back stayed
+
+      pub lost_makes : new.view.core.makes ≡ old.view.core.makes
+      lost_makes =
+          ap (λ (u : CoreView). u.makes) drops.1.core
+          ∙ ap (λ (u : CoreView). u.makes) loses.loses.becomes.core
+          ∙ ap (λ (u : CoreView). u.makes) gains.core
 
       pub lost_leaves : Leaves old.view.core.owned old.view.core.weaks old new
       lost_leaves =

@@ -7,6 +7,7 @@ use Rattle.plain_state.specs.declared.slot.SlotId.{SlotId}
 use Rattle.plain_state.specs.Lists.{times}
 use Rattle.core_events.specs.declared.act.Act.TheVariants as act
 use Rattle.core_events.specs.declared.outcome.Outcome.{Outcome}
+use Rattle.core_events.specs.declared.view.CoreView.{CoreView}
 use Rattle.core_events.specs.Steps.{HasRoom}
 use Rattle.core_invariant.proofs.Kit.{times_push}
 use Rattle.acquire_retire.specs.Calls.{Steps}
@@ -57,6 +58,11 @@ module _ {P V : Type 0} (fits : List ℕ → Type 0) (d : DomainState P) (l : Pl
         (knows_after d (act.Look (WeakCell i)) old new o old.view.core step (λ s has. has)
         (λ w s x. refl))
 
+    pub around_makes : new.view.core.makes ≡ old.view.core.makes
+    around_makes =
+        ap (λ (v : CoreView). v.makes) (one_step d (act.Look (WeakCell i)) old new o
+        step.word old.view.core step (sym step.answers) refl refl).core
+
     pub around_rest : IsAtRest d old → IsAtRest d new
     around_rest rest =
         rest_after d _ old.view.core old new
@@ -72,6 +78,7 @@ pub record Walks {P V : Type 0} (d : DomainState P) (seen : V → View) (with_se
   pub learns : LearnsIn seen with_seen 0 old.view.client now.view.client
   pub room : HasRoom now.view.core
   pub rest : IsAtRest d now
+  pub makes : now.view.core.makes ≡ old.view.core.makes
   pub begins : n ≡ 0 → now ≡ old
   pub able : 0 < n → IsSpent old.view.core → ⊥
 
@@ -85,6 +92,7 @@ module _ {P V : Type 0} (d : DomainState P) (l : Place V) (z : Area) (text : Tex
     learns = part_none l a.view.client;
     room = room;
     rest = rest;
+    makes = refl;
     begins = λ is. refl;
     able = λ some. absurd (omega (arith, some));
   }
@@ -128,8 +136,8 @@ module _ {P V : Type 0} (d : DomainState P) (l : Place V) (z : Area) (text : Tex
         → Leaves b.view.core.owned b.view.core.weaks b c
         → LearnsBy l 0 b.view.client c.view.client
         → (IsSpent b.view.core → ⊥) → HasRoom c.view.core → IsAtRest d c
-        → Walks d l.seen l.with_seen z text (n + 1) a c
-    one_passed cell at passes second more here room rest = record {
+        → c.view.core.makes ≡ b.view.core.makes → Walks d l.seen l.with_seen z text (n + 1) a c
+    one_passed cell at passes second more here room rest makes = record {
       walked = λ j low. ⊎_elim
           (λ less. passes_still 0 (l.seen b.view.client) (l.seen c.view.client) text
           (on z text j) more.part (walks.walked j less))
@@ -141,6 +149,7 @@ module _ {P V : Type 0} (d : DomainState P) (l : Place V) (z : Area) (text : Tex
       learns = walk_learns 0 more;
       room = room;
       rest = rest;
+      makes = makes ∙ walks.makes;
       begins = λ is. absurd (omega (arith, is));
       able = λ some spent. walk_able here spent;
     }
@@ -213,13 +222,14 @@ module _ {P V : Type 0} (d : DomainState P) (l : Place V) (z : Area) (text : Tex
         → Leaves (with_found (met found) b.view.core.owned) b.view.core.weaks b c
         → LearnsBy l (taken intern found) b.view.client c.view.client
         → (IsSpent b.view.core → false ≡ true) → HasRoom c.view.core → IsAtRest d c
+        → c.view.core.makes ≡ b.view.core.makes
         → Walks d l.seen l.with_seen z text (n + 1) a c
-    other_passed intern cell found other at meets second more here room rest =
+    other_passed intern cell found other at meets second more here room rest makes =
         one_passed cell at (subst (λ f. Meets l.seen d z cell text f b c) other meets)
         (subst (λ f. Leaves (with_found (met f) b.view.core.owned) b.view.core.weaks b c) other
         second)
         (subst (λ f. LearnsBy l (taken intern f) b.view.client c.view.client) other more)
-        (λ spent'. let e = here spent' in absurd (cc (e))) room rest
+        (λ spent'. let e = here spent' in absurd (cc (e))) room rest makes
 
     -- the walk has passed all cells
     pub around_found : z.cells ≤ n → 0 < z.cells → EndsAround l.seen d z b c

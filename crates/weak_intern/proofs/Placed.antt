@@ -109,6 +109,7 @@ pub record Enters {P V : Type 0} (d : DomainState P) (seen : V → View) (with_s
   pub quota : CanCount true (seen now.view.client)
   pub owns : 0 < times s now.view.core.owned
   pub noted : HasNotedLast (candidate_in s text now) (seen now.view.client)
+  pub makes : now.view.core.makes ≡ old.view.core.makes
   pub room : HasRoom now.view.core
   pub rest : IsAtRest d now
 
@@ -125,6 +126,7 @@ module _ {P V : Type 0} (d : DomainState P) (l : Place V) (z : Area) (text : Tex
     quota = quota;
     owns = owns;
     noted = noted;
+    makes = refl;
     room = room;
     rest = rest;
   }
@@ -164,9 +166,9 @@ module _ {P V : Type 0} (d : DomainState P) (l : Place V) (z : Area) (text : Tex
       -- a look or a bind that only learns leaves the record where it was
       pub enters_on : (m : ℕ) → HasPassed z (l.seen c.view.client) text m
           → Leaves b.view.core.owned b.view.core.weaks b c
-          → LearnsBy l 0 b.view.client c.view.client → HasRoom c.view.core → IsAtRest d c
-          → Enters d l.seen l.with_seen z text s m a c
-      enters_on m passed second more room rest = record {
+          → LearnsBy l 0 b.view.client c.view.client → c.view.core.makes ≡ b.view.core.makes
+          → HasRoom c.view.core → IsAtRest d c → Enters d l.seen l.with_seen z text s m a c
+      enters_on m passed second more makes room rest = record {
         passed = passed;
         leaves = enter_leaves None second;
         learns = enter_learns 0 more;
@@ -179,6 +181,7 @@ module _ {P V : Type 0} (d : DomainState P) (l : Place V) (z : Area) (text : Tex
               ∙ ap (λ (o : Object). rope s o.life text ∷ enters.noted.0)
               (sym (known second)),
         );
+        makes = makes ∙ enters.makes;
         room = room;
         rest = rest;
       }
@@ -214,33 +217,33 @@ module _ {P V : Type 0} (d : DomainState P) (l : Place V) (z : Area) (text : Tex
 
       -- a bind that was lost
       pub enters_lost : c.view.client ≡ b.view.client
-          → Leaves b.view.core.owned b.view.core.weaks b c → HasRoom c.view.core → IsAtRest d c
-          → Enters d l.seen l.with_seen z text s n a c
-      enters_lost client second room rest =
+          → Leaves b.view.core.owned b.view.core.weaks b c → c.view.core.makes ≡ b.view.core.makes
+          → HasRoom c.view.core → IsAtRest d c → Enters d l.seen l.with_seen z text s n a c
+      enters_lost client second makes room rest =
           let more = subst (λ v. LearnsBy l 0 b.view.client v) (sym client)
           (part_none l b.view.client) in
-          enters_on n (still_passed more) second more room rest
+          enters_on n (still_passed more) second more makes room rest
 
       -- a look after it
       pub null_on : (found : Sight) → found ≡ sight.Null
           → Leaves (with_found (met found) b.view.core.owned) b.view.core.weaks b c
           → LearnsBy l (taken true found) b.view.client c.view.client
-          → HasRoom c.view.core → IsAtRest d c → Enters d l.seen l.with_seen z text s n a c
-      null_on found same second more room rest =
+          → c.view.core.makes ≡ b.view.core.makes → HasRoom c.view.core → IsAtRest d c → Enters d l.seen l.with_seen z text s n a c
+      null_on found same second more makes room rest =
           let learns = subst (λ f. LearnsBy l (taken true f) b.view.client c.view.client) same more
           in
           enters_on n (still_passed learns)
           (subst (λ f. Leaves (with_found (met f) b.view.core.owned) b.view.core.weaks b c) same
           second)
-          learns room rest
+          learns makes room rest
 
       pub other_on : (cell m : ℕ) (found : Sight) → found ≡ sight.Other
           → on z text n ≡ cell → m < z.cells → (m ≢ 0 → m ≡ n + 1)
           → Meets l.seen d z cell text found b c
           → Leaves (with_found (met found) b.view.core.owned) b.view.core.weaks b c
           → LearnsBy l (taken true found) b.view.client c.view.client
-          → HasRoom c.view.core → IsAtRest d c → Enters d l.seen l.with_seen z text s m a c
-      other_on cell m found same at low next meets second more room rest =
+          → c.view.core.makes ≡ b.view.core.makes → HasRoom c.view.core → IsAtRest d c → Enters d l.seen l.with_seen z text s m a c
+      other_on cell m found same at low next meets second more makes room rest =
           let learns = subst (λ f. LearnsBy l (taken true f) b.view.client c.view.client) same more
           in
           enters_on m
@@ -248,7 +251,7 @@ module _ {P V : Type 0} (d : DomainState P) (l : Place V) (z : Area) (text : Tex
           (subst (λ f. Meets l.seen d z cell text f b c) same meets) learns)
           (subst (λ f. Leaves (with_found (met f) b.view.core.owned) b.view.core.weaks b c) same
           second)
-          learns room rest
+          learns makes room rest
 
       pub record_leaves : (found : Sight) (strong : Handle) → found ≡ sight.Record strong
           → Leaves (with_found (met found) b.view.core.owned) b.view.core.weaks b c

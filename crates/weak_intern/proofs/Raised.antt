@@ -342,3 +342,15 @@ module _ {P V : Type 0} (fits : List ℕ → Type 0) (d : DomainState P) (l : Pl
             (leaves_core old mid (with_add old.view.core) _ e.becomes.core refl knows)
             (ap (λ (v : CoreView). v.weaks) e.becomes.core)
             (λ x. omega arith)
+
+    pub raised_makes : (r ≡ Err no_raise.Spent → mid ≡ old)
+        → (r ≡ Err no_raise.Ended → FindsEnded fits d next allows s old mid)
+        → new.view.core.makes ≡ old.view.core.makes
+    raised_makes spent' finds = ap (λ (v : CoreView). v.makes) drops.1.core ∙ go r refl upgraded
+      where
+        go : (o : Result Handle UpgradeError) → r ≡ o
+            → IfOk o (λ strong. (strong.slot ≡ s) × GainsStrong fits d next allows s old mid)
+            → mid.view.core.makes ≡ old.view.core.makes
+        go (Ok h) is u = ap (λ (v : CoreView). v.makes) u.1.core
+        go (Err no_raise.Spent) is u = ap (λ (x : SeatState V). x.view.core.makes) (spent' is)
+        go (Err no_raise.Ended) is u = ap (λ (v : CoreView). v.makes) (finds is).becomes.core

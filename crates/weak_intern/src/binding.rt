@@ -49,6 +49,7 @@ pub(crate) fn bind<S, P: HasDirectory<S>>(
         (area_of (P.part domain.now.protocol)) (text_of sought.now.text.now)
         candidate.now.slot done seat.old seat.new) }
     ensures leaves { Leaves seat.old.view.core.owned seat.old.view.core.weaks seat.old seat.new }
+    ensures makes { seat.new.view.core.makes ≡ seat.old.view.core.makes }
     ensures room { HasRoom seat.new.view.core }
     ensures rest { IsAtRest domain.now seat.new }
 {

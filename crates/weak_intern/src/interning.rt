@@ -1,5 +1,6 @@
 //! The record of a text, which is made where the text has none.
 ghost use Rattle.std.specs.Prelude.{true, ◌≡◌, ◌≢◌, ◌+◌, ◌<◌, ◌≤◌, Err, IfOk, IsErr, length};
+ghost use Rattle.std.specs.Int.{div_ceil};
 ghost use Rattle.plain_state.specs.Lists.{times};
 ghost use Rattle.core_events.specs.Steps.{HasRoom};
 ghost use Rattle.control_word.specs.Resting.{IsAtRest, IsSpent};
@@ -55,6 +56,8 @@ pub fn intern<R: Wait, S, P: HasDirectory<S>>(
         seat.old.view.core.weaks seat.old seat.new }
     ensures grows { GrowsIn P.seen P.with_seen (interned_by result)
         seat.old.view.client seat.new.view.client }
+    ensures makes { seat.new.view.core.makes
+        ≤ seat.old.view.core.makes + div_ceil (length text.now) 120 }
     ensures room { HasRoom seat.new.view.core }
     ensures rest { IsAtRest domain.now seat.new }
 {
@@ -100,6 +103,8 @@ fn add<R: Wait, S, P: HasDirectory<S>>(
         seat.old.view.core.weaks seat.old seat.new }
     ensures grows { GrowsIn P.seen P.with_seen (interned_by result)
         seat.old.view.client seat.new.view.client }
+    ensures makes { seat.new.view.core.makes
+        ≤ seat.old.view.core.makes + div_ceil (length sought.now.text.now) 120 }
     ensures room { HasRoom seat.new.view.core }
     ensures rest { IsAtRest domain.now seat.new }
 {
@@ -150,6 +155,7 @@ fn place<R: Wait, S, P: HasDirectory<S>>(
         seat.old.view.core.weaks seat.old seat.new }
     ensures grows { GrowsIn P.seen P.with_seen (placed_by result)
         seat.old.view.client seat.new.view.client }
+    ensures makes { seat.new.view.core.makes ≡ seat.old.view.core.makes }
     ensures room { HasRoom seat.new.view.core }
     ensures rest { IsAtRest domain.now seat.new }
 {

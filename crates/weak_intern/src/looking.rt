@@ -60,6 +60,7 @@ pub(crate) fn look<R: Wait, S, P: HasDirectory<S>>(
         seat.old.view.core.weaks seat.old seat.new }
     ensures learns { LearnsIn P.seen P.with_seen (taken_by intern result)
         seat.old.view.client seat.new.view.client }
+    ensures makes { seat.new.view.core.makes ≡ seat.old.view.core.makes }
     ensures room { HasRoom seat.new.view.core }
     ensures rest { IsAtRest domain.now seat.new }
 {
@@ -92,6 +93,7 @@ fn meet<S, P: HasDirectory<S>>(
         (without weak.slot seat.old.view.core.weaks) seat.old seat.new }
     ensures learns { LearnsIn P.seen P.with_seen (taken_by intern result)
         seat.old.view.client seat.new.view.client }
+    ensures makes { seat.new.view.core.makes ≡ seat.old.view.core.makes }
     ensures room { HasRoom seat.new.view.core }
     ensures rest { IsAtRest domain.now seat.new }
 {

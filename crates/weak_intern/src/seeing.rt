@@ -42,6 +42,7 @@ pub fn see<R: Wait, S, P: HasDirectory<S>>(
     ensures leaves { IfOk result (λ found. Leaves seat.old.view.core.owned
         (with_found (named found) seat.old.view.core.weaks) seat.old seat.new) }
     ensures learns { LearnsIn P.seen P.with_seen 0 seat.old.view.client seat.new.view.client }
+    ensures makes { seat.new.view.core.makes ≡ seat.old.view.core.makes }
     ensures room { HasRoom seat.new.view.core }
     ensures rest { IsAtRest domain.now seat.new }
 {
@@ -80,6 +81,7 @@ pub fn raise<S, P: HasDirectory<S>>(
         (without weak.slot seat.old.view.core.weaks) seat.old seat.new }
     ensures learns { LearnsIn P.seen P.with_seen (raised_by intern result)
         seat.old.view.client seat.new.view.client }
+    ensures makes { seat.new.view.core.makes ≡ seat.old.view.core.makes }
     ensures room { HasRoom seat.new.view.core }
     ensures rest { IsAtRest domain.now seat.new }
 {

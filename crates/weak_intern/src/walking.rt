@@ -54,6 +54,7 @@ pub(crate) fn seek<R: Wait, S, P: HasDirectory<S>>(
         seat.old.view.core.weaks seat.old seat.new }
     ensures learns { LearnsIn P.seen P.with_seen (used_by intern result)
         seat.old.view.client seat.new.view.client }
+    ensures makes { seat.new.view.core.makes ≡ seat.old.view.core.makes }
     ensures room { HasRoom seat.new.view.core }
     ensures rest { IsAtRest domain.now seat.new }
 {
@@ -78,6 +79,7 @@ fn come_around<S, P: HasDirectory<S>>(domain: &Domain<P>, seat: &mut Seat<P>, di
         seat.old seat.new }
     ensures leaves { Leaves seat.old.view.core.owned seat.old.view.core.weaks seat.old seat.new }
     ensures client { seat.new.view.client ≡ seat.old.view.client }
+    ensures makes { seat.new.view.core.makes ≡ seat.old.view.core.makes }
     ensures room { HasRoom seat.new.view.core }
     ensures rest { IsAtRest domain.now seat.new }
 {

@@ -1,9 +1,9 @@
-use Rattle.std.proofs.Common.{ap, ◌∙◌, Some, None}
+use Rattle.std.proofs.Common.{ap, arith, ◌∙◌, Some, None}
 use Rattle.std.specs.Prelude.{Ok}
 use Rattle.directory_calls.specs.Directories.{area_of}
 use Rattle.record_making.specs.Texts.{text_of}
 use Rattle.record_making.proofs.Chained.{on_err, same_refusal}
-use Rattle.record_making.proofs.Dropped.{dropped}
+use Rattle.record_making.proofs.Dropped.{dropped, makes_still}
 use Rattle.weak_intern.proofs.Added.{dropped_known, dropped_leaves, dropped_places, err_grows, err_leaves, found_some, is_err, knows_still, noted_made, ok_grows, ok_leaves, ok_places, owned_then, passed_made, placed_knows, quota_made, refused_grows}
 use Rattle.directory_calls.proofs.Parts.{place_of}
 use Rattle.weak_intern.proofs.Placed.{grows_as}
@@ -232,3 +232,31 @@ returns-in-Ok-Some-clause-knows g c =
     c.args.sought.now.text.now)
     c.place.new.seat c.place.result (Some c.in-Ok-Some.strong)
     (c.in-Ok-Some.is ∙ ap Ok c.in-Ok-Some.field-0-is) c.place.ensures.knows)
+
+pub returns-in_err-candidate-clause-makes : goal.returns-in_err-candidate-clause-makes
+returns-in_err-candidate-clause-makes g c =
+    c.make_record.ensures.makes
+
+pub returns-in-Ok-None-clause-makes : goal.returns-in-Ok-None-clause-makes
+returns-in-Ok-None-clause-makes g c =
+    omega (arith, c.make_record.ensures.makes, c.place.ensures.makes)
+
+pub returns-in-Ok-Some-clause-makes : goal.returns-in-Ok-Some-clause-makes
+returns-in-Ok-Some-clause-makes g c =
+    omega (
+      arith,
+      c.make_record.ensures.makes,
+      c.place.ensures.makes,
+      makes_still c.place.new.seat c.drop_strong.new.seat c.in_ok-candidate.candidate.slot
+          g.P.Kind.PayloadKind.fits c.args.domain.now c.drop_strong.ensures.dropped,
+    )
+
+pub returns-in-Err-clause-makes : goal.returns-in-Err-clause-makes
+returns-in-Err-clause-makes g c =
+    omega (
+      arith,
+      c.make_record.ensures.makes,
+      c.place.ensures.makes,
+      makes_still c.place.new.seat c.drop_strong-in-Err.new.seat c.in_ok-candidate.candidate.slot
+          g.P.Kind.PayloadKind.fits c.args.domain.now c.drop_strong-in-Err.ensures.dropped,
+    )

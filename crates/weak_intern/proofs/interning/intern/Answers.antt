@@ -176,3 +176,15 @@ returns-in-Ok-Record-clause-owned g c =
 pub returns-in-Ok-Absent-clause-owned : goal.returns-in-Ok-Absent-clause-owned
 returns-in-Ok-Absent-clause-owned g c =
     answered_owned c.add.result c.seek.new.seat c.add.new.seat c.add.ensures.leaves
+
+pub returns-in-Ok-Absent-clause-makes : goal.returns-in-Ok-Absent-clause-makes
+returns-in-Ok-Absent-clause-makes g c =
+    omega (arith, c.seek.ensures.makes, c.add.ensures.makes)
+
+pub returns-in-Ok-Record-clause-makes : goal.returns-in-Ok-Record-clause-makes
+returns-in-Ok-Record-clause-makes g c =
+    omega (arith, c.seek.ensures.makes)
+
+pub returns-in-Err-clause-makes : goal.returns-in-Err-clause-makes
+returns-in-Err-clause-makes g c =
+    omega (arith, c.seek.ensures.makes)

@@ -1,4 +1,4 @@
-use Rattle.std.proofs.Common.{arith, None}
+use Rattle.std.proofs.Common.{arith, ◌∙◌, None}
 use Rattle.std.proofs.lemmas.Result.{err_from_is_err_and}
 use Rattle.directory_calls.specs.Directories.{area_of}
 use Rattle.record_making.specs.Texts.{text_of}
@@ -62,7 +62,7 @@ returns-in_err-look-clause-leaves g c =
     c.args.domain.now.protocol))
     (text_of c.args.sought.now.text.now) c.args.candidate.now.slot c.loop.seat c.bind.new.seat
     c.in_ok-bound.bound c.if-bound.false c.in_ok-bound.ensures.binds)
-    c.bind.ensures.leaves c.bind.ensures.room c.bind.ensures.rest)
+    c.bind.ensures.leaves c.bind.ensures.makes c.bind.ensures.room c.bind.ensures.rest)
     c.look.new.seat
     c.from_residual-in_err-look.result p.0 p.1 c.in_err-look.ensures.leaves
 
@@ -86,7 +86,7 @@ returns-in_err-look-clause-grows g c =
     c.args.domain.now.protocol))
     (text_of c.args.sought.now.text.now) c.args.candidate.now.slot c.loop.seat c.bind.new.seat
     c.in_ok-bound.bound c.if-bound.false c.in_ok-bound.ensures.binds)
-    c.bind.ensures.leaves c.bind.ensures.room c.bind.ensures.rest)
+    c.bind.ensures.leaves c.bind.ensures.makes c.bind.ensures.room c.bind.ensures.rest)
     c.look.new.seat
     c.from_residual-in_err-look.result p.0 p.1 c.in_err-look.ensures.learns
 
@@ -110,10 +110,10 @@ loop-preserved-in-Null g c = (
       c.args.domain.now.protocol))
       (text_of c.args.sought.now.text.now) c.args.candidate.now.slot c.loop.seat c.bind.new.seat
       c.in_ok-bound.bound c.if-bound.false c.in_ok-bound.ensures.binds)
-      c.bind.ensures.leaves c.bind.ensures.room c.bind.ensures.rest)
+      c.bind.ensures.leaves c.bind.ensures.makes c.bind.ensures.room c.bind.ensures.rest)
       c.look.new.seat
       c.in_ok-look.field-0 c.in-Null.is c.in_ok-look.ensures.leaves c.in_ok-look.ensures.learns
-      c.look.ensures.room c.look.ensures.rest,
+      c.look.ensures.makes c.look.ensures.room c.look.ensures.rest,
 )
 
 pub returns-in-Record-clause-places : goal.returns-in-Record-clause-places
@@ -134,7 +134,7 @@ returns-in-Record-clause-places g c =
     c.args.domain.now.protocol))
     (text_of c.args.sought.now.text.now) c.args.candidate.now.slot c.loop.seat c.bind.new.seat
     c.in_ok-bound.bound c.if-bound.false c.in_ok-bound.ensures.binds)
-    c.bind.ensures.leaves c.bind.ensures.room c.bind.ensures.rest)
+    c.bind.ensures.leaves c.bind.ensures.makes c.bind.ensures.room c.bind.ensures.rest)
     c.look.new.seat
     c.cell_on-cell.result c.in_ok-look.field-0 c.in-Record.strong c.in-Record.is
     c.in_ok-look.ensures.meets c.in_ok-look.ensures.learns).0
@@ -157,7 +157,7 @@ returns-in-Record-clause-leaves g c =
     c.args.domain.now.protocol))
     (text_of c.args.sought.now.text.now) c.args.candidate.now.slot c.loop.seat c.bind.new.seat
     c.in_ok-bound.bound c.if-bound.false c.in_ok-bound.ensures.binds)
-    c.bind.ensures.leaves c.bind.ensures.room c.bind.ensures.rest)
+    c.bind.ensures.leaves c.bind.ensures.makes c.bind.ensures.room c.bind.ensures.rest)
     c.look.new.seat
     c.in_ok-look.field-0 c.in-Record.strong c.in-Record.is c.in_ok-look.ensures.leaves
 
@@ -179,7 +179,7 @@ returns-in-Record-clause-grows g c =
     c.args.domain.now.protocol))
     (text_of c.args.sought.now.text.now) c.args.candidate.now.slot c.loop.seat c.bind.new.seat
     c.in_ok-bound.bound c.if-bound.false c.in_ok-bound.ensures.binds)
-    c.bind.ensures.leaves c.bind.ensures.room c.bind.ensures.rest)
+    c.bind.ensures.leaves c.bind.ensures.makes c.bind.ensures.room c.bind.ensures.rest)
     c.look.new.seat
     c.cell_on-cell.result c.in_ok-look.field-0 c.in-Record.strong c.in-Record.is
     c.in_ok-look.ensures.meets c.in_ok-look.ensures.learns).1
@@ -204,7 +204,7 @@ loop-preserved g c = (
       c.args.domain.now.protocol))
       (text_of c.args.sought.now.text.now) c.args.candidate.now.slot c.loop.seat c.bind.new.seat
       c.in_ok-bound.bound c.if-bound.false c.in_ok-bound.ensures.binds)
-      c.bind.ensures.leaves c.bind.ensures.room c.bind.ensures.rest)
+      c.bind.ensures.leaves c.bind.ensures.makes c.bind.ensures.room c.bind.ensures.rest)
       c.look.new.seat
       c.cell_on-cell.result c.next_on-passed.result c.in_ok-look.field-0 c.in-Other.is
       (at_cell (area_of (g.P.Part.part c.args.domain.now.protocol)) (text_of
@@ -214,7 +214,7 @@ loop-preserved g c = (
       (omega (arith, c.next_on-passed.ensures.low, c.requires.over.cells))
       c.next_on-passed.ensures.next
       c.in_ok-look.ensures.meets c.in_ok-look.ensures.leaves c.in_ok-look.ensures.learns
-      c.look.ensures.room c.look.ensures.rest,
+      c.look.ensures.makes c.look.ensures.room c.look.ensures.rest,
 )
 
 pub returns-then-bound-clause-knows : goal.returns-then-bound-clause-knows
@@ -245,7 +245,23 @@ returns-in-Record-clause-knows g c =
     c.args.domain.now.protocol))
     (text_of c.args.sought.now.text.now) c.args.candidate.now.slot c.loop.seat c.bind.new.seat
     c.in_ok-bound.bound c.if-bound.false c.in_ok-bound.ensures.binds)
-    c.bind.ensures.leaves c.bind.ensures.room c.bind.ensures.rest)
+    c.bind.ensures.leaves c.bind.ensures.makes c.bind.ensures.room c.bind.ensures.rest)
     c.look.new.seat
     c.cell_on-cell.result c.in_ok-look.field-0 c.in-Record.strong c.in-Record.is
     c.in_ok-look.ensures.meets
+
+pub returns-in_err-bound-clause-makes : goal.returns-in_err-bound-clause-makes
+returns-in_err-bound-clause-makes g c =
+    c.bind.ensures.makes ∙ c.loop.invariant.2.makes
+
+pub returns-then-bound-clause-makes : goal.returns-then-bound-clause-makes
+returns-then-bound-clause-makes g c =
+    c.bind.ensures.makes ∙ c.loop.invariant.2.makes
+
+pub returns-in_err-look-clause-makes : goal.returns-in_err-look-clause-makes
+returns-in_err-look-clause-makes g c =
+    c.look.ensures.makes ∙ c.bind.ensures.makes ∙ c.loop.invariant.2.makes
+
+pub returns-in-Record-clause-makes : goal.returns-in-Record-clause-makes
+returns-in-Record-clause-makes g c =
+    c.look.ensures.makes ∙ c.bind.ensures.makes ∙ c.loop.invariant.2.makes

@@ -1,3 +1,4 @@
+use Rattle.std.proofs.Common.{◌∙◌}
 use Rattle.directory_calls.specs.Directories.{area_of}
 use Rattle.weak_intern.specs.Walking.{met_by, taken_by}
 use Rattle.directory_calls.proofs.Parts.{place_of, zero_then}
@@ -52,3 +53,7 @@ returns-in-Some-clause-learns g c =
     g.P.Part.puts_over)
     (taken_by c.args.intern c.meet.result) c.args.seat.now.view.client c.see.new.seat.view.client
     c.meet.new.seat.view.client c.see.ensures.learns c.meet.ensures.learns
+
+pub returns-in-Some-clause-makes : goal.returns-in-Some-clause-makes
+returns-in-Some-clause-makes g c =
+    c.meet.ensures.makes ∙ c.see.ensures.makes

@@ -1,5 +1,6 @@
 use Rattle.std.proofs.Common.{ap, arith, sym, ◌∙◌, Some, None}
 use Rattle.std.specs.Prelude.{Err}
+use Rattle.core_events.specs.declared.view.CoreView.{CoreView}
 use Rattle.domain_rule.specs.Views.{object_in}
 use Rattle.directory_calls.specs.Directories.{area_of}
 use Rattle.directory_calls.proofs.Parts.{place_of}
@@ -112,3 +113,19 @@ returns-in-Err-Spent-clause-leaves g c =
     c.args.seat.now c.is_payload.new.seat c.raise.new.seat c.is_payload.ensures.leaves
     c.requires.owned
     None c.in-Err-Spent.ensures.leaves
+
+pub returns-then-not-is_payload-clause-makes : goal.returns-then-not-is_payload-clause-makes
+returns-then-not-is_payload-clause-makes g c =
+    ap (λ (v : CoreView). v.makes) c.drop_weak.ensures.dropped.1.core ∙ c.is_payload.ensures.makes
+
+pub returns-in-Ok-clause-makes : goal.returns-in-Ok-clause-makes
+returns-in-Ok-clause-makes g c =
+    c.raise.ensures.makes ∙ c.is_payload.ensures.makes
+
+pub returns-in-Err-Ended-clause-makes : goal.returns-in-Err-Ended-clause-makes
+returns-in-Err-Ended-clause-makes g c =
+    c.raise.ensures.makes ∙ c.is_payload.ensures.makes
+
+pub returns-in-Err-Spent-clause-makes : goal.returns-in-Err-Spent-clause-makes
+returns-in-Err-Spent-clause-makes g c =
+    c.raise.ensures.makes ∙ c.is_payload.ensures.makes

@@ -1,4 +1,4 @@
-use Rattle.std.proofs.Common.{arith}
+use Rattle.std.proofs.Common.{arith, ◌∙◌}
 use Rattle.std.proofs.lemmas.Result.{err_from_is_err_and}
 use Rattle.directory_calls.specs.Directories.{area_of}
 use Rattle.record_making.specs.Texts.{text_of}
@@ -113,7 +113,7 @@ loop-passed-preserved g c =
     c.args.sought.now.hash c.loop-passed.passed c.args.directory.now.cells c.cell_on-cell.result
     c.requires.sought.place c.requires.over.cells c.cell_on-cell.ensures.cell)
     c.in_ok-look.ensures.meets c.in_ok-look.ensures.leaves c.in_ok-look.ensures.learns
-    c.in_ok-look.ensures.refused c.look.ensures.room c.look.ensures.rest
+    c.in_ok-look.ensures.refused c.look.ensures.room c.look.ensures.rest c.look.ensures.makes
 
 pub returns-clause-comes : goal.returns-clause-comes
 returns-clause-comes g c =
@@ -126,3 +126,19 @@ returns-clause-comes g c =
     c.come_around.new.seat c.loop-passed.invariant
     (omega (arith, c.loop-passed-test.false, c.requires.over.cells))
     (omega (arith, c.requires.over.some_cells, c.requires.over.cells)) c.come_around.ensures.ends
+
+pub returns-in_err-look-clause-makes : goal.returns-in_err-look-clause-makes
+returns-in_err-look-clause-makes g c =
+    c.look.ensures.makes ∙ c.loop-passed.invariant.makes
+
+pub returns-in-Null-clause-makes : goal.returns-in-Null-clause-makes
+returns-in-Null-clause-makes g c =
+    c.look.ensures.makes ∙ c.loop-passed.invariant.makes
+
+pub returns-in-Record-clause-makes : goal.returns-in-Record-clause-makes
+returns-in-Record-clause-makes g c =
+    c.look.ensures.makes ∙ c.loop-passed.invariant.makes
+
+pub returns-clause-makes : goal.returns-clause-makes
+returns-clause-makes g c =
+    c.come_around.ensures.makes ∙ c.loop-passed.invariant.makes
