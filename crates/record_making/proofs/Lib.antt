@@ -2,4 +2,6 @@ pub mod Packed
 pub mod Made
 pub mod Dropped
 pub mod Linked
+pub mod Noted
+pub mod Before
 pub mod Chained

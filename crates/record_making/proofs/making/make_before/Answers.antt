@@ -3,7 +3,8 @@ use Rattle.plain_state.specs.Lists.{times}
 use Rattle.core_events.specs.Views.{without}
 use Rattle.directory_calls.proofs.Parts.{place_of}
 use Rattle.record_making.specs.Making.{HasTwo, Links}
-use Rattle.record_making.proofs.Chained.{front_left, has_two, leaves_before, made_before, misses_on, owned_before, put_before, refused_before, rest_owned, rest_part}
+use Rattle.record_making.proofs.Noted.{misses_on}
+use Rattle.record_making.proofs.Before.{front_left, has_two, leaves_before, made_before, owned_before, put_before, refused_before, rest_owned, rest_part}
 use Rattle.record_making.proofs.Dropped.{dropped, makes_still}
 use Rattle.record_making.proofs.making.make_before.Goals as goal
 

@@ -6,7 +6,8 @@ use Rattle.directory_law.specs.Bytes.{IsPiece}
 use Rattle.directory_law.specs.Payloads.{IsPart}
 use Rattle.record_making.specs.Texts.{parts_after}
 use Rattle.record_making.proofs.Packed.{part_at_is, part_piece}
-use Rattle.record_making.proofs.Chained.{chain_done, chain_first, chain_leaves, chain_on, chain_only, chain_text, misses_after, offset, on_err, same_refusal}
+use Rattle.record_making.proofs.Noted.{misses_after, on_err, same_refusal}
+use Rattle.record_making.proofs.Chained.{chain_done, chain_first, chain_leaves, chain_on, chain_only, chain_text, offset}
 use Rattle.record_making.proofs.making.make_parts.Goals as goal
 
 pub make_slot-requires-clause-piece : goal.make_slot-requires-clause-piece

@@ -6,7 +6,9 @@ use Rattle.directory_calls.proofs.Parts.{place_of}
 use Rattle.directory_law.specs.Bytes.{IsPiece}
 use Rattle.record_making.specs.Texts.{parts_after, parts_of, text_of}
 use Rattle.record_making.proofs.Packed.{begins_so, head_piece, short_is}
-use Rattle.record_making.proofs.Chained.{all_before, alone_noted, has_text, misses_after, one_make, one_make_more, only_if, same_refusal, taken_over}
+use Rattle.record_making.proofs.Noted.{all_before, alone_noted, has_text, misses_after, only_if, same_refusal}
+use Rattle.record_making.proofs.Before.{taken_over}
+use Rattle.record_making.proofs.Chained.{one_make, one_make_more}
 use Rattle.record_making.proofs.making.make_record.Goals as goal
 
 pub make_slot-requires-clause-piece : goal.make_slot-requires-clause-piece

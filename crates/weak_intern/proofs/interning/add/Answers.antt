@@ -2,7 +2,7 @@ use Rattle.std.proofs.Common.{ap, arith, ◌∙◌, Some, None}
 use Rattle.std.specs.Prelude.{Ok}
 use Rattle.directory_calls.specs.Directories.{area_of}
 use Rattle.record_making.specs.Texts.{text_of}
-use Rattle.record_making.proofs.Chained.{on_err, same_refusal}
+use Rattle.record_making.proofs.Noted.{on_err, same_refusal}
 use Rattle.record_making.proofs.Dropped.{dropped, makes_still}
 use Rattle.weak_intern.proofs.Added.{dropped_known, dropped_leaves, dropped_places, err_grows, err_leaves, found_some, is_err, knows_still, noted_made, ok_grows, ok_leaves, ok_places, owned_then, passed_made, placed_knows, quota_made, refused_grows}
 use Rattle.directory_calls.proofs.Parts.{place_of}

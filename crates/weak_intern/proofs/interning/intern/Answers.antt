@@ -4,7 +4,7 @@ use Rattle.directory_calls.specs.Directories.{area_of}
 use Rattle.weak_intern.specs.Interning.{interned_by}
 use Rattle.directory_calls.specs.Steps.{handle_by}
 use Rattle.record_making.specs.Texts.{text_of}
-use Rattle.record_making.proofs.Chained.{misses_after}
+use Rattle.record_making.proofs.Noted.{misses_after}
 use Rattle.record_making.proofs.Packed.{is_text_of}
 use Rattle.weak_intern.proofs.Heads.{sought_is}
 use Rattle.weak_intern.proofs.Interned.{absent_learns, absent_leaves, absent_none, added_grows, added_leaves, added_none, all_interns, all_knows, answered_owned, walked_interns, walked_knows, walked_owned}
