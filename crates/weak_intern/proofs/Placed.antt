@@ -228,7 +228,8 @@ module _ {P V : Type 0} (d : DomainState P) (l : Place V) (z : Area) (text : Tex
       pub null_on : (found : Sight) → found ≡ sight.Null
           → Leaves (with_found (met found) b.view.core.owned) b.view.core.weaks b c
           → LearnsBy l (taken true found) b.view.client c.view.client
-          → c.view.core.makes ≡ b.view.core.makes → HasRoom c.view.core → IsAtRest d c → Enters d l.seen l.with_seen z text s n a c
+          → c.view.core.makes ≡ b.view.core.makes → HasRoom c.view.core → IsAtRest d c
+          → Enters d l.seen l.with_seen z text s n a c
       null_on found same second more makes room rest =
           let learns = subst (λ f. LearnsBy l (taken true f) b.view.client c.view.client) same more
           in
@@ -242,7 +243,8 @@ module _ {P V : Type 0} (d : DomainState P) (l : Place V) (z : Area) (text : Tex
           → Meets l.seen d z cell text found b c
           → Leaves (with_found (met found) b.view.core.owned) b.view.core.weaks b c
           → LearnsBy l (taken true found) b.view.client c.view.client
-          → c.view.core.makes ≡ b.view.core.makes → HasRoom c.view.core → IsAtRest d c → Enters d l.seen l.with_seen z text s m a c
+          → c.view.core.makes ≡ b.view.core.makes → HasRoom c.view.core → IsAtRest d c
+          → Enters d l.seen l.with_seen z text s m a c
       other_on cell m found same at low next meets second more makes room rest =
           let learns = subst (λ f. LearnsBy l (taken true f) b.view.client c.view.client) same more
           in
