@@ -8,7 +8,7 @@ ghost use Rattle.control_word.specs.Resting.{IsAtRest, IsSpent};
 ghost use Rattle.domain_rule.specs.Views.{object_in};
 ghost use Rattle.slot_store.specs.declared.making.MakeError.TheVariants as refused;
 ghost use Rattle.slot_store.specs.Calls.{HasNoMake};
-ghost use Rattle.directory_law.specs.Bytes.{IsPiece};
+ghost use Rattle.directory_law.specs.Bytes.{IsPiece, IsTextOf};
 ghost use Rattle.directory_law.specs.Payloads.{IsOwn, IsPart};
 ghost use Rattle.directory_calls.specs.Steps.{Leaves, handle_by, with_found};
 ghost use Rattle.record_making.specs.Making.{HasText, HasTwo, Links, MissesWithin, Notes, NotesOnly, PutsBefore, candidate_in, made_by, with_notes};
@@ -38,6 +38,7 @@ pub fn make_record<S, P: HasDirectory<S>>(
     ensures noted { IfOk result (λ head. Notes P.seen P.with_seen
         (candidate_in head.slot (text_of text.now) seat.new)
         seat.old.view.client seat.new.view.client) }
+    ensures text { IsTextOf text.now (text_of text.now) }
     ensures no_make { result ≡ Err refused.MakesSpent → HasNoMake seat.new.view.core }
     ensures adds { result ≡ Err refused.AddsSpent → IsSpent seat.new.view.core }
     ensures full { result ≡ Err refused.Full

@@ -5,7 +5,7 @@ use Rattle.directory_calls.specs.Steps.{handle_by}
 use Rattle.directory_calls.proofs.Parts.{place_of}
 use Rattle.directory_law.specs.Bytes.{IsPiece}
 use Rattle.record_making.specs.Texts.{parts_after, parts_of, text_of}
-use Rattle.record_making.proofs.Packed.{begins_so, head_piece, short_is}
+use Rattle.record_making.proofs.Packed.{begins_so, head_piece, short_is, is_text_of}
 use Rattle.record_making.proofs.Noted.{all_before, alone_noted, has_text, misses_after, only_if, same_refusal}
 use Rattle.record_making.proofs.Before.{taken_over}
 use Rattle.record_making.proofs.Chained.{one_make, one_make_more}
@@ -109,3 +109,15 @@ returns-clause-all g c =
     (div_ceil (length c.args.text.now) 120) (omega (arith, c.if-text-le120.false))
     (c.make_before.ensures.makes
     ∙ ap (λ n. n + made_by c.make_before.result) c.in_ok-rest.ensures.all)).1
+
+pub returns-then-text-le120-clause-text : goal.returns-then-text-le120-clause-text
+returns-then-text-le120-clause-text g c =
+    is_text_of c.args.text.now c.requires.text.0 c.requires.text.1
+
+pub returns-in_err-rest-clause-text : goal.returns-in_err-rest-clause-text
+returns-in_err-rest-clause-text g c =
+    is_text_of c.args.text.now c.requires.text.0 c.requires.text.1
+
+pub returns-clause-text : goal.returns-clause-text
+returns-clause-text g c =
+    is_text_of c.args.text.now c.requires.text.0 c.requires.text.1
