@@ -1,6 +1,12 @@
 -- A record is made and put into a cell, or given up where another one was found.
 use Rattle.std.proofs.Common.{◌≡◌, inl, inr, ⊎_elim, ℕ, ◌+◌, ◌<◌, ◌≤◌, List, [], ◌∷◌, ◌++◌, true, refl, sym, ap, subst, ◌∙◌, arith, Some, None}
-use Rattle.std.specs.Prelude.{Bool, false, Err, IfOk, Ok, Option, Result}
+use Rattle.std.specs.Prelude.{◌⊎◌, Bool, false, Err, IfOk, IsErr, IsErrAnd, Ok, OnErr, Option, Result}
+use Rattle.std.proofs.lemmas.Result.{err_from_is_err_and}
+use Rattle.plain_protocol.specs.Owns.{Object}
+use Rattle.domain_rule.specs.Views.{object_in}
+use Rattle.directory_law.specs.declared.view.Ran.{Ran}
+use Rattle.directory_law.specs.Views.{In, rope}
+use Rattle.directory_law.specs.Payloads.{IsText}
 use Rattle.atomic_weak.specs.Places.{named}
 use Rattle.counted_handles.specs.Handles.{Handle}
 use Rattle.plain_state.specs.declared.slot.SlotId.{SlotId}
@@ -21,7 +27,10 @@ use Rattle.directory_law.specs.Cells.{Area}
 use Rattle.directory_law.specs.Law.{IsBound}
 use Rattle.control_word.specs.Resting.{IsSpent}
 use Rattle.directory_calls.specs.Directories.{CanCount}
-use Rattle.weak_intern.specs.Interning.{Grows, HasNotedLast, HasPassed, Places, candidate_in, named_or, placed_by, with_noted}
+use Rattle.weak_intern.specs.Interning.{Grows, HasPassed, Places, interned_by, named_or, placed_by}
+use Rattle.record_making.specs.Making.{HasNotedLast, Notes, NotesOnly, candidate_in, with_notes}
+use Rattle.directory_law.specs.Payloads.{Text}
+use Rattle.weak_intern.specs.Knowing.{Knows}
 use Rattle.directory_calls.specs.Steps.{Leaves, with_found}
 use Rattle.weak_intern.specs.Walking.{found_by}
 use Rattle.directory_calls.proofs.Going.{holds_by, leaves_as, leaves_less, leaves_then, seat_same, some_earlier, some_later}
@@ -29,9 +38,9 @@ use Rattle.directory_calls.proofs.Parts.{Place}
 use Rattle.weak_intern.proofs.Placed.{GrowsBy, grow_then, lift_grows}
 use Rattle.directory_law.specs.declared.view.Rope.{Rope}
 
--- a view that notes one more has used nothing
-noted_grows : (e : Rope) (v : View) → Grows 0 v (with_noted e v)
-noted_grows e v = record {
+-- a view with other notes has used nothing
+notes_grows : (es : List Rope) (v : View) → Grows 0 v (with_notes es v)
+notes_grows es v = record {
   seen = λ x in'. in';
   ended = λ x in'. in';
   ran = λ x in'. in';
@@ -41,62 +50,30 @@ noted_grows e v = record {
   kept = λ x in'. in';
 }
 
--- a reference given up
-module _ {V : Type 0} (b c : SeatState V) (s : SlotId) where
-  gave_up : (e : Bool) (ms : List Move)
-      → c.view.core ≡ record (with_ended e s (without_strong s b.view.core)) {
-        trail = b.view.core.trail ++ ms;
-      }
-      → KnowsStill (without_strong s b.view.core) b c
-      → Leaves (without s b.view.core.owned) b.view.core.weaks b c
-  gave_up true ms core knows =
-      leaves_less b c (with_ended true s (without_strong s b.view.core)) ms core refl
-      (λ x is. knows x (holds_has (without_strong s b.view.core) x is))
-  gave_up false ms core knows =
-      leaves_less b c (without_strong s b.view.core) ms core refl
-      (λ x is. knows x (holds_has (without_strong s b.view.core) x is))
-
-  spent_if : (e : Bool) (ms : List Move)
-      → c.view.core ≡ record (with_ended e s (without_strong s b.view.core)) {
-        trail = b.view.core.trail ++ ms;
-      }
-      → IsSpent b.view.core → IsSpent c.view.core
-  spent_if true ms core is = subst (λ (v : CoreView). IsSpent v) (sym core) is
-  spent_if false ms core is = subst (λ (v : CoreView). IsSpent v) (sym core) is
-
-  module _ {P : Type 0} (fits : List ℕ → Type 0) (d : DomainState P)
-      (drops : DropsStrong fits d s b c) where
-    pub dropped : KnowsStill (without_strong s b.view.core) b c
-        → Leaves (without s b.view.core.owned) b.view.core.weaks b c
-    dropped knows = gave_up (ends drops.0) _ drops.1.core knows
-
-    pub spent_still : IsSpent b.view.core → IsSpent c.view.core
-    spent_still is = spent_if (ends drops.0) _ drops.1.core is
-
-module _ {P V : Type 0} (d : DomainState P) (l : Place V) (z : Area) (head : List ℕ) (s : SlotId)
+module _ {P V : Type 0} (d : DomainState P) (l : Place V) (z : Area) (text : Text) (s : SlotId)
     (a b : SeatState V) (made : Leaves (a.view.core.owned ++ s ∷ []) a.view.core.weaks a b)
-    (client : b.view.client
-    ≡ l.with_seen a.view.client (with_noted (candidate_in s head b) (l.seen a.view.client))) where
+    (client : Notes l.seen l.with_seen (candidate_in s text b) a.view.client b.view.client) where
   -- ONCE IT IS MADE
-  seen_made : l.seen b.view.client ≡ with_noted (candidate_in s head b) (l.seen a.view.client)
-  seen_made = ap l.seen client
-      ∙ l.reads a.view.client (with_noted (candidate_in s head b) (l.seen a.view.client))
+  abbrev now_noted : View
+  now_noted = with_notes (candidate_in s text b ∷ client.0) (l.seen a.view.client)
+
+  seen_made : l.seen b.view.client ≡ now_noted
+  seen_made = ap l.seen client.1 ∙ l.reads a.view.client now_noted
 
   pub quota_made : CanCount true (l.seen a.view.client) → CanCount true (l.seen b.view.client)
   quota_made is = subst (λ v. CanCount true v) (sym seen_made) is
 
-  pub passed_made : (n : ℕ) → HasPassed z (l.seen a.view.client) head n
-      → HasPassed z (l.seen b.view.client) head n
-  passed_made n is = subst (λ v. HasPassed z v head n) (sym seen_made) is
+  pub passed_made : (n : ℕ) → HasPassed z (l.seen a.view.client) text n
+      → HasPassed z (l.seen b.view.client) text n
+  passed_made n is = subst (λ v. HasPassed z v text n) (sym seen_made) is
 
-  pub noted_made : HasNotedLast (candidate_in s head b) (l.seen b.view.client)
-  noted_made = ((l.seen a.view.client).noted, ap (λ (v : View). v.noted) seen_made)
+  pub noted_made : HasNotedLast (candidate_in s text b) (l.seen b.view.client)
+  noted_made = (client.0, ap (λ (v : View). v.noted) seen_made)
 
   grows_made : GrowsBy l 0 a.view.client b.view.client
   grows_made =
-      lift_grows l 0 a.view.client b.view.client
-      (with_noted (candidate_in s head b) (l.seen a.view.client)) client
-      (noted_grows (candidate_in s head b) (l.seen a.view.client))
+      lift_grows l 0 a.view.client b.view.client now_noted client.1
+      (notes_grows (candidate_in s text b ∷ client.0) (l.seen a.view.client))
 
   -- how often it is owned
   more : (f : Option SlotId) (x : SlotId)
@@ -142,11 +119,11 @@ module _ {P V : Type 0} (d : DomainState P) (l : Place V) (z : Area) (head : Lis
         subst (λ n. GrowsBy l n a.view.client c.view.client) (omega arith)
         (grow_then l 0 k a.view.client b.view.client c.view.client grows_made more)
 
-    pub then_places : (t : SlotId) → Places d z head t b c → Places d z head t a c
+    pub then_places : (t : SlotId) → Places d z text t b c → Places d z text t a c
     then_places t places = ⊎_elim
-        (λ before. inl (some_earlier d (λ p q. IsBound z p (head ∷ []) t) a b c
+        (λ before. inl (some_earlier d (λ p q. IsBound z p text t) a b c
         (seat_same a b made.same) made.goes before))
-        (λ later. inr (some_earlier d (λ p q. IsBound z q (head ∷ []) t) a b c
+        (λ later. inr (some_earlier d (λ p q. IsBound z q text t) a b c
         (seat_same a b made.same) made.goes later))
         places
 
@@ -166,11 +143,11 @@ module _ {P V : Type 0} (d : DomainState P) (l : Place V) (z : Area) (head : Lis
         second)
 
     pub ok_places : {E : Type 0} (r : Result (Option Handle) E) (f : Option Handle) → r ≡ Ok f
-        → IfOk r (λ found. Places d z head (named_or s found) b c)
-        → Places d z head (named_or s f) a c
+        → IfOk r (λ found. Places d z text (named_or s found) b c)
+        → Places d z text (named_or s f) a c
     ok_places r f is places =
         then_places (named_or s f)
-        (subst (λ x. IfOk x (λ found. Places d z head (named_or s found) b c)) is places)
+        (subst (λ x. IfOk x (λ found. Places d z text (named_or s found) b c)) is places)
 
     pub ok_grows : {E : Type 0} (r : Result (Option Handle) E) (f : Option Handle) → r ≡ Ok f
         → GrowsBy l (placed_by r) b.view.client c.view.client
@@ -211,8 +188,52 @@ module _ {P V : Type 0} (d : DomainState P) (l : Place V) (z : Area) (head : Lis
           omega arith)
           first.weakly
 
-      pub dropped_places : (t : SlotId) → Places d z head t a c → Places d z head t a e
+      pub dropped_places : (t : SlotId) → Places d z text t a c → Places d z text t a e
       dropped_places t places = ⊎_elim
-          (λ before. inl (some_later d (λ p q. IsBound z p (head ∷ []) t) a c e before last.goes))
-          (λ later. inr (some_later d (λ p q. IsBound z q (head ∷ []) t) a c e later last.goes))
+          (λ before. inl (some_later d (λ p q. IsBound z p text t) a c e before last.goes))
+          (λ later. inr (some_later d (λ p q. IsBound z q text t) a c e later last.goes))
           places
+
+      pub dropped_known : (t : SlotId) → 0 < times t (with_found o a.view.core.owned)
+          → object_in e.view t ≡ object_in c.view t
+      dropped_known t some =
+          let p = first.owns t in let r = more o t in let q = dropped_leaves.owns t in
+          last.knows t (omega (arith, p, r, some)) (omega (arith, q, some))
+
+-- WHAT THE SEAT KNOWS
+module _ {V : Type 0} (seen : V → View) (t : SlotId) (text : Text) where
+  abbrev KnowsAs : Object → V → Type 0
+  KnowsAs o v =
+      In (rope t o.life text) (seen v).kept
+      ⊎ (((n : ℕ) × In (record { cell = n; slot = t; life = o.life; head = o.payload }) (seen
+      v).seen)
+      × (e : Ran) × In e (seen v).ran × (e.slot ≡ t) × (e.life ≡ o.life) × (e.before ≡ text)
+      × IsText text)
+
+  pub knows_still : (c e : SeatState V) → e.view.client ≡ c.view.client
+      → object_in e.view t ≡ object_in c.view t → Knows seen t text c → Knows seen t text e
+  knows_still c e client object knows =
+      subst (λ (o : Object). KnowsAs o e.view.client) (sym object)
+      (subst (λ (v : V). KnowsAs (object_in c.view t) v) (sym client) knows)
+
+pub placed_knows : {V E : Type 0} (seen : V → View) (s : SlotId) (text : Text) (c : SeatState V)
+    (r : Result (Option Handle) E) (f : Option Handle) → r ≡ Ok f
+    → IfOk r (λ found. Knows seen (named_or s found) text c) → Knows seen (named_or s f) text c
+placed_knows seen s text c r f is knows =
+    subst (λ x. IfOk x (λ found. Knows seen (named_or s found) text c)) is knows
+
+pub found_some : (t : SlotId) (xs : List SlotId) → 0 < times t (with_found (Some t) xs)
+found_some t xs =
+    let p = times_push t t xs in let i = one_same t t refl in omega (arith, p, i)
+
+-- a make that was refused
+pub refused_grows : {V E : Type 0} (l : Place V) (r : Result Handle E) (a b : SeatState V)
+    → IsErr r → OnErr r (NotesOnly l.seen l.with_seen a.view.client b.view.client)
+    → GrowsBy l (interned_by r) a.view.client b.view.client
+refused_grows l (Ok h) a b is only = absurd (cc (is))
+refused_grows l (Err e) a b is only =
+    lift_grows l 0 a.view.client b.view.client (with_notes only.0 (l.seen a.view.client)) only.1
+    (notes_grows only.0 (l.seen a.view.client))
+
+pub is_err : {T E : Type 0} (Q : E → Type 0) (r : Result T E) → IsErrAnd r Q → IsErr r
+is_err Q r is = let p = err_from_is_err_and r is in subst (λ x. IsErr x) (sym p.1) refl

@@ -1,10 +1,11 @@
--- What a walk came to, of bytes that have its head and no part.
+-- What a walk came to, of the bytes of its text.
 use Rattle.std.proofs.Common.{◌≡◌, List, [], ◌∷◌, ℕ, subst}
 use Rattle.plain_state.specs.declared.slot.SlotId.{SlotId}
 use Rattle.acquire_retire.specs.Domains.{DomainState}
 use Rattle.acquire_retire.specs.Seats.{SeatState}
 use Rattle.directory_law.specs.declared.view.View.{View}
 use Rattle.directory_law.specs.Bytes.{IsTextOf}
+use Rattle.directory_law.specs.Payloads.{Text}
 use Rattle.directory_law.specs.Cells.{Area}
 use Rattle.directory_law.specs.Law.{IsBound, NoneBound}
 use Rattle.directory_law.proofs.Bytes.{one_text}
@@ -12,31 +13,40 @@ use Rattle.weak_intern.specs.declared.walking.Walk.{Walk}
 use Rattle.weak_intern.specs.declared.walking.Walk.TheVariants as walk
 use Rattle.directory_calls.specs.Directories.{HasNoRecord, IsRecord}
 use Rattle.directory_calls.specs.Steps.{AfterStep, AtStep}
+use Rattle.counted_handles.specs.Handles.{Handle}
+use Rattle.weak_intern.specs.Knowing.{KnowsRecord}
 use Rattle.weak_intern.specs.Walking.{ComesTo}
 use Rattle.directory_calls.proofs.Going.{also, also_some}
 
-module _ {P V : Type 0} (d : DomainState P) (z : Area) (bytes head : List ℕ)
-    (is : IsTextOf bytes (head ∷ [])) (a b : SeatState V) where
-  pub no_record : AtStep d (λ p. NoneBound z p (head ∷ [])) a b
+module _ {P V : Type 0} (d : DomainState P) (z : Area) (bytes : List ℕ) (text : Text)
+    (is : IsTextOf bytes text) (a b : SeatState V) where
+  pub no_record : AtStep d (λ p. NoneBound z p text) a b
       → AtStep d (λ p. HasNoRecord z p bytes) a b
   no_record at =
-      also d (λ p. NoneBound z p (head ∷ [])) (λ p. HasNoRecord z p bytes) a b
-      (λ p none text other.
-      subst (λ t. NoneBound z p t) (one_text bytes (head ∷ []) text is other) none) at
+      also d (λ p. NoneBound z p text) (λ p. HasNoRecord z p bytes) a b
+      (λ p none t other.
+      subst (λ u. NoneBound z p u) (one_text bytes text t is other) none) at
 
-  pub is_record : (s : SlotId) → AtStep d (λ p. IsBound z p (head ∷ []) s) a b
+  pub is_record : (s : SlotId) → AtStep d (λ p. IsBound z p text s) a b
       → AtStep d (λ p. IsRecord z p bytes s) a b
   is_record s at =
-      also d (λ p. IsBound z p (head ∷ []) s) (λ p. IsRecord z p bytes s) a b
-      (λ p bound. (head ∷ [], is, bound)) at
+      also d (λ p. IsBound z p text s) (λ p. IsRecord z p bytes s) a b
+      (λ p bound. (text, is, bound)) at
 
-  pub is_record_after : (s : SlotId) → AfterStep d (λ q. IsBound z q (head ∷ []) s) a b
+  pub is_record_after : (s : SlotId) → AfterStep d (λ q. IsBound z q text s) a b
       → AfterStep d (λ q. IsRecord z q bytes s) a b
   is_record_after s at =
-      also_some d (λ p q. IsBound z q (head ∷ []) s) (λ p q. IsRecord z q bytes s) a b
-      (λ p q bound. (head ∷ [], is, bound)) at
+      also_some d (λ p q. IsBound z q text s) (λ p q. IsRecord z q bytes s) a b
+      (λ p q bound. (text, is, bound)) at
 
   pub came_to_none : (seen : V → View) (found : Walk) (passed : ℕ) → found ≡ walk.Absent passed
-      → ComesTo seen d z head found a b → AtStep d (λ p. HasNoRecord z p bytes) a b
+      → ComesTo seen d z text found a b → AtStep d (λ p. HasNoRecord z p bytes) a b
   came_to_none seen found passed same comes =
-      no_record (subst (λ f. ComesTo seen d z head f a b) same comes).0
+      no_record (subst (λ f. ComesTo seen d z text f a b) same comes).0
+
+  pub came_to_record : (seen : V → View) (found : Walk) (strong : Handle)
+      → found ≡ walk.Record strong → ComesTo seen d z text found a b
+      → AtStep d (λ p. IsRecord z p bytes strong.slot) a b × KnowsRecord seen bytes strong.slot b
+  came_to_record seen found strong same comes =
+      let came = subst (λ f. ComesTo seen d z text f a b) same comes in
+      (is_record strong.slot came.0, (text, is, came.1))

@@ -39,11 +39,12 @@ use Rattle.directory_law.specs.Views.{rope}
 use Rattle.directory_law.specs.Walks.{Walked}
 use Rattle.directory_protocol.specs.Keeping.{KeepsAll, MindsNone}
 use Rattle.directory_calls.specs.Directories.{CanCount}
-use Rattle.weak_intern.specs.Interning.{ComesBy, HasNotedLast, candidate_in}
-use Rattle.weak_intern.specs.Sought.{IsOne}
+use Rattle.record_making.specs.Making.{HasNotedLast, candidate_in}
+use Rattle.weak_intern.specs.Interning.{ComesBy}
+use Rattle.directory_law.specs.Payloads.{IsText, Text}
 use Rattle.directory_calls.specs.Steps.{AfterStep, GoesOn, Leaves, aside}
 use Rattle.directory_calls.proofs.Going.{goes_none, goes_then, holds_by, leaves_as, leaves_core, leaves_then, seat_same, some_earlier, some_later, some_step, step_goes, walks_go}
-use Rattle.weak_intern.proofs.Made.{own_life}
+use Rattle.record_making.proofs.Made.{own_life}
 use Rattle.directory_calls.proofs.Parts.{Place, lift_ready, lifts, tells}
 
 -- whether a compare and exchange that expects null found it
@@ -75,17 +76,17 @@ weaks_left s old mid gained x =
     omega arith
 
 module _ {P V : Type 0} (fits : List ℕ → Type 0) (d : DomainState P) (l : Place V) (z : Area)
-    (head : List ℕ) (s w : SlotId) (same : w ≡ s) (old mid : SeatState V)
+    (text : Text) (s w : SlotId) (same : w ≡ s) (old mid : SeatState V)
     (gains : GainsWeak fits d s old mid) (client : mid.view.client ≡ old.view.client)
     (knows : KnowsStill old.view.core old mid) (owns : 0 < times s old.view.core.owned)
-    (noted : HasNotedLast (candidate_in s head old) (l.seen old.view.client)) where
+    (noted : HasNotedLast (candidate_in s text old) (l.seen old.view.client)) where
   owned_mid : times s mid.view.core.owned ≡ times s old.view.core.owned
   owned_mid = ap (λ (v : CoreView). times s v.owned) gains.core
 
   has_mid : HasSlot (show_seat mid.view.core) s
   has_mid = let o = owned_mid in holds_has mid.view.core s (omega (arith, owns))
 
-  noted_mid : (l.seen mid.view.client).noted ≡ candidate_in s head old ∷ noted.0
+  noted_mid : (l.seen mid.view.client).noted ≡ candidate_in s text old ∷ noted.0
   noted_mid = ap (λ c. (l.seen c).noted) client ∙ noted.1
 
   known_life : life_in (own_of mid.view) s ≡ (object_in old.view s).life
@@ -98,39 +99,36 @@ module _ {P V : Type 0} (fits : List ℕ → Type 0) (d : DomainState P) (l : Pl
   -- THE DEED is ready
   pub ready : (owned : Owned) (free : OwnPart → PlainAct → Type 0) (suits : V → View → Type 0)
       → Frees owned free → MindsNone suits l.seen → (at cell : ℕ) → at ≡ z.first + cell
-      → 0 < z.cells → owned.weak_cell at → (hash : ℕ) → IsOne head hash
-      → CanCount true (l.seen old.view.client) → ComesBy z (l.seen old.view.client) head cell
+      → 0 < z.cells → owned.weak_cell at → IsText text
+      → CanCount true (l.seen old.view.client) → ComesBy z (l.seen old.view.client) text cell
       → IsReady (λ own v a. BindReady z own (l.seen v) a × free own a
       × Accepts suits bind_next l.seen own v a) d.shape
       (act.Cas (WeakCell at) None (Some w)) mid.view
-  ready owned free suits frees minds at cell is some mine hash one quota comes n =
+  ready owned free suits frees minds at cell is some mine is_text quota comes n =
       lift_ready l owned free suits frees minds (BindReady z) bind_next (own_of mid.view)
       mid.view.client (plain.TryReplace (WeakCell at) None (Some w))
       (record {
         slot = s;
-        text = head ∷ [];
+        text = text;
         passed = comes.0;
         act_is = λ j. plain.TryReplace (WeakCell (here j)) None (Some (same j));
         some_cells = some;
         owned = let o = owned_mid in omega (arith, owns);
-        is_text = (
-          (one.some_bytes, let b = one.short in omega arith),
-          let b = one.short in omega arith,
-        );
+        is_text = is_text;
         walked = subst (λ c. Walked' c) (sym client) comes.1;
         spare = let q = subst (λ c. CanCount true (l.seen c)) (sym client) quota in omega arith;
         others = noted.0;
-        noted = noted_mid ∙ ap (λ k. rope s k (head ∷ []) ∷ noted.0) (sym known_life);
+        noted = noted_mid ∙ ap (λ k. rope s k text ∷ noted.0) (sym known_life);
       })
       mine
       (λ own n'. bind_keeps_if (n' == 0) (first_noted (l.seen mid.view.client).noted)
       (l.seen mid.view.client))
     where
-      here : at ≡ z.first + on z (head ∷ []) comes.0
+      here : at ≡ z.first + on z text comes.0
       here = is ∙ ap (λ k. z.first + k) (sym comes.2)
 
       Walked' : V → Type 0
-      Walked' c = Walked z (l.seen c) (head ∷ []) comes.0
+      Walked' c = Walked z (l.seen c) text comes.0
 
   abbrev next : OwnPart → OwnPart → V → PlainAct → ℕ → V
   next = lifts l bind_next
@@ -139,7 +137,7 @@ module _ {P V : Type 0} (fits : List ℕ → Type 0) (d : DomainState P) (l : Pl
   allows = tells l (BindTells z)
 
   abbrev now_bound : View
-  now_bound = bound (candidate_in s head old) (l.seen old.view.client)
+  now_bound = bound (candidate_in s text old) (l.seen old.view.client)
 
   -- IT FOUND NULL
   module _ (at : ℕ) (new : SeatState V)
@@ -170,7 +168,7 @@ module _ {P V : Type 0} (fits : List ℕ → Type 0) (d : DomainState P) (l : Pl
     pub bound_client : new.view.client ≡ l.with_seen old.view.client now_bound
     bound_client = replaces.client ∙ client_late
 
-    pub bound_after : AfterStep d (λ q. IsBound z q (head ∷ []) s) old new
+    pub bound_after : AfterStep d (λ q. IsBound z q text s) old new
     bound_after =
         let step = replaces.puts.step in
         let p = shows d.shape step.told.happened.before in
@@ -183,14 +181,18 @@ module _ {P V : Type 0} (fits : List ℕ → Type 0) (d : DomainState P) (l : Pl
         ap (λ c. (l.seen c).used) client_late
         ∙ ap (λ (v : View). v.used) (l.reads old.view.client now_bound)
         ∙ ap (λ c. (l.seen c).used + 1) (sym client) in
-        let fact : IsBound z q (head ∷ []) s = ⊎_elim
+        let fact : IsBound z q text s = ⊎_elim
         (λ unchanged. let e = ap (λ (v : View). v.used) unchanged in absurd (omega (arith, used)))
         (λ is. subst (λ (e : Rope). IsBound z q e.text e.slot) (ap first_noted noted_mid) is)
         told.1 in
-        some_earlier d (λ x y. IsBound z y (head ∷ []) s) old mid new
+        some_earlier d (λ x y. IsBound z y text s) old mid new
         (seat_same old mid gained.same) gained.goes
-        (some_later d (λ x y. IsBound z y (head ∷ []) s) mid late new
-        (some_step d (λ x y. IsBound z y (head ∷ []) s) step fact) (scans_go replaces.scans))
+        (some_later d (λ x y. IsBound z y text s) mid late new
+        (some_step d (λ x y. IsBound z y text s) step fact) (scans_go replaces.scans))
+
+    pub bound_makes : new.view.core.makes ≡ old.view.core.makes
+    bound_makes =
+        ap (λ (u : CoreView). u.makes) replaces.same ∙ ap (λ (u : CoreView). u.makes) gains.core
 
     v : CoreView
     v = without_given Weak (Some w) mid.view.core
@@ -245,6 +247,12 @@ module _ {P V : Type 0} (fits : List ℕ → Type 0) (d : DomainState P) (l : Pl
       still : KnowsStill (without_weak w lost.view.core) lost new
       still = subst (λ x. KnowsStill (without_weak x lost.view.core) lost new) back stayed
 
+      pub lost_makes : new.view.core.makes ≡ old.view.core.makes
+      lost_makes =
+          ap (λ (u : CoreView). u.makes) drops.1.core
+          ∙ ap (λ (u : CoreView). u.makes) loses.loses.becomes.core
+          ∙ ap (λ (u : CoreView). u.makes) gains.core
+
       pub lost_leaves : Leaves old.view.core.owned old.view.core.weaks old new
       lost_leaves =
           leaves_as old.view.core.owned old.view.core.weaks old new
@@ -261,7 +269,8 @@ module _ {P V : Type 0} (fits : List ℕ → Type 0) (d : DomainState P) (l : Pl
                 let here = subst (λ (u : CoreView). Holds u x) drops.1.core is in
                 still x (holds_has (without_weak w lost.view.core) x here)
                 ∙ kept x (holds_has (without_weak w mid.view.core) x
-                (subst (λ (u : CoreView). Holds (without_weak w u) x) loses.loses.becomes.core here));
+                (subst (λ (u : CoreView). Holds (without_weak w u) x) loses.loses.becomes.core
+                here));
           })
           (λ x was is. let o = gained.owns x in let k = gained.weakly x in
           let p = times_push x s old.view.core.weaks in

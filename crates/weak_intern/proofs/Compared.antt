@@ -30,6 +30,7 @@ pub record Same {P V : Type 0} (d : DomainState P) (s : SlotId) (n : ℕ) (paylo
   pub client : now.view.client ≡ old.view.client
   pub holds : (x : SlotId) → Holds old.view.core x → Holds now.view.core x
   pub object : object_in now.view s ≡ object_in old.view s
+  pub makes : now.view.core.makes ≡ old.view.core.makes
   pub room : HasRoom now.view.core
   pub rest : IsAtRest d now
 
@@ -45,6 +46,7 @@ module _ {P V : Type 0} (fits : List ℕ → Type 0) (d : DomainState P) (s : Sl
     client = refl;
     holds = λ x held. held;
     object = refl;
+    makes = refl;
     room = room;
     rest = rest;
   }
@@ -82,6 +84,7 @@ module _ {P V : Type 0} (fits : List ℕ → Type 0) (d : DomainState P) (s : Sl
       holds = λ x was. subst (λ (v : CoreView). Holds v x) (sym seen.becomes.core)
           (same.holds x was);
       object = here ∙ same.object;
+      makes = ap (λ (v : CoreView). v.makes) seen.becomes.core ∙ same.makes;
       room = room same.room;
       rest = rest;
     }
@@ -103,6 +106,7 @@ module _ {P V : Type 0} (fits : List ℕ → Type 0) (d : DomainState P) (s : Sl
       client = one_read.client;
       holds = one_read.holds;
       object = one_read.object;
+      makes = one_read.makes;
       room = one_read.room;
       rest = one_read.rest;
     }

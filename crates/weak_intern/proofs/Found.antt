@@ -7,6 +7,7 @@ use Rattle.plain_state.specs.declared.slot.SlotId.{SlotId}
 use Rattle.plain_state.specs.Lists.{times}
 use Rattle.core_events.specs.declared.act.Act.TheVariants as act
 use Rattle.core_events.specs.declared.outcome.Outcome.{Outcome}
+use Rattle.core_events.specs.declared.view.CoreView.{CoreView}
 use Rattle.core_events.specs.Steps.{HasRoom}
 use Rattle.core_invariant.proofs.Kit.{times_push}
 use Rattle.acquire_retire.specs.Calls.{Steps}
@@ -20,6 +21,7 @@ use Rattle.directory_law.specs.Cells.{Area, on}
 use Rattle.directory_law.specs.Law.{IsBound, NoneBound}
 use Rattle.directory_law.specs.Lessons.{LookTells, look_next}
 use Rattle.directory_law.specs.Lessons.{spent}
+use Rattle.directory_law.specs.Payloads.{Text}
 use Rattle.directory_law.specs.Places.{text_hash}
 use Rattle.directory_law.specs.Walks.{Passes, Walked}
 use Rattle.weak_intern.specs.declared.looking.Sight.{Sight}
@@ -56,6 +58,11 @@ module _ {P V : Type 0} (fits : List ℕ → Type 0) (d : DomainState P) (l : Pl
         (knows_after d (act.Look (WeakCell i)) old new o old.view.core step (λ s has. has)
         (λ w s x. refl))
 
+    pub around_makes : new.view.core.makes ≡ old.view.core.makes
+    around_makes =
+        ap (λ (v : CoreView). v.makes) (one_step d (act.Look (WeakCell i)) old new o
+        step.word old.view.core step (sym step.answers) refl refl).core
+
     pub around_rest : IsAtRest d old → IsAtRest d new
     around_rest rest =
         rest_after d _ old.view.core old new
@@ -65,30 +72,32 @@ module _ {P V : Type 0} (fits : List ℕ → Type 0) (d : DomainState P) (l : Pl
 
 -- THE WALK has passed n cells
 pub record Walks {P V : Type 0} (d : DomainState P) (seen : V → View) (with_seen : V → View → V)
-    (z : Area) (head : List ℕ) (n : ℕ) (old now : SeatState V) : Type 0 where
-  pub walked : Walked z (seen now.view.client) (head ∷ []) n
+    (z : Area) (text : Text) (n : ℕ) (old now : SeatState V) : Type 0 where
+  pub walked : Walked z (seen now.view.client) text n
   pub leaves : Leaves old.view.core.owned old.view.core.weaks old now
   pub learns : LearnsIn seen with_seen 0 old.view.client now.view.client
   pub room : HasRoom now.view.core
   pub rest : IsAtRest d now
+  pub makes : now.view.core.makes ≡ old.view.core.makes
   pub begins : n ≡ 0 → now ≡ old
   pub able : 0 < n → IsSpent old.view.core → ⊥
 
-module _ {P V : Type 0} (d : DomainState P) (l : Place V) (z : Area) (head : List ℕ)
+module _ {P V : Type 0} (d : DomainState P) (l : Place V) (z : Area) (text : Text)
     (a : SeatState V) where
   pub walks_none : IsAtRest d a → HasRoom a.view.core
-      → Walks d l.seen l.with_seen z head 0 a a
+      → Walks d l.seen l.with_seen z text 0 a a
   walks_none rest room = record {
     walked = λ j low. absurd (omega (arith, low));
     leaves = leaves_none a;
     learns = part_none l a.view.client;
     room = room;
     rest = rest;
+    makes = refl;
     begins = λ is. refl;
     able = λ some. absurd (omega (arith, some));
   }
 
-  module _ (n : ℕ) (b c : SeatState V) (walks : Walks d l.seen l.with_seen z head n a b) where
+  module _ (n : ℕ) (b c : SeatState V) (walks : Walks d l.seen l.with_seen z text n a b) where
     pub walk_leaves : (o : Option SlotId)
         → Leaves (with_found o b.view.core.owned) b.view.core.weaks b c
         → Leaves (with_found o a.view.core.owned) a.view.core.weaks a c
@@ -122,64 +131,68 @@ module _ {P V : Type 0} (d : DomainState P) (l : Place V) (z : Area) (head : Lis
         (sym (walks.begins (omega (arith, none)))) spent))
         (cases_lt 0 n)
 
-    pub one_passed : (cell : ℕ) → on z (head ∷ []) n ≡ cell
-        → Passes (l.seen c.view.client) (head ∷ []) cell
+    pub one_passed : (cell : ℕ) → on z text n ≡ cell
+        → Passes (l.seen c.view.client) text cell
         → Leaves b.view.core.owned b.view.core.weaks b c
         → LearnsBy l 0 b.view.client c.view.client
         → (IsSpent b.view.core → ⊥) → HasRoom c.view.core → IsAtRest d c
-        → Walks d l.seen l.with_seen z head (n + 1) a c
-    one_passed cell at passes second more here room rest = record {
+        → c.view.core.makes ≡ b.view.core.makes → Walks d l.seen l.with_seen z text (n + 1) a c
+    one_passed cell at passes second more here room rest makes = record {
       walked = λ j low. ⊎_elim
-          (λ less. passes_still 0 (l.seen b.view.client) (l.seen c.view.client) (head ∷ [])
-          (on z (head ∷ []) j) more.part (walks.walked j less))
+          (λ less. passes_still 0 (l.seen b.view.client) (l.seen c.view.client) text
+          (on z text j) more.part (walks.walked j less))
           (λ past. let e : n ≡ j = omega (arith, low, past) in
-          subst (λ k. Passes (l.seen c.view.client) (head ∷ []) (on z (head ∷ []) k)) e
-          (subst (λ k. Passes (l.seen c.view.client) (head ∷ []) k) (sym at) passes))
+          subst (λ k. Passes (l.seen c.view.client) text (on z text k)) e
+          (subst (λ k. Passes (l.seen c.view.client) text k) (sym at) passes))
           (cases_lt j n);
       leaves = walk_leaves None second;
       learns = walk_learns 0 more;
       room = room;
       rest = rest;
+      makes = makes ∙ walks.makes;
       begins = λ is. absurd (omega (arith, is));
       able = λ some spent. walk_able here spent;
     }
 
     -- WHERE IT ENDS
-    pub walk_none : AtStep d (λ p. NoneBound z p (head ∷ [])) b c
-        → AtStep d (λ p. NoneBound z p (head ∷ [])) a c
+    pub walk_none : AtStep d (λ p. NoneBound z p text) b c
+        → AtStep d (λ p. NoneBound z p text) a c
     walk_none at =
-        from_earlier d (λ p. NoneBound z p (head ∷ [])) a b c (seat_same a b walks.leaves.same)
+        from_earlier d (λ p. NoneBound z p text) a b c (seat_same a b walks.leaves.same)
         walks.leaves.goes at
 
     pub null_found : (intern : Bool) (cell : ℕ) (found : Sight) → found ≡ sight.Null
-        → on z (head ∷ []) n ≡ cell → Meets l.seen d z cell head found b c
+        → on z text n ≡ cell → Meets l.seen d z cell text found b c
         → LearnsBy l (taken intern found) b.view.client c.view.client → n < z.cells
-        → ComesTo l.seen d z head (walk.Absent n) a c × LearnsBy l 0 a.view.client c.view.client
+        → ComesTo l.seen d z text (walk.Absent n) a c × LearnsBy l 0 a.view.client c.view.client
     null_found intern cell found null at meets more low =
         let learns = subst (λ f. LearnsBy l (taken intern f) b.view.client c.view.client) null more
         in (
           (
-            walk_none (subst (λ f. Meets l.seen d z cell head f b c) null meets (head ∷ []) n
+            walk_none (subst (λ f. Meets l.seen d z cell text f b c) null meets text n
                 walks.walked at),
             low,
-            walked_still 0 z (l.seen b.view.client) (l.seen c.view.client) (head ∷ []) n learns.part
+            walked_still 0 z (l.seen b.view.client) (l.seen c.view.client) text n learns.part
                 walks.walked,
           ),
           walk_learns 0 learns,
         )
 
     pub record_found : (intern : Bool) (cell : ℕ) (found : Sight) (strong : Handle)
-        → found ≡ sight.Record strong → Meets l.seen d z cell head found b c
+        → found ≡ sight.Record strong → Meets l.seen d z cell text found b c
         → LearnsBy l (taken intern found) b.view.client c.view.client
-        → ComesTo l.seen d z head (walk.Record strong) a c
+        → ComesTo l.seen d z text (walk.Record strong) a c
         × LearnsBy l (spent intern) a.view.client c.view.client
-    record_found intern cell found strong same meets more = (
-      from_earlier d (λ p. IsBound z p (head ∷ []) strong.slot) a b c
-          (seat_same a b walks.leaves.same) walks.leaves.goes
-          (subst (λ f. Meets l.seen d z cell head f b c) same meets),
-      walk_learns (spent intern)
-          (subst (λ f. LearnsBy l (taken intern f) b.view.client c.view.client) same more),
-    )
+    record_found intern cell found strong same meets more =
+        let is = subst (λ f. Meets l.seen d z cell text f b c) same meets in (
+          (
+            from_earlier d (λ p. IsBound z p text strong.slot) a b c
+                (seat_same a b walks.leaves.same) walks.leaves.goes is.0,
+            is.1,
+          ),
+          walk_learns (spent intern)
+              (subst (λ f. LearnsBy l (taken intern f) b.view.client c.view.client) same more),
+        )
 
     pub refused_learns : {E : Type 0} (intern : Bool) (r : Result Walk E) (e : E) → r ≡ Err e
         → LearnsBy l 0 b.view.client c.view.client
@@ -205,30 +218,31 @@ module _ {P V : Type 0} (d : DomainState P) (l : Place V) (z : Area) (head : Lis
         second)
 
     pub other_passed : (intern : Bool) (cell : ℕ) (found : Sight) → found ≡ sight.Other
-        → on z (head ∷ []) n ≡ cell → Meets l.seen d z cell head found b c
+        → on z text n ≡ cell → Meets l.seen d z cell text found b c
         → Leaves (with_found (met found) b.view.core.owned) b.view.core.weaks b c
         → LearnsBy l (taken intern found) b.view.client c.view.client
         → (IsSpent b.view.core → false ≡ true) → HasRoom c.view.core → IsAtRest d c
-        → Walks d l.seen l.with_seen z head (n + 1) a c
-    other_passed intern cell found other at meets second more here room rest =
-        one_passed cell at (subst (λ f. Meets l.seen d z cell head f b c) other meets)
+        → c.view.core.makes ≡ b.view.core.makes
+        → Walks d l.seen l.with_seen z text (n + 1) a c
+    other_passed intern cell found other at meets second more here room rest makes =
+        one_passed cell at (subst (λ f. Meets l.seen d z cell text f b c) other meets)
         (subst (λ f. Leaves (with_found (met f) b.view.core.owned) b.view.core.weaks b c) other
         second)
         (subst (λ f. LearnsBy l (taken intern f) b.view.client c.view.client) other more)
-        (λ spent'. let e = here spent' in absurd (cc (e))) room rest
+        (λ spent'. let e = here spent' in absurd (cc (e))) room rest makes
 
     -- the walk has passed all cells
     pub around_found : z.cells ≤ n → 0 < z.cells → EndsAround l.seen d z b c
-        → ComesTo l.seen d z head (walk.Absent 0) a c
+        → ComesTo l.seen d z text (walk.Absent 0) a c
     around_found all some ends = (
-      walk_none (ends (head ∷ []) (λ j low. walks.walked j (omega (arith, low, all)))),
+      walk_none (ends text (λ j low. walks.walked j (omega (arith, low, all)))),
       some,
       λ j low. absurd (omega (arith, low)),
     )
 
--- the cell at which a walk for this head looks next
-pub at_cell : (z : Area) (head : List ℕ) (hash k cells cell : ℕ)
-    → text_hash (head ∷ []) ≡ hash → cells ≡ z.cells → cell ≡ (hash + k) % cells
-    → on z (head ∷ []) k ≡ cell
-at_cell z head hash k cells cell hashes same there =
+-- the cell at which a walk for this text looks next
+pub at_cell : (z : Area) (text : Text) (hash k cells cell : ℕ)
+    → text_hash text ≡ hash → cells ≡ z.cells → cell ≡ (hash + k) % cells
+    → on z text k ≡ cell
+at_cell z text hash k cells cell hashes same there =
     ap (λ h. (h + k) % z.cells) hashes ∙ (ap (λ n. (hash + k) % n) (sym same) ∙ sym there)

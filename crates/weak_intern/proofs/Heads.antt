@@ -1,5 +1,5 @@
--- The payload of a short text is its text.
-use Rattle.std.proofs.Common.{◌≡◌, ℕ, ◌<◌, ◌≤◌, ◌-◌, ◌^◌, List, [], ◌∷◌, length, refl, sym, ap, ◌∙◌, arith}
+-- What a walk looks for, and short texts.
+use Rattle.std.proofs.Common.{◌≡◌, ℕ, ◌<◌, ◌≤◌, ◌-◌, ◌^◌, List, [], ◌∷◌, drop, length, take, refl, sym, ap, ◌∙◌, arith}
 use Rattle.std.specs.Prelude.{slice_index_or}
 use Rattle.std.proofs.lemmas.List.{length-drop, take_all}
 use Rattle.std.proofs.lemmas.List.Elements.{All-from_get_or}
@@ -8,21 +8,9 @@ use Rattle.directory_law.specs.Payloads.{IsRest, IsText, Text, size}
 use Rattle.directory_law.specs.Bytes.{IsTextOf}
 use Rattle.directory_law.specs.Places.{hash_on}
 use Rattle.directory_law.proofs.Bytes.{text_pieces, text_place}
+use Rattle.record_making.specs.Texts.{parts_after, parts_of, payload_of, text_of}
+use Rattle.record_making.proofs.Packed.{begins_so, bytes_small, is_text_of, packs}
 use Rattle.weak_intern.specs.Sought.{IsSought}
-
-pub head_text : (bytes payload : List ℕ) → 1 ≤ length bytes → length bytes ≤ 120
-    → IsRecordOf bytes payload → IsTextOf bytes (payload ∷ [])
-head_text bytes payload least most is = (
-  omega (arith, least),
-  omega (arith, most),
-  record {
-    words = is.words;
-    size = is.size;
-    eights = λ k low. is.bytes k low
-        ∙ ap (λ l. word_of_bytes (eight_bytes l k)) (sym (take_all 120 bytes most));
-  },
-  let left = length-drop 120 bytes in omega (arith, most, left),
-)
 
 -- nothing follows a head that tells at most 120 bytes
 no_rest : (n : ℕ) (tail : Text) → n ≡ 0 → IsRest n tail → tail ≡ []
@@ -33,21 +21,17 @@ pub short_text : (head : List ℕ) (tail : Text) → size head ≤ 120 → IsTex
     → tail ≡ []
 short_text head tail short is = no_rest (size head - 120) tail (omega (arith, short)) is.1
 
--- what a walk looks for that is for these bytes
+-- WHAT A WALK looks for that is for these bytes
 pub sought_is : (bytes head : List ℕ) (hash : ℕ) → ((i : ℕ) → slice_index_or bytes i 0 < 256)
-    → length bytes ≤ 120 → IsTextOf bytes (head ∷ []) → length head ≡ 16
+    → 1 ≤ length bytes → length bytes ≤ 4096 → head ≡ payload_of (length bytes) (take 120 bytes)
     → hash ≡ hash_on 0 bytes → hash < 2 ^ 32 → IsSought bytes head hash
-sought_is bytes head hash small most is words hashes low =
-    let are = All-from_get_or (λ byte. byte < 256) bytes 0 (λ i inside. small i) in
-    let s = is.2.size in
-    let b = is.0 in record {
-      one = record {
-        words = words;
-        piece = (text_pieces bytes (head ∷ []) are is).0;
-        some_bytes = omega arith;
-        short = omega arith;
-        place = text_place bytes (head ∷ []) are is ∙ sym hashes;
-        small = low;
-      };
-      text = is;
+sought_is bytes head hash small some most heads hashes low =
+    let p = packs (length bytes) (take 120 bytes) in
+    let text = is_text_of bytes some most in record {
+      text = text;
+      begins = (parts_of (parts_after (length bytes)) (drop 120 bytes), begins_so bytes head heads);
+      words = ap length heads ∙ p.words;
+      size = ap size heads ∙ p.size;
+      place = text_place bytes (text_of bytes) (bytes_small bytes small) text ∙ sym hashes;
+      small = low;
     }

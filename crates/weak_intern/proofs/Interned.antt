@@ -1,9 +1,9 @@
--- What an intern answers, of bytes that have its head and no part.
-use Rattle.std.proofs.Common.{◌≡◌, inl, inr, ⊎_elim, ℕ, List, [], ◌∷◌, true, subst, sym, arith, Some, None}
+-- What an intern answers, of the bytes of its text.
+use Rattle.std.proofs.Common.{◌≡◌, inl, inr, ⊎_elim, ℕ, List, [], ◌∷◌, ◌<◌, refl, true, subst, sym, arith, Some, None}
 use Rattle.std.specs.Prelude.{Err, IfOk, Ok, Option, Result}
 use Rattle.plain_state.specs.declared.slot.SlotId.{SlotId}
 use Rattle.plain_state.specs.Lists.{times}
-use Rattle.core_invariant.proofs.Kit.{times_push}
+use Rattle.core_invariant.proofs.Kit.{one_same, times_push}
 use Rattle.acquire_retire.specs.Domains.{DomainState}
 use Rattle.acquire_retire.specs.Seats.{SeatState}
 use Rattle.counted_handles.specs.Handles.{Handle}
@@ -15,24 +15,56 @@ use Rattle.weak_intern.specs.declared.walking.Walk.{Walk}
 use Rattle.weak_intern.specs.declared.walking.Walk.TheVariants as walk
 use Rattle.directory_calls.specs.Directories.{CanCount, HasNoRecord}
 use Rattle.weak_intern.specs.Interning.{Interns, Places}
-use Rattle.directory_calls.specs.Steps.{AtStep, GoesOn, Leaves, with_found}
+use Rattle.directory_law.specs.Payloads.{Text}
+use Rattle.directory_calls.specs.Steps.{AtStep, GoesOn, Leaves, handle_by, with_found}
 use Rattle.weak_intern.specs.Walking.{ComesTo, used_by, walked_by}
+use Rattle.weak_intern.specs.Knowing.{Knows, KnowsRecord}
 use Rattle.weak_intern.proofs.Answered.{is_record, is_record_after, no_record}
 use Rattle.directory_calls.proofs.Going.{from_earlier, holds_by, leaves_as, leaves_then, seat_same, some_earlier, to_later}
 use Rattle.directory_calls.proofs.Parts.{LearnsBy, Place}
 use Rattle.weak_intern.proofs.Placed.{GrowsBy, grow_then, part_grows}
 
 -- the live record that the walk came to
-pub walked_interns : {P V : Type 0} (d : DomainState P) (seen : V → View) (z : Area)
-    (bytes head : List ℕ) (is : IsTextOf bytes (head ∷ [])) (a b : SeatState V) (found : Walk)
-    (strong : Handle) → found ≡ walk.Record strong → ComesTo seen d z head found a b
-    → Interns d z bytes strong.slot a b
-walked_interns d seen z bytes head is a b found strong same comes =
-    inl (is_record d z bytes head is a b strong.slot
-    (subst (λ f. ComesTo seen d z head f a b) same comes))
+module _ {P V E : Type 0} (d : DomainState P) (seen : V → View) (z : Area) (bytes : List ℕ)
+    (text : Text) (of : IsTextOf bytes text) (a b : SeatState V) (r : Result Walk E)
+    (strong : Handle) (is : r ≡ Ok (walk.Record strong)) where
+  came : IfOk r (λ f. ComesTo seen d z text f a b)
+      → ComesTo seen d z text (walk.Record strong) a b
+  came comes = subst (λ x. IfOk x (λ f. ComesTo seen d z text f a b)) is comes
+
+  pub walked_interns : IfOk r (λ f. ComesTo seen d z text f a b) → Interns d z bytes strong.slot a b
+  walked_interns comes = inl (is_record d z bytes text of a b strong.slot (came comes).0)
+
+  pub walked_knows : IfOk r (λ f. ComesTo seen d z text f a b)
+      → KnowsRecord seen bytes strong.slot b
+  walked_knows comes = (text, of, (came comes).1)
+
+  pub walked_owned : Leaves (with_found (walked_by r) a.view.core.owned) a.view.core.weaks a b
+      → 0 < times strong.slot b.view.core.owned
+  walked_owned left =
+      let first = subst (λ x. Leaves (with_found (walked_by x) a.view.core.owned)
+      a.view.core.weaks a b) is left in
+      let o = first.owns strong.slot in
+      let p = times_push strong.slot strong.slot a.view.core.owned in
+      let i = one_same strong.slot strong.slot refl in omega (arith, o, p, i)
+
+pub all_knows : {V E : Type 0} (seen : V → View) (bytes : List ℕ) (text : Text)
+    (is : IsTextOf bytes text) (c : SeatState V) (r : Result Handle E)
+    → IfOk r (λ t. Knows seen t.slot text c) → IfOk r (λ t. KnowsRecord seen bytes t.slot c)
+all_knows seen bytes text is c (Ok t) knows = (text, is, knows)
+all_knows seen bytes text is c (Err e) knows = tt
+
+-- what is answered is owned
+pub answered_owned : {V E : Type 0} (r : Result Handle E) (a b : SeatState V)
+    → Leaves (with_found (handle_by r) a.view.core.owned) a.view.core.weaks a b
+    → IfOk r (λ t. 0 < times t.slot b.view.core.owned)
+answered_owned (Ok t) a b left =
+    let o = left.owns t.slot in let p = times_push t.slot t.slot a.view.core.owned in
+    let i = one_same t.slot t.slot refl in omega (arith, o, p, i)
+answered_owned (Err e) a b left = tt
 
 -- what a walk tells that came to none
-module _ {P V E : Type 0} (d : DomainState P) (l : Place V) (z : Area) (head : List ℕ)
+module _ {P V E : Type 0} (d : DomainState P) (l : Place V) (z : Area) (text : Text)
     (a b : SeatState V) (r : Result Walk E) (n : ℕ) (is : r ≡ Ok (walk.Absent n)) where
   pub absent_learns : LearnsBy l (used_by true r) a.view.client b.view.client
       → LearnsBy l 0 a.view.client b.view.client
@@ -44,39 +76,39 @@ module _ {P V E : Type 0} (d : DomainState P) (l : Place V) (z : Area) (head : L
   absent_leaves left =
       subst (λ x. Leaves (with_found (walked_by x) a.view.core.owned) a.view.core.weaks a b) is left
 
-  pub absent_none : IfOk r (λ f. ComesTo l.seen d z head f a b)
-      → AtStep d (λ p. NoneBound z p (head ∷ [])) a b
-  absent_none comes = (subst (λ x. IfOk x (λ f. ComesTo l.seen d z head f a b)) is comes).0
+  pub absent_none : IfOk r (λ f. ComesTo l.seen d z text f a b)
+      → AtStep d (λ p. NoneBound z p text) a b
+  absent_none comes = (subst (λ x. IfOk x (λ f. ComesTo l.seen d z text f a b)) is comes).0
 
 -- a record that was made after a walk which came to none
-module _ {P V : Type 0} (d : DomainState P) (l : Place V) (z : Area) (bytes head : List ℕ)
-    (is : IsTextOf bytes (head ∷ [])) (a b : SeatState V)
+module _ {P V : Type 0} (d : DomainState P) (l : Place V) (z : Area) (bytes : List ℕ) (text : Text)
+    (is : IsTextOf bytes text) (a b : SeatState V)
     (first : Leaves a.view.core.owned a.view.core.weaks a b)
     (learns : LearnsBy l 0 a.view.client b.view.client) where
   pub quota_then : CanCount true (l.seen a.view.client) → CanCount true (l.seen b.view.client)
   quota_then can = let p = learns.part.used in let q = learns.part.quota in omega (arith, can)
 
   module _ (c : SeatState V) where
-    pub added_interns : (t : SlotId) → Places d z head t b c → Interns d z bytes t a c
+    pub added_interns : (t : SlotId) → Places d z text t b c → Interns d z bytes t a c
     added_interns t places = ⊎_elim
-        (λ before. inl (is_record d z bytes head is a c t
-        (from_earlier d (λ p. IsBound z p (head ∷ []) t) a b c (seat_same a b first.same)
+        (λ before. inl (is_record d z bytes text is a c t
+        (from_earlier d (λ p. IsBound z p text t) a b c (seat_same a b first.same)
         first.goes before)))
-        (λ later. inr (is_record_after d z bytes head is a c t
-        (some_earlier d (λ p q. IsBound z q (head ∷ []) t) a b c (seat_same a b first.same)
+        (λ later. inr (is_record_after d z bytes text is a c t
+        (some_earlier d (λ p q. IsBound z q text t) a b c (seat_same a b first.same)
         first.goes later)))
         places
 
     pub all_interns : {E : Type 0} (r : Result Handle E)
-        → IfOk r (λ t. Places d z head t.slot b c) → IfOk r (λ t. Interns d z bytes t.slot a c)
+        → IfOk r (λ t. Places d z text t.slot b c) → IfOk r (λ t. Interns d z bytes t.slot a c)
     all_interns (Ok t) places = added_interns t.slot places
     all_interns (Err e) places = tt
 
-    pub added_none : AtStep d (λ p. NoneBound z p (head ∷ [])) a b
+    pub added_none : AtStep d (λ p. NoneBound z p text) a b
         → GoesOn b.view.core c.view.core → AtStep d (λ p. HasNoRecord z p bytes) a c
     added_none at goes =
-        no_record d z bytes head is a c
-        (to_later d (λ p. NoneBound z p (head ∷ [])) a b c at goes)
+        no_record d z bytes text is a c
+        (to_later d (λ p. NoneBound z p text) a b c at goes)
 
     pub added_leaves : (o : Option SlotId)
         → Leaves (with_found o b.view.core.owned) b.view.core.weaks b c

@@ -5,8 +5,8 @@ pub mod Heads
 pub mod Meeting
 pub mod Found
 pub mod Answered
-pub mod Made
 pub mod Bound
 pub mod Placed
 pub mod Added
 pub mod Interned
+pub mod Drawn

@@ -17,12 +17,15 @@ use Rattle.directory_law.specs.declared.view.View.{View}
 use Rattle.directory_law.specs.Cells.{Area, on}
 use Rattle.directory_law.specs.Law.{IsBound}
 use Rattle.directory_law.specs.Making.{bound}
-use Rattle.directory_law.specs.Views.{rope}
+use Rattle.directory_law.specs.Views.{In, rope}
 use Rattle.directory_law.specs.Walks.{Passes}
 use Rattle.weak_intern.specs.declared.looking.Sight.{Sight}
 use Rattle.weak_intern.specs.declared.looking.Sight.TheVariants as sight
 use Rattle.directory_calls.specs.Directories.{CanCount}
-use Rattle.weak_intern.specs.Interning.{Binds, ComesBy, Grows, GrowsIn, HasNotedLast, HasPassed, Places, candidate_in, placed_by}
+use Rattle.weak_intern.specs.Interning.{Binds, ComesBy, Grows, GrowsIn, HasPassed, Places, placed_by}
+use Rattle.record_making.specs.Making.{HasNotedLast, candidate_in}
+use Rattle.directory_law.specs.Payloads.{Text}
+use Rattle.weak_intern.specs.Knowing.{Knows}
 use Rattle.directory_calls.specs.Learning.{Learns, LearnsIn}
 use Rattle.directory_calls.specs.Steps.{Leaves, with_found}
 use Rattle.weak_intern.specs.Walking.{Meets, found_by, met, taken}
@@ -92,29 +95,30 @@ module _ {V : Type 0} (l : Place V) where
       })
 
 pub not_bound : {P V : Type 0} (seen : V → View) (with_seen : V → View → V) (d : DomainState P)
-    (z : Area) (head : List ℕ) (s : SlotId) (b c : SeatState V) (done : Bool) → done ≡ false
-    → Binds seen with_seen d z head s done b c → c.view.client ≡ b.view.client
-not_bound seen with_seen d z head s b c done is binds =
-    subst (λ x. Binds seen with_seen d z head s x b c) is binds
+    (z : Area) (text : Text) (s : SlotId) (b c : SeatState V) (done : Bool) → done ≡ false
+    → Binds seen with_seen d z text s done b c → c.view.client ≡ b.view.client
+not_bound seen with_seen d z text s b c done is binds =
+    subst (λ x. Binds seen with_seen d z text s x b c) is binds
 
 -- THE WAY of a record s that stands nowhere, from the cell on that comes after n others
 pub record Enters {P V : Type 0} (d : DomainState P) (seen : V → View) (with_seen : V → View → V)
-    (z : Area) (head : List ℕ) (s : SlotId) (n : ℕ) (old now : SeatState V) : Type 0 where
-  pub passed : HasPassed z (seen now.view.client) head n
+    (z : Area) (text : Text) (s : SlotId) (n : ℕ) (old now : SeatState V) : Type 0 where
+  pub passed : HasPassed z (seen now.view.client) text n
   pub leaves : Leaves old.view.core.owned old.view.core.weaks old now
   pub learns : LearnsIn seen with_seen 0 old.view.client now.view.client
   pub quota : CanCount true (seen now.view.client)
   pub owns : 0 < times s now.view.core.owned
-  pub noted : HasNotedLast (candidate_in s head now) (seen now.view.client)
+  pub noted : HasNotedLast (candidate_in s text now) (seen now.view.client)
+  pub makes : now.view.core.makes ≡ old.view.core.makes
   pub room : HasRoom now.view.core
   pub rest : IsAtRest d now
 
-module _ {P V : Type 0} (d : DomainState P) (l : Place V) (z : Area) (head : List ℕ) (s : SlotId)
+module _ {P V : Type 0} (d : DomainState P) (l : Place V) (z : Area) (text : Text) (s : SlotId)
     (a : SeatState V) where
-  pub enters_none : (n : ℕ) → HasPassed z (l.seen a.view.client) head n
+  pub enters_none : (n : ℕ) → HasPassed z (l.seen a.view.client) text n
       → CanCount true (l.seen a.view.client) → 0 < times s a.view.core.owned
-      → HasNotedLast (candidate_in s head a) (l.seen a.view.client) → HasRoom a.view.core
-      → IsAtRest d a → Enters d l.seen l.with_seen z head s n a a
+      → HasNotedLast (candidate_in s text a) (l.seen a.view.client) → HasRoom a.view.core
+      → IsAtRest d a → Enters d l.seen l.with_seen z text s n a a
   enters_none n passed quota owns noted room rest = record {
     passed = passed;
     leaves = leaves_none a;
@@ -122,13 +126,14 @@ module _ {P V : Type 0} (d : DomainState P) (l : Place V) (z : Area) (head : Lis
     quota = quota;
     owns = owns;
     noted = noted;
+    makes = refl;
     room = room;
     rest = rest;
   }
 
-  module _ (n : ℕ) (b : SeatState V) (enters : Enters d l.seen l.with_seen z head s n a b) where
-    pub comes_by : (cell : ℕ) → on z (head ∷ []) n ≡ cell
-        → ComesBy z (l.seen b.view.client) head cell
+  module _ (n : ℕ) (b : SeatState V) (enters : Enters d l.seen l.with_seen z text s n a b) where
+    pub comes_by : (cell : ℕ) → on z text n ≡ cell
+        → ComesBy z (l.seen b.view.client) text cell
     comes_by cell at = (n, enters.passed.1, at)
 
     -- one call more, which leaves what it found beside
@@ -155,14 +160,15 @@ module _ {P V : Type 0} (d : DomainState P) (l : Place V) (z : Area) (head : Lis
 
       pub enter_learns : (k : ℕ) → LearnsBy l k b.view.client c.view.client
           → LearnsBy l k a.view.client c.view.client
-      enter_learns k more = zero_then l k a.view.client b.view.client c.view.client enters.learns more
+      enter_learns k more =
+          zero_then l k a.view.client b.view.client c.view.client enters.learns more
 
       -- a look or a bind that only learns leaves the record where it was
-      pub enters_on : (m : ℕ) → HasPassed z (l.seen c.view.client) head m
+      pub enters_on : (m : ℕ) → HasPassed z (l.seen c.view.client) text m
           → Leaves b.view.core.owned b.view.core.weaks b c
-          → LearnsBy l 0 b.view.client c.view.client → HasRoom c.view.core → IsAtRest d c
-          → Enters d l.seen l.with_seen z head s m a c
-      enters_on m passed second more room rest = record {
+          → LearnsBy l 0 b.view.client c.view.client → c.view.core.makes ≡ b.view.core.makes
+          → HasRoom c.view.core → IsAtRest d c → Enters d l.seen l.with_seen z text s m a c
+      enters_on m passed second more makes room rest = record {
         passed = passed;
         leaves = enter_leaves None second;
         learns = enter_learns 0 more;
@@ -172,9 +178,10 @@ module _ {P V : Type 0} (d : DomainState P) (l : Place V) (z : Area) (head : Lis
         noted = (
           enters.noted.0,
           more.part.notes.0 ∙ enters.noted.1
-              ∙ ap (λ (o : Object). rope s o.life (head ∷ []) ∷ enters.noted.0)
+              ∙ ap (λ (o : Object). rope s o.life text ∷ enters.noted.0)
               (sym (known second)),
         );
+        makes = makes ∙ enters.makes;
         room = room;
         rest = rest;
       }
@@ -187,64 +194,66 @@ module _ {P V : Type 0} (d : DomainState P) (l : Place V) (z : Area) (head : Lis
 
       -- the cells passed are passed still
       pub still_passed : LearnsBy l 0 b.view.client c.view.client
-          → HasPassed z (l.seen c.view.client) head n
+          → HasPassed z (l.seen c.view.client) text n
       still_passed more = (
         enters.passed.0,
-        λ j low. passes_still 0 (l.seen b.view.client) (l.seen c.view.client) (head ∷ [])
-            (on z (head ∷ []) j) more.part (enters.passed.1 j low),
+        λ j low. passes_still 0 (l.seen b.view.client) (l.seen c.view.client) text
+            (on z text j) more.part (enters.passed.1 j low),
       )
 
-      pub one_more_passed : (cell m : ℕ) → on z (head ∷ []) n ≡ cell → m < z.cells
-          → (m ≢ 0 → m ≡ n + 1) → Passes (l.seen c.view.client) (head ∷ []) cell
-          → LearnsBy l 0 b.view.client c.view.client → HasPassed z (l.seen c.view.client) head m
+      pub one_more_passed : (cell m : ℕ) → on z text n ≡ cell → m < z.cells
+          → (m ≢ 0 → m ≡ n + 1) → Passes (l.seen c.view.client) text cell
+          → LearnsBy l 0 b.view.client c.view.client → HasPassed z (l.seen c.view.client) text m
       one_more_passed cell m at low next passes more = (
         low,
         λ j below. ⊎_elim
             (λ less. (still_passed more).1 j less)
             (λ past. let e : m ≡ n + 1 = next (λ none. absurd (omega (arith, none, below))) in
             let here : n ≡ j = omega (arith, e, below, past) in
-            subst (λ k. Passes (l.seen c.view.client) (head ∷ []) (on z (head ∷ []) k)) here
-            (subst (λ k. Passes (l.seen c.view.client) (head ∷ []) k) (sym at) passes))
+            subst (λ k. Passes (l.seen c.view.client) text (on z text k)) here
+            (subst (λ k. Passes (l.seen c.view.client) text k) (sym at) passes))
             (cases_lt j n),
       )
 
       -- a bind that was lost
       pub enters_lost : c.view.client ≡ b.view.client
-          → Leaves b.view.core.owned b.view.core.weaks b c → HasRoom c.view.core → IsAtRest d c
-          → Enters d l.seen l.with_seen z head s n a c
-      enters_lost client second room rest =
+          → Leaves b.view.core.owned b.view.core.weaks b c → c.view.core.makes ≡ b.view.core.makes
+          → HasRoom c.view.core → IsAtRest d c → Enters d l.seen l.with_seen z text s n a c
+      enters_lost client second makes room rest =
           let more = subst (λ v. LearnsBy l 0 b.view.client v) (sym client)
           (part_none l b.view.client) in
-          enters_on n (still_passed more) second more room rest
+          enters_on n (still_passed more) second more makes room rest
 
       -- a look after it
       pub null_on : (found : Sight) → found ≡ sight.Null
           → Leaves (with_found (met found) b.view.core.owned) b.view.core.weaks b c
           → LearnsBy l (taken true found) b.view.client c.view.client
-          → HasRoom c.view.core → IsAtRest d c → Enters d l.seen l.with_seen z head s n a c
-      null_on found same second more room rest =
+          → c.view.core.makes ≡ b.view.core.makes → HasRoom c.view.core → IsAtRest d c
+          → Enters d l.seen l.with_seen z text s n a c
+      null_on found same second more makes room rest =
           let learns = subst (λ f. LearnsBy l (taken true f) b.view.client c.view.client) same more
           in
           enters_on n (still_passed learns)
           (subst (λ f. Leaves (with_found (met f) b.view.core.owned) b.view.core.weaks b c) same
           second)
-          learns room rest
+          learns makes room rest
 
       pub other_on : (cell m : ℕ) (found : Sight) → found ≡ sight.Other
-          → on z (head ∷ []) n ≡ cell → m < z.cells → (m ≢ 0 → m ≡ n + 1)
-          → Meets l.seen d z cell head found b c
+          → on z text n ≡ cell → m < z.cells → (m ≢ 0 → m ≡ n + 1)
+          → Meets l.seen d z cell text found b c
           → Leaves (with_found (met found) b.view.core.owned) b.view.core.weaks b c
           → LearnsBy l (taken true found) b.view.client c.view.client
-          → HasRoom c.view.core → IsAtRest d c → Enters d l.seen l.with_seen z head s m a c
-      other_on cell m found same at low next meets second more room rest =
+          → c.view.core.makes ≡ b.view.core.makes → HasRoom c.view.core → IsAtRest d c
+          → Enters d l.seen l.with_seen z text s m a c
+      other_on cell m found same at low next meets second more makes room rest =
           let learns = subst (λ f. LearnsBy l (taken true f) b.view.client c.view.client) same more
           in
           enters_on m
           (one_more_passed cell m at low next
-          (subst (λ f. Meets l.seen d z cell head f b c) same meets) learns)
+          (subst (λ f. Meets l.seen d z cell text f b c) same meets) learns)
           (subst (λ f. Leaves (with_found (met f) b.view.core.owned) b.view.core.weaks b c) same
           second)
-          learns room rest
+          learns makes room rest
 
       pub record_leaves : (found : Sight) (strong : Handle) → found ≡ sight.Record strong
           → Leaves (with_found (met found) b.view.core.owned) b.view.core.weaks b c
@@ -276,30 +285,49 @@ module _ {P V : Type 0} (d : DomainState P) (l : Place V) (z : Area) (head : Lis
 
       -- WHERE IT ENDS: the record was bound
       pub bound_places : (done : Bool) → done ≡ true
-          → Binds l.seen l.with_seen d z head s done b c
+          → Binds l.seen l.with_seen d z text s done b c
           → Leaves b.view.core.owned b.view.core.weaks b c
-          → Places d z head s a c × GrowsBy l 1 a.view.client c.view.client
+          → Places d z text s a c × GrowsBy l 1 a.view.client c.view.client
       bound_places done is binds second =
-          let won = subst (λ x. Binds l.seen l.with_seen d z head s x b c) is binds in (
-            inr (some_earlier d (λ p q. IsBound z q (head ∷ []) s) a b c
+          let won = subst (λ x. Binds l.seen l.with_seen d z text s x b c) is binds in (
+            inr (some_earlier d (λ p q. IsBound z q text s) a b c
                 (seat_same a b enters.leaves.same) enters.leaves.goes won.0),
             grow_then l 0 1 a.view.client b.view.client c.view.client
                 (part_grows l 0 a.view.client b.view.client enters.learns)
                 (lift_grows l 1 b.view.client c.view.client
-                (bound (candidate_in s head b) (l.seen b.view.client)) won.1
-                (bound_grows (candidate_in s head b) (l.seen b.view.client))),
+                (bound (candidate_in s text b) (l.seen b.view.client)) won.1
+                (bound_grows (candidate_in s text b) (l.seen b.view.client))),
           )
 
       -- or another one was found
       pub found_places : (cell : ℕ) (found : Sight) (strong : Handle) → found ≡ sight.Record strong
-          → Meets l.seen d z cell head found b c
+          → Meets l.seen d z cell text found b c
           → LearnsBy l (taken true found) b.view.client c.view.client
-          → Places d z head strong.slot a c × GrowsBy l 1 a.view.client c.view.client
+          → Places d z text strong.slot a c × GrowsBy l 1 a.view.client c.view.client
       found_places cell found strong same meets more = (
-        inl (from_earlier d (λ p. IsBound z p (head ∷ []) strong.slot) a b c
+        inl (from_earlier d (λ p. IsBound z p text strong.slot) a b c
             (seat_same a b enters.leaves.same) enters.leaves.goes
-            (subst (λ f. Meets l.seen d z cell head f b c) same meets)),
+            (subst (λ f. Meets l.seen d z cell text f b c) same meets).0),
         part_grows l 1 a.view.client c.view.client
             (enter_learns 1
             (subst (λ f. LearnsBy l (taken true f) b.view.client c.view.client) same more)),
       )
+
+      -- and the seat knows its text
+      pub bound_knows : (done : Bool) → done ≡ true
+          → Binds l.seen l.with_seen d z text s done b c
+          → Leaves b.view.core.owned b.view.core.weaks b c → Knows l.seen s text c
+      bound_knows done is binds second =
+          let won = subst (λ x. Binds l.seen l.with_seen d z text s x b c) is binds in
+          let o = second.owns s in let e = enters.owns in
+          let known : object_in c.view s ≡ object_in b.view s =
+          second.knows s (omega (arith, e)) (omega (arith, o, e)) in
+          inl (subst (λ (v : View). In (rope s (object_in c.view s).life text) v.kept)
+          (sym (ap l.seen won.1
+          ∙ l.reads b.view.client (bound (candidate_in s text b) (l.seen b.view.client))))
+          (inl (ap (λ (o : Object). rope s o.life text) known)))
+
+      pub found_knows : (cell : ℕ) (found : Sight) (strong : Handle) → found ≡ sight.Record strong
+          → Meets l.seen d z cell text found b c → Knows l.seen strong.slot text c
+      found_knows cell found strong same meets =
+          (subst (λ f. Meets l.seen d z cell text f b c) same meets).1

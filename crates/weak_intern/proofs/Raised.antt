@@ -36,7 +36,7 @@ use Rattle.directory_law.specs.Lessons.{UpgradeReady, UpgradeTells, spent, start
 use Rattle.directory_law.specs.Steps.{life_in, life_of, payload_in, payload_of, slot_in}
 use Rattle.directory_protocol.specs.Keeping.{KeepsAll, MindsNone}
 use Rattle.directory_calls.specs.Directories.{CanCount}
-use Rattle.weak_intern.specs.Seeing.{BeginsText, HasSeenIn}
+use Rattle.weak_intern.specs.Seeing.{BeginsText, HasBegun, HasSeenIn}
 use Rattle.directory_calls.specs.Steps.{AtStep, GoesOn, Leaves, handle_by, with_found}
 use Rattle.weak_intern.specs.Walking.{raised_by}
 use Rattle.directory_calls.proofs.Going.{also, at_step, holds_by, leaves_as, leaves_core, leaves_less, leaves_none, leaves_then, to_later}
@@ -233,6 +233,48 @@ module _ {P V : Type 0} (fits : List ℕ → Type 0) (d : DomainState P) (l : Pl
             × IsBound z p (x.payload ∷ tail) s) (sym same) is)
             (live mid u.1 knows)) goes
 
+    pub raised_begun : IfOk r (λ strong. 0 < times strong.slot mid.view.core.owned)
+        → IfOk r (λ strong. HasBegun l.seen s new)
+    raised_begun owned = go r upgraded owned
+      where
+        go : (o : Result Handle UpgradeError)
+            → IfOk o (λ strong. (strong.slot ≡ s) × GainsStrong fits d next allows s old mid)
+            → IfOk o (λ strong. 0 < times strong.slot mid.view.core.owned)
+            → IfOk o (λ strong. HasBegun l.seen s new)
+        go (Err e) u own = tt
+        go (Ok h) u own =
+            let mine = subst (λ x. 0 < times x mid.view.core.owned) u.0 own in
+            let same = still s (holds_has (without_weak s mid.view.core) s (omega arith)) in
+            let now : object_in old.view s ≡ object_in new.view s =
+            sym (knows s has) ∙ sym same in (
+              (l.seen old.view.client).ran,
+              ap (λ (c : V). (l.seen c).ran) client
+                  ∙ ap (λ (x : SeatState V). (l.seen x.view.client).ran) u.1.walks.2
+                  ∙ ap (λ (c : V). (l.seen c).ran) (client_late mid u.1)
+                  ∙ ap (λ (v : View). v.ran) (l.reads old.view.client counted)
+                  ∙ starts_as (object_in new.view s)
+                  (life ∙ ap (λ (o : Object). o.life) now)
+                  (payload ∙ ap (λ (o : Object). o.payload) now),
+            )
+          where
+            starts_as : (o : Object) → life_in (own_of old.view) s ≡ o.life
+                → payload_in (own_of old.view) s ≡ o.payload
+                → starts_at (own_of old.view) s ∷ (l.seen old.view.client).ran
+                ≡ record {
+                  slot = s;
+                  life = o.life;
+                  before = o.payload ∷ [];
+                  now = s;
+                  now_life = o.life;
+                } ∷ (l.seen old.view.client).ran
+            starts_as o lives words = λ i. record {
+              slot = s;
+              life = lives i;
+              before = words i ∷ [];
+              now = s;
+              now_life = lives i;
+            } ∷ (l.seen old.view.client).ran
+
     pub raised_ended : (r ≡ Err no_raise.Ended → FindsEnded fits d next allows s old mid)
         → r ≡ Err no_raise.Ended
         → In (note s (object_in old.view s).life) (l.seen new.view.client).ended
@@ -300,3 +342,15 @@ module _ {P V : Type 0} (fits : List ℕ → Type 0) (d : DomainState P) (l : Pl
             (leaves_core old mid (with_add old.view.core) _ e.becomes.core refl knows)
             (ap (λ (v : CoreView). v.weaks) e.becomes.core)
             (λ x. omega arith)
+
+    pub raised_makes : (r ≡ Err no_raise.Spent → mid ≡ old)
+        → (r ≡ Err no_raise.Ended → FindsEnded fits d next allows s old mid)
+        → new.view.core.makes ≡ old.view.core.makes
+    raised_makes spent' finds = ap (λ (v : CoreView). v.makes) drops.1.core ∙ go r refl upgraded
+      where
+        go : (o : Result Handle UpgradeError) → r ≡ o
+            → IfOk o (λ strong. (strong.slot ≡ s) × GainsStrong fits d next allows s old mid)
+            → mid.view.core.makes ≡ old.view.core.makes
+        go (Ok h) is u = ap (λ (v : CoreView). v.makes) u.1.core
+        go (Err no_raise.Spent) is u = ap (λ (x : SeatState V). x.view.core.makes) (spent' is)
+        go (Err no_raise.Ended) is u = ap (λ (v : CoreView). v.makes) (finds is).becomes.core

@@ -242,6 +242,7 @@ module _ {P V : Type 0} (fits : List ℕ → Type 0) (d : DomainState P) (l : Pl
       → Sees l.seen d z c here old new
       × Leaves old.view.core.owned (with_found here old.view.core.weaks) old new
       × LearnsBy l 0 old.view.client new.view.client
+      × (new.view.core.makes ≡ old.view.core.makes)
   after_load rest new found here same loaded knows =
       go here
       (subst (λ f. LoadsAtLast fits d (WeakCell i) (lifts l (see_next z))
@@ -253,13 +254,18 @@ module _ {P V : Type 0} (fits : List ℕ → Type 0) (d : DomainState P) (l : Pl
           → Sees l.seen d z c o old new
           × Leaves old.view.core.owned (with_found o old.view.core.weaks) old new
           × LearnsBy l 0 old.view.client new.view.client
+          × (new.view.core.makes ≡ old.view.core.makes)
       go None last = (
         null_ends rest new None last last.goes,
         null_leaves rest new None last last.goes knows,
         null_learns rest new None last last.goes,
+        ap (λ (v : CoreView). v.makes) last.goes.becomes.core
+            ∙ ap (λ (v : CoreView). v.makes) last.core,
       )
       go (Some s) last = (
         found_seen rest new (Some s) last s last.goes,
         found_leaves rest new (Some s) last s last.goes knows,
         found_learns rest new (Some s) last s last.goes,
+        ap (λ (v : CoreView). v.makes) last.goes.core
+            ∙ ap (λ (v : CoreView). v.makes) last.core,
       )

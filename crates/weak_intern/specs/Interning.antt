@@ -15,47 +15,37 @@ use Rattle.directory_law.specs.Cells.{Area, on}
 use Rattle.directory_law.specs.Law.{IsBound}
 use Rattle.directory_law.specs.Making.{bound}
 use Rattle.directory_law.specs.Views.{In, rope}
+use Rattle.directory_law.specs.Payloads.{Text}
 use Rattle.directory_law.specs.Walks.{Walked}
 use Rattle.directory_protocol.specs.Keeping.{KeepsAll}
 use Rattle.directory_calls.specs.Directories.{IsRecord}
+use Rattle.record_making.specs.Making.{candidate_in}
 use Rattle.directory_calls.specs.Steps.{AfterStep, AtStep}
 
--- s as a rope that stands nowhere yet, of a text that has this head and no part
-abbrev pub candidate_in : {V : Type 0} → SlotId → List ℕ → SeatState V → Rope
-candidate_in s head seat = rope s (object_in seat.view s).life (head ∷ [])
-
--- the view has noted this last
-abbrev pub HasNotedLast : Rope → View → Type 0
-HasNotedLast e v = (others : List Rope) × (v.noted ≡ e ∷ others)
-
--- a view that notes one more
-abbrev pub with_noted : Rope → View → View
-with_noted e v = record v { noted = e ∷ v.noted }
-
 -- the walk of a text has passed some cells, and comes to cell c then
-abbrev pub ComesBy : Area → View → List ℕ → ℕ → Type 0
-ComesBy z v head c = (m : ℕ) × Walked z v (head ∷ []) m × (on z (head ∷ []) m ≡ c)
+abbrev pub ComesBy : Area → View → Text → ℕ → Type 0
+ComesBy z v text c = (m : ℕ) × Walked z v text m × (on z text m ≡ c)
 
 -- where s was put into a cell, it was the live record of this text after a step, and is kept; else the view is as it
 -- was
-abbrev pub Binds : {P V : Type 0} → (V → View) → (V → View → V) → DomainState P → Area → List ℕ
+abbrev pub Binds : {P V : Type 0} → (V → View) → (V → View → V) → DomainState P → Area → Text
     → SlotId → Bool → SeatState V → SeatState V → Type 0
-Binds seen with_seen d z head s true old new =
-    AfterStep d (λ q. IsBound z q (head ∷ []) s) old new
+Binds seen with_seen d z text s true old new =
+    AfterStep d (λ q. IsBound z q text s) old new
     × (new.view.client
-    ≡ with_seen old.view.client (bound (candidate_in s head old) (seen old.view.client)))
-Binds seen with_seen d z head s false old new = new.view.client ≡ old.view.client
+    ≡ with_seen old.view.client (bound (candidate_in s text old) (seen old.view.client)))
+Binds seen with_seen d z text s false old new = new.view.client ≡ old.view.client
 
 -- the walk of a text has passed so many cells, fewer than all
-abbrev pub HasPassed : Area → View → List ℕ → ℕ → Type 0
-HasPassed z v head passed = (passed < z.cells) × Walked z v (head ∷ []) passed
+abbrev pub HasPassed : Area → View → Text → ℕ → Type 0
+HasPassed z v text passed = (passed < z.cells) × Walked z v text passed
 
--- s was the live record of the text of this head before a step of the call, or after one
-abbrev pub Places : {P V : Type 0} → DomainState P → Area → List ℕ → SlotId → SeatState V
+-- s was the live record of this text before a step of the call, or after one
+abbrev pub Places : {P V : Type 0} → DomainState P → Area → Text → SlotId → SeatState V
     → SeatState V → Type 0
-Places d z head s old new =
-    AtStep d (λ p. IsBound z p (head ∷ []) s) old new
-    ⊎ AfterStep d (λ q. IsBound z q (head ∷ []) s) old new
+Places d z text s old new =
+    AtStep d (λ p. IsBound z p text s) old new
+    ⊎ AfterStep d (λ q. IsBound z q text s) old new
 
 -- the slot of the record that was found, or else this one
 abbrev pub named_or : SlotId → Option Handle → SlotId

@@ -1,4 +1,6 @@
 pub mod Sought
 pub mod Seeing
+pub mod Knowing
 pub mod Walking
 pub mod Interning
+pub mod Drawing

@@ -16,6 +16,7 @@ use Rattle.weak_intern.specs.declared.looking.Sight.TheVariants as sight
 use Rattle.weak_intern.specs.declared.walking.Walk.{Walk}
 use Rattle.weak_intern.specs.declared.walking.Walk.TheVariants as walk
 use Rattle.directory_calls.specs.Directories.{HasNoRecord, IsRecord}
+use Rattle.weak_intern.specs.Knowing.{Knows}
 use Rattle.weak_intern.specs.Seeing.{EndsAt, HasSeenAt}
 use Rattle.directory_calls.specs.Steps.{AtStep}
 
@@ -49,18 +50,18 @@ taken_by intern (Err error) = 0
 
 -- of a view, `seen` is what it has of the directory
 module _ {P V : Type 0} (seen : V → View) (d : DomainState P) (z : Area) where
-  -- what a walk for the text of this head met in a cell: null, where it ends; a cell that it passes; or the live
+  -- what a walk for a text met in a cell: null, where it ends; a cell that it passes; or the live
   -- record, which the seat saw there
-  abbrev pub Meets : ℕ → List ℕ → Sight → SeatState V → SeatState V → Type 0
-  Meets c head sight.Null old new = EndsAt seen d z c old new
-  Meets c head sight.Other old new = Passes (seen new.view.client) (head ∷ []) c
-  Meets c head (sight.Record strong) old new =
-      AtStep d (λ p. IsBound z p (head ∷ []) strong.slot) old new
+  abbrev pub Meets : ℕ → Text → Sight → SeatState V → SeatState V → Type 0
+  Meets c text sight.Null old new = EndsAt seen d z c old new
+  Meets c text sight.Other old new = Passes (seen new.view.client) text c
+  Meets c text (sight.Record strong) old new =
+      AtStep d (λ p. IsBound z p text strong.slot) old new × Knows seen strong.slot text new
 
   -- what it met in s, in whatever cell the seat saw it
-  abbrev pub MeetsIn : SlotId → List ℕ → Sight → SeatState V → SeatState V → Type 0
-  MeetsIn s head sight old new =
-      (c : ℕ) → HasSeenAt seen c s old → Meets c head sight old new
+  abbrev pub MeetsIn : SlotId → Text → Sight → SeatState V → SeatState V → Type 0
+  MeetsIn s text sight old new =
+      (c : ℕ) → HasSeenAt seen c s old → Meets c text sight old new
 
   -- a text that passes all the cells had no live record, at a step between these states
   abbrev pub EndsAround : SeatState V → SeatState V → Type 0
@@ -85,13 +86,13 @@ used_by intern (Err error) = 0
 
 -- At a step of the walk its text had this live record; or it had none, and the walk has passed so many cells, fewer
 -- than all.
-abbrev pub ComesTo : {P V : Type 0} → (V → View) → DomainState P → Area → List ℕ → Walk
+abbrev pub ComesTo : {P V : Type 0} → (V → View) → DomainState P → Area → Text → Walk
     → SeatState V → SeatState V → Type 0
-ComesTo seen d z head (walk.Record strong) old new =
-    AtStep d (λ p. IsBound z p (head ∷ []) strong.slot) old new
-ComesTo seen d z head (walk.Absent passed) old new =
-    AtStep d (λ p. NoneBound z p (head ∷ [])) old new
-    × (passed < z.cells) × Walked z (seen new.view.client) (head ∷ []) passed
+ComesTo seen d z text (walk.Record strong) old new =
+    AtStep d (λ p. IsBound z p text strong.slot) old new × Knows seen strong.slot text new
+ComesTo seen d z text (walk.Absent passed) old new =
+    AtStep d (λ p. NoneBound z p text) old new
+    × (passed < z.cells) × Walked z (seen new.view.client) text passed
 
 -- at a step of the call the bytes had this live record, or none
 module _ {P V : Type 0} (d : DomainState P) (z : Area) where

@@ -3,14 +3,15 @@ ghost use Rattle.std.specs.Prelude.{true, ◌≡◌, ◌<◌, ◌↔◌, IfOk, I
 ghost use Rattle.plain_state.specs.Lists.{times};
 ghost use Rattle.core_events.specs.Steps.{HasRoom};
 ghost use Rattle.control_word.specs.Resting.{IsAtRest, IsSpent};
-ghost use Rattle.domain_rule.specs.Views.{object_in};
 ghost use Rattle.directory_calls.specs.Directories.{CanCount, IsOver, area_of};
-ghost use Rattle.weak_intern.specs.Interning.{Binds, ComesBy, HasNotedLast, candidate_in};
-ghost use Rattle.weak_intern.specs.Sought.{IsOne};
+ghost use Rattle.weak_intern.specs.Interning.{Binds, ComesBy};
+ghost use Rattle.record_making.specs.Making.{HasNotedLast, candidate_in};
+ghost use Rattle.record_making.specs.Texts.{text_of};
+ghost use Rattle.weak_intern.specs.Sought.{IsSought};
 ghost use Rattle.directory_calls.specs.Steps.{Leaves};
 
 use crate::seeing::number;
-use crate::texts::Sought;
+use crate::sought::Sought;
 use acquire_retire::{Domain, Seat};
 use atomic_weak::{WeakPlace, try_replace_weak};
 use control_word::{drop_weak, weaken};
@@ -27,26 +28,28 @@ pub(crate) fn bind<S, P: HasDirectory<S>>(
     seat: &mut Seat<P>,
     directory: &Directory,
     cell: u32,
-    sought: &Sought,
+    sought: &Sought<'_>,
     candidate: &Strong,
 ) -> Result<bool, Spent>
     requires rest { IsAtRest domain.now seat.old }
     requires room { HasRoom seat.old.view.core }
     requires over { IsOver domain.now (P.part domain.now.protocol) directory.now }
     requires inside { cell < directory.now.cells }
-    requires sought { IsOne sought.now.head sought.now.hash }
+    requires sought { IsSought sought.now.text.now sought.now.head sought.now.hash }
     requires quota { CanCount true (P.seen seat.old.view.client) }
     requires owned { 0 < times candidate.now.slot seat.old.view.core.owned }
-    requires noted { HasNotedLast (candidate_in candidate.now.slot sought.now.head seat.old)
+    requires noted { HasNotedLast (candidate_in candidate.now.slot
+        (text_of sought.now.text.now) seat.old)
         (P.seen seat.old.view.client) }
     requires comes { ComesBy (area_of (P.part domain.now.protocol))
-        (P.seen seat.old.view.client) sought.now.head cell }
+        (P.seen seat.old.view.client) (text_of sought.now.text.now) cell }
     ensures spent { IsErr result ↔ IsSpent seat.old.view.core }
     ensures refused { OnErr result (seat.new ≡ seat.old) }
     ensures binds { IfOk result (λ done. Binds P.seen P.with_seen domain.now
-        (area_of (P.part domain.now.protocol)) sought.now.head candidate.now.slot done
-        seat.old seat.new) }
+        (area_of (P.part domain.now.protocol)) (text_of sought.now.text.now)
+        candidate.now.slot done seat.old seat.new) }
     ensures leaves { Leaves seat.old.view.core.owned seat.old.view.core.weaks seat.old seat.new }
+    ensures makes { seat.new.view.core.makes ≡ seat.old.view.core.makes }
     ensures room { HasRoom seat.new.view.core }
     ensures rest { IsAtRest domain.now seat.new }
 {

@@ -23,6 +23,7 @@ pub fn is_payload<P: Protocol>(
     ensures same { (result ≡ true) ↔ ((object_in seat.old.view slot).payload ≡ payload.now) }
     ensures leaves { Leaves seat.old.view.core.owned seat.old.view.core.weaks seat.old seat.new }
     ensures client { seat.new.view.client ≡ seat.old.view.client }
+    ensures makes { seat.new.view.core.makes ≡ seat.old.view.core.makes }
     ensures room { HasRoom seat.new.view.core }
     ensures rest { IsAtRest domain.now seat.new }
 {

@@ -1,19 +1,21 @@
 //! The live record of a text.
-ghost use Rattle.std.specs.Prelude.{◌≤◌, IfOk, IsErr, length};
+ghost use Rattle.std.specs.Prelude.{◌≤◌, IfOk, IfSome, IsErr, length};
 ghost use Rattle.core_events.specs.Steps.{HasRoom};
 ghost use Rattle.atomic_weak.specs.Places.{named};
 ghost use Rattle.control_word.specs.Resting.{IsAtRest, IsSpent};
 ghost use Rattle.directory_calls.specs.Directories.{HasQuota, IsOver, area_of};
 ghost use Rattle.directory_calls.specs.Learning.{LearnsIn};
 ghost use Rattle.directory_calls.specs.Steps.{Leaves, with_found};
+ghost use Rattle.weak_intern.specs.Knowing.{KnowsRecord};
 ghost use Rattle.weak_intern.specs.Walking.{Finds, found_by};
 
-use crate::texts::sought_of;
+use crate::sought::Sought;
 use crate::walking::{Walk, seek};
 use acquire_retire::{Domain, Seat};
 use counted_handles::{Spent, Strong};
 use directory_calls::Directory;
 use directory_protocol::HasDirectory;
+use record_making::{hash_of, head_of};
 use std::sync::Wait;
 
 /// A strong reference to the live record of a text of 1 to 120 bytes, or None where it had none at a step of the call.
@@ -33,6 +35,8 @@ pub fn find<R: Wait, S, P: HasDirectory<S>>(
     requires text { (1 ≤ length text.now) × (length text.now ≤ 120) }
     ensures finds { IfOk result (λ found. Finds domain.now (area_of (P.part domain.now.protocol))
         text.now (named found) seat.old seat.new) }
+    ensures knows { IfOk result (λ found. IfSome found (λ strong.
+        KnowsRecord P.seen text.now strong.slot seat.new)) }
     ensures spent { IsErr result → IsSpent seat.new.view.core }
     ensures refused { IsSpent seat.old.view.core → IsErr result }
     ensures leaves { Leaves (with_found (found_by result) seat.old.view.core.owned)
@@ -41,7 +45,11 @@ pub fn find<R: Wait, S, P: HasDirectory<S>>(
     ensures room { HasRoom seat.new.view.core }
     ensures rest { IsAtRest domain.now seat.new }
 {
-    let sought = sought_of(text);
+    let sought = Sought {
+        text,
+        head: head_of(text),
+        hash: hash_of(text),
+    };
     match seek::<R, S, P>(rt, domain, seat, directory, &sought, false)? {
         Walk::Record(strong) => Ok(Some(strong)),
         Walk::Absent(_) => Ok(None),

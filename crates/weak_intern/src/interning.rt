@@ -1,26 +1,30 @@
 //! The record of a text, which is made where the text has none.
 ghost use Rattle.std.specs.Prelude.{true, ◌≡◌, ◌≢◌, ◌+◌, ◌<◌, ◌≤◌, Err, IfOk, IsErr, length};
+ghost use Rattle.std.specs.Int.{div_ceil};
 ghost use Rattle.plain_state.specs.Lists.{times};
 ghost use Rattle.core_events.specs.Steps.{HasRoom};
 ghost use Rattle.control_word.specs.Resting.{IsAtRest, IsSpent};
 ghost use Rattle.slot_store.specs.declared.making.MakeError.TheVariants as refused;
 ghost use Rattle.directory_calls.specs.Directories.{CanCount, HasNoRecord, IsOver, area_of};
-ghost use Rattle.weak_intern.specs.Interning.{GrowsIn, HasNotedLast, HasPassed, Interns, Places, candidate_in, interned_by, named_or, placed_by};
-ghost use Rattle.weak_intern.specs.Sought.{IsOne};
+ghost use Rattle.weak_intern.specs.Interning.{GrowsIn, HasPassed, Interns, Places, interned_by, named_or, placed_by};
+ghost use Rattle.record_making.specs.Making.{HasNotedLast, MissesWithin, candidate_in};
+ghost use Rattle.record_making.specs.Texts.{text_of};
+ghost use Rattle.slot_store.specs.Calls.{HasNoMake};
+ghost use Rattle.weak_intern.specs.Knowing.{Knows, KnowsRecord};
+ghost use Rattle.weak_intern.specs.Sought.{IsSought};
 ghost use Rattle.directory_calls.specs.Steps.{AtStep, Leaves, handle_by, with_found};
 ghost use Rattle.weak_intern.specs.Walking.{found_by};
 
 use crate::binding::bind;
 use crate::looking::{Sight, look};
-use crate::making::make_head;
-use crate::texts::{Sought, cell_on, sought_of};
+use crate::sought::Sought;
 use crate::walking::{Walk, seek};
 use acquire_retire::{Domain, Seat};
 use control_word::drop_strong;
 use counted_handles::{Spent, Strong};
 use directory_calls::Directory;
 use directory_protocol::HasDirectory;
-use slot_store::MakeError;
+use record_making::{MakeError, cell_on, hash_of, head_of, make_record};
 use std::sync::Wait;
 
 /// A strong reference to the live record of a text of 1 to 120 bytes, which it makes where the text has none. It uses
@@ -40,17 +44,28 @@ pub fn intern<R: Wait, S, P: HasDirectory<S>>(
     requires text { (1 ≤ length text.now) × (length text.now ≤ 120) }
     ensures interns { IfOk result (λ strong. Interns domain.now
         (area_of (P.part domain.now.protocol)) text.now strong.slot seat.old seat.new) }
+    ensures knows { IfOk result (λ strong. KnowsRecord P.seen text.now strong.slot seat.new) }
+    ensures owned { IfOk result (λ strong. 0 < times strong.slot seat.new.view.core.owned) }
     ensures none { IsErr result → result ≢ Err refused.AddsSpent → AtStep domain.now
         (λ p. HasNoRecord (area_of (P.part domain.now.protocol)) p text.now) seat.old seat.new }
     ensures adds { result ≡ Err refused.AddsSpent → IsSpent seat.new.view.core }
+    ensures no_make { result ≡ Err refused.MakesSpent → HasNoMake seat.new.view.core }
+    ensures full { result ≡ Err refused.Full
+        → MissesWithin P.Kind.fits domain.now seat.old seat.new }
     ensures leaves { Leaves (with_found (handle_by result) seat.old.view.core.owned)
         seat.old.view.core.weaks seat.old seat.new }
     ensures grows { GrowsIn P.seen P.with_seen (interned_by result)
         seat.old.view.client seat.new.view.client }
+    ensures makes { seat.new.view.core.makes
+        ≤ seat.old.view.core.makes + div_ceil (length text.now) 120 }
     ensures room { HasRoom seat.new.view.core }
     ensures rest { IsAtRest domain.now seat.new }
 {
-    let sought = sought_of(text);
+    let sought = Sought {
+        text,
+        head: head_of(text),
+        hash: hash_of(text),
+    };
     match seek::<R, S, P>(rt, domain, seat, directory, &sought, true) {
         Err(Spent) => Err(MakeError::AddsSpent),
         Ok(Walk::Record(strong)) => Ok(strong),
@@ -64,27 +79,36 @@ fn add<R: Wait, S, P: HasDirectory<S>>(
     domain: &Domain<P>,
     seat: &mut Seat<P>,
     directory: &Directory,
-    sought: &Sought,
+    sought: &Sought<'_>,
     passed: u32,
 ) -> Result<Strong, MakeError>
     requires rest { IsAtRest domain.now seat.old }
     requires room { HasRoom seat.old.view.core }
     requires over { IsOver domain.now (P.part domain.now.protocol) directory.now }
     requires quota { CanCount true (P.seen seat.old.view.client) }
-    requires sought { IsOne sought.now.head sought.now.hash }
+    requires sought { IsSought sought.now.text.now sought.now.head sought.now.hash }
+    requires short { length sought.now.text.now ≤ 120 }
     requires passed { HasPassed (area_of (P.part domain.now.protocol))
-        (P.seen seat.old.view.client) sought.now.head passed }
+        (P.seen seat.old.view.client) (text_of sought.now.text.now) passed }
     ensures places { IfOk result (λ strong. Places domain.now
-        (area_of (P.part domain.now.protocol)) sought.now.head strong.slot seat.old seat.new) }
+        (area_of (P.part domain.now.protocol)) (text_of sought.now.text.now) strong.slot
+        seat.old seat.new) }
+    ensures knows { IfOk result (λ strong. Knows P.seen strong.slot
+        (text_of sought.now.text.now) seat.new) }
     ensures adds { result ≡ Err refused.AddsSpent → IsSpent seat.new.view.core }
+    ensures no_make { result ≡ Err refused.MakesSpent → HasNoMake seat.new.view.core }
+    ensures full { result ≡ Err refused.Full
+        → MissesWithin P.Kind.fits domain.now seat.old seat.new }
     ensures leaves { Leaves (with_found (handle_by result) seat.old.view.core.owned)
         seat.old.view.core.weaks seat.old seat.new }
     ensures grows { GrowsIn P.seen P.with_seen (interned_by result)
         seat.old.view.client seat.new.view.client }
+    ensures makes { seat.new.view.core.makes
+        ≤ seat.old.view.core.makes + div_ceil (length sought.now.text.now) 120 }
     ensures room { HasRoom seat.new.view.core }
     ensures rest { IsAtRest domain.now seat.new }
 {
-    let candidate = make_head::<S, P>(domain, seat, sought)?;
+    let candidate = make_record::<S, P>(domain, seat, sought.text)?;
     match place::<R, S, P>(rt, domain, seat, directory, sought, passed, &candidate) {
         Ok(None) => Ok(candidate),
         Ok(Some(strong)) => {
@@ -105,7 +129,7 @@ fn place<R: Wait, S, P: HasDirectory<S>>(
     domain: &Domain<P>,
     seat: &mut Seat<P>,
     directory: &Directory,
-    sought: &Sought,
+    sought: &Sought<'_>,
     from: u32,
     candidate: &Strong,
 ) -> Result<Option<Strong>, Spent>
@@ -113,20 +137,25 @@ fn place<R: Wait, S, P: HasDirectory<S>>(
     requires room { HasRoom seat.old.view.core }
     requires over { IsOver domain.now (P.part domain.now.protocol) directory.now }
     requires quota { CanCount true (P.seen seat.old.view.client) }
-    requires sought { IsOne sought.now.head sought.now.hash }
+    requires sought { IsSought sought.now.text.now sought.now.head sought.now.hash }
+    requires short { length sought.now.text.now ≤ 120 }
     requires passed { HasPassed (area_of (P.part domain.now.protocol))
-        (P.seen seat.old.view.client) sought.now.head from }
+        (P.seen seat.old.view.client) (text_of sought.now.text.now) from }
     requires owned { 0 < times candidate.now.slot seat.old.view.core.owned }
-    requires noted { HasNotedLast (candidate_in candidate.now.slot sought.now.head seat.old)
+    requires noted { HasNotedLast (candidate_in candidate.now.slot
+        (text_of sought.now.text.now) seat.old)
         (P.seen seat.old.view.client) }
     ensures places { IfOk result (λ found. Places domain.now
-        (area_of (P.part domain.now.protocol)) sought.now.head
+        (area_of (P.part domain.now.protocol)) (text_of sought.now.text.now)
         (named_or candidate.now.slot found) seat.old seat.new) }
+    ensures knows { IfOk result (λ found. Knows P.seen (named_or candidate.now.slot found)
+        (text_of sought.now.text.now) seat.new) }
     ensures spent { IsErr result → IsSpent seat.new.view.core }
     ensures leaves { Leaves (with_found (found_by result) seat.old.view.core.owned)
         seat.old.view.core.weaks seat.old seat.new }
     ensures grows { GrowsIn P.seen P.with_seen (placed_by result)
         seat.old.view.client seat.new.view.client }
+    ensures makes { seat.new.view.core.makes ≡ seat.old.view.core.makes }
     ensures room { HasRoom seat.new.view.core }
     ensures rest { IsAtRest domain.now seat.new }
 {
@@ -137,7 +166,7 @@ fn place<R: Wait, S, P: HasDirectory<S>>(
         if bound {
             return Ok(None);
         }
-        match look::<R, S, P>(rt, domain, seat, directory, cell, &sought.head, true)? {
+        match look::<R, S, P>(rt, domain, seat, directory, cell, sought, true)? {
             Sight::Null => {}
             Sight::Record(strong) => return Ok(Some(strong)),
             Sight::Other => passed = next_on(passed, directory.cells),

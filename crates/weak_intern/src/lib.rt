@@ -5,7 +5,7 @@
 //! begins at a cell that its bytes tell, and goes on around the end. At each cell a seat loads a weak reference to
 //! the head that stands there, compares its payload with that of the text, and takes a strong reference where they are
 //! the same. What it learns it notes in its view, as the law asks, so what the walk found stays true. An intern goes on
-//! where the walk comes to null: it makes a record and puts it there by a compare and exchange.
+//! where the walk comes to null: it makes a record, by `record_making`, and puts it there by a compare and exchange.
 //!
 //! All calls are over each protocol that has a directory as a part, and change nothing else of the seat's view.
 //!
@@ -25,20 +25,20 @@
 
 mod binding;
 mod comparing;
+mod drawing;
 mod finding;
 mod interning;
 mod looking;
-mod making;
 mod seeing;
+mod sought;
 #[cfg(test)]
 mod tests;
-mod texts;
 mod walking;
 
 pub use comparing::is_payload;
 pub use directory_calls::Directory;
+pub use drawing::draw;
 pub use finding::find;
 pub use interning::intern;
+pub use record_making::{MakeError, cell_on, hash_of, head_of};
 pub use seeing::{raise, see};
-pub use slot_store::MakeError;
-pub use texts::{cell_on, hash_of, head_of};

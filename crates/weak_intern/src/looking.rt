@@ -1,17 +1,20 @@
 //! What the walk of a text meets in one cell.
-ghost use Rattle.std.specs.Prelude.{◌≡◌, ◌<◌, ◌≤◌, IfOk, IsErr, slice_index};
+ghost use Rattle.std.specs.Prelude.{◌≡◌, ◌<◌, ◌≤◌, IfOk, IsErr, length};
 ghost use Rattle.plain_state.specs.Lists.{times};
 ghost use Rattle.core_events.specs.Steps.{HasRoom};
 ghost use Rattle.core_events.specs.Views.{without};
 ghost use Rattle.control_word.specs.Resting.{IsAtRest, IsSpent};
 ghost use Rattle.directory_calls.specs.Directories.{CanCount, IsOver, area_of};
 ghost use Rattle.directory_calls.specs.Learning.{LearnsIn};
+ghost use Rattle.record_making.specs.Texts.{text_of};
 ghost use Rattle.weak_intern.specs.Seeing.{HasSeenIn};
+ghost use Rattle.weak_intern.specs.Sought.{IsSought};
 ghost use Rattle.directory_calls.specs.Steps.{Leaves, with_found};
 ghost use Rattle.weak_intern.specs.Walking.{Meets, MeetsIn, met_by, taken_by};
 
 use crate::comparing::is_payload;
 use crate::seeing::{raise, see};
+use crate::sought::Sought;
 use acquire_retire::{Domain, Seat};
 use control_word::{UpgradeError, drop_weak};
 use counted_handles::{Spent, Strong, Weak};
@@ -30,7 +33,7 @@ pub enum Sight {
     Record(Strong),
 }
 
-/// Looks at a cell for the text that has this head and no part. Where it meets the live record, an intern of the seat
+/// Looks at a cell for a text. Where it meets the live record, an intern of the seat
 /// is used if that is asked. At most five steps for each try to load, and 19 more.
 pub(crate) fn look<R: Wait, S, P: HasDirectory<S>>(
     rt: &R,
@@ -38,7 +41,7 @@ pub(crate) fn look<R: Wait, S, P: HasDirectory<S>>(
     seat: &mut Seat<P>,
     directory: &Directory,
     cell: u32,
-    head: &[u64; 16],
+    sought: &Sought<'_>,
     intern: bool,
 ) -> Result<Sight, Spent>
     requires rest { IsAtRest domain.now seat.old }
@@ -46,20 +49,23 @@ pub(crate) fn look<R: Wait, S, P: HasDirectory<S>>(
     requires over { IsOver domain.now (P.part domain.now.protocol) directory.now }
     requires inside { cell < directory.now.cells }
     requires quota { CanCount intern (P.seen seat.old.view.client) }
-    requires short { slice_index head.now 0 ≤ 120 }
+    requires sought { IsSought sought.now.text.now sought.now.head sought.now.hash }
+    requires short { length sought.now.text.now ≤ 120 }
     ensures meets { IfOk result (λ sight. Meets P.seen domain.now
-        (area_of (P.part domain.now.protocol)) cell head.now sight seat.old seat.new) }
+        (area_of (P.part domain.now.protocol)) cell (text_of sought.now.text.now) sight
+        seat.old seat.new) }
     ensures spent { IsErr result → IsSpent seat.new.view.core }
     ensures refused { IsSpent seat.old.view.core → IsErr result }
     ensures leaves { Leaves (with_found (met_by result) seat.old.view.core.owned)
         seat.old.view.core.weaks seat.old seat.new }
     ensures learns { LearnsIn P.seen P.with_seen (taken_by intern result)
         seat.old.view.client seat.new.view.client }
+    ensures makes { seat.new.view.core.makes ≡ seat.old.view.core.makes }
     ensures room { HasRoom seat.new.view.core }
     ensures rest { IsAtRest domain.now seat.new }
 {
     match see::<R, S, P>(rt, domain, seat, directory, cell)? {
-        Some(weak) => meet::<S, P>(domain, seat, weak, head, intern),
+        Some(weak) => meet::<S, P>(domain, seat, weak, sought, intern),
         None => Ok(Sight::Null),
     }
 }
@@ -69,7 +75,7 @@ fn meet<S, P: HasDirectory<S>>(
     domain: &Domain<P>,
     seat: &mut Seat<P>,
     weak: Weak,
-    head: &[u64; 16],
+    sought: &Sought<'_>,
     intern: bool,
 ) -> Result<Sight, Spent>
     requires rest { IsAtRest domain.now seat.old }
@@ -77,18 +83,21 @@ fn meet<S, P: HasDirectory<S>>(
     requires owned { 0 < times weak.slot seat.old.view.core.weaks }
     requires saw { HasSeenIn P.seen weak.slot seat.old }
     requires quota { CanCount intern (P.seen seat.old.view.client) }
-    requires short { slice_index head.now 0 ≤ 120 }
+    requires sought { IsSought sought.now.text.now sought.now.head sought.now.hash }
+    requires short { length sought.now.text.now ≤ 120 }
     ensures meets { IfOk result (λ sight. MeetsIn P.seen domain.now
-        (area_of (P.part domain.now.protocol)) weak.slot head.now sight seat.old seat.new) }
+        (area_of (P.part domain.now.protocol)) weak.slot (text_of sought.now.text.now) sight
+        seat.old seat.new) }
     ensures spent { IsErr result → IsSpent seat.new.view.core }
     ensures leaves { Leaves (with_found (met_by result) seat.old.view.core.owned)
         (without weak.slot seat.old.view.core.weaks) seat.old seat.new }
     ensures learns { LearnsIn P.seen P.with_seen (taken_by intern result)
         seat.old.view.client seat.new.view.client }
+    ensures makes { seat.new.view.core.makes ≡ seat.old.view.core.makes }
     ensures room { HasRoom seat.new.view.core }
     ensures rest { IsAtRest domain.now seat.new }
 {
-    if !is_payload(domain, seat, weak.slot(), head) {
+    if !is_payload(domain, seat, weak.slot(), &sought.head) {
         drop_weak(domain, seat, weak);
         return Ok(Sight::Other);
     }

@@ -10,7 +10,7 @@ ghost use Rattle.domain_rule.specs.Views.{object_in};
 ghost use Rattle.directory_law.specs.Views.{In, note};
 ghost use Rattle.directory_calls.specs.Directories.{CanCount, IsOver, area_of};
 ghost use Rattle.directory_calls.specs.Learning.{LearnsIn};
-ghost use Rattle.weak_intern.specs.Seeing.{BeginsText, HasSeenIn, Sees};
+ghost use Rattle.weak_intern.specs.Seeing.{BeginsText, HasBegun, HasSeenIn, Sees};
 ghost use Rattle.directory_calls.specs.Steps.{AtStep, Leaves, handle_by, with_found};
 ghost use Rattle.weak_intern.specs.Walking.{raised_by};
 
@@ -42,6 +42,7 @@ pub fn see<R: Wait, S, P: HasDirectory<S>>(
     ensures leaves { IfOk result (λ found. Leaves seat.old.view.core.owned
         (with_found (named found) seat.old.view.core.weaks) seat.old seat.new) }
     ensures learns { LearnsIn P.seen P.with_seen 0 seat.old.view.client seat.new.view.client }
+    ensures makes { seat.new.view.core.makes ≡ seat.old.view.core.makes }
     ensures room { HasRoom seat.new.view.core }
     ensures rest { IsAtRest domain.now seat.new }
 {
@@ -70,6 +71,7 @@ pub fn raise<S, P: HasDirectory<S>>(
     ensures same { IfOk result (λ strong. strong.slot ≡ weak.slot) }
     ensures live { IfOk result (λ strong. AtStep domain.now (BeginsText
         (area_of (P.part domain.now.protocol)) weak.slot seat.new) seat.old seat.new) }
+    ensures begins { IfOk result (λ strong. HasBegun P.seen weak.slot seat.new) }
     ensures ended { result ≡ Err no_raise.Ended → In
         (note weak.slot (object_in seat.old.view weak.slot).life)
         (P.seen seat.new.view.client).ended }
@@ -79,6 +81,7 @@ pub fn raise<S, P: HasDirectory<S>>(
         (without weak.slot seat.old.view.core.weaks) seat.old seat.new }
     ensures learns { LearnsIn P.seen P.with_seen (raised_by intern result)
         seat.old.view.client seat.new.view.client }
+    ensures makes { seat.new.view.core.makes ≡ seat.old.view.core.makes }
     ensures room { HasRoom seat.new.view.core }
     ensures rest { IsAtRest domain.now seat.new }
 {

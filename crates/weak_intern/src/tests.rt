@@ -3,7 +3,7 @@ ghost use Rattle.core_events.specs.Steps.{HasRoom};
 ghost use Rattle.control_word.specs.Resting.{IsAtRest};
 ghost use Rattle.directory_calls.specs.Directories.{HasQuota};
 
-use crate::{Directory, cell_on, find, hash_of, intern, see};
+use crate::{Directory, cell_on, draw, find, hash_of, intern, see};
 use acquire_retire::{Domain, OpenError, Quota, Seat, Shape, open_domain};
 use directory_protocol::DirectoryLaw;
 use std::test::Fail;
@@ -75,5 +75,14 @@ fn a_text_is_interned_in_cell_5(rt: HostRuntime) -> Result<(), Fail> {
         panic!(rt; "null")
     };
     assert_eq!(rt; seen.slot(), record.slot());
+    Ok(())
+}
+
+#[test]
+fn the_first_ticket_is_number_0(rt: HostRuntime) -> Result<(), Fail> {
+    let (domain, mut seat) = open_alone(&rt)?;
+    let Ok(0) = draw(&domain, &mut seat) else {
+        panic!(rt; "no ticket")
+    };
     Ok(())
 }

@@ -1,21 +1,23 @@
 //! The walk of a text over the cells of a directory.
-ghost use Rattle.std.specs.Prelude.{◌≡◌, IfOk, IsErr};
+ghost use Rattle.std.specs.Prelude.{◌≡◌, ◌≤◌, IfOk, IsErr, length};
 ghost use Rattle.core_events.specs.Steps.{HasRoom};
 ghost use Rattle.control_word.specs.Resting.{IsAtRest, IsSpent};
 ghost use Rattle.directory_calls.specs.Directories.{CanCount, IsOver, area_of};
 ghost use Rattle.directory_calls.specs.Learning.{LearnsIn};
-ghost use Rattle.weak_intern.specs.Sought.{IsOne};
+ghost use Rattle.record_making.specs.Texts.{text_of};
+ghost use Rattle.weak_intern.specs.Sought.{IsSought};
 ghost use Rattle.directory_calls.specs.Steps.{Leaves, with_found};
 ghost use Rattle.weak_intern.specs.Walking.{ComesTo, EndsAround, used_by, walked_by};
 
 use crate::looking::{Sight, look};
 use crate::seeing::number;
-use crate::texts::{Sought, cell_on};
+use crate::sought::Sought;
 use acquire_retire::{Domain, EventPlace, Seat};
 use counted_handles::{Spent, Strong};
 use directory_calls::Directory;
 use directory_protocol::{DirectoryLaw, HasDirectory, LookAtCell};
 use protocol_pairs::InPart;
+use record_making::cell_on;
 use std::sync::Wait;
 
 /// Where a walk ended.
@@ -27,35 +29,38 @@ pub enum Walk {
     Absent(u32),
 }
 
-/// Walks over the cells for a text of one slot, up to its live record or a null cell. Where it comes to the record, an
+/// Walks over the cells for a text, up to its live record or a null cell. Where it comes to the record, an
 /// intern of the seat is used if that is asked.
 pub(crate) fn seek<R: Wait, S, P: HasDirectory<S>>(
     rt: &R,
     domain: &Domain<P>,
     seat: &mut Seat<P>,
     directory: &Directory,
-    sought: &Sought,
+    sought: &Sought<'_>,
     intern: bool,
 ) -> Result<Walk, Spent>
     requires rest { IsAtRest domain.now seat.old }
     requires room { HasRoom seat.old.view.core }
     requires over { IsOver domain.now (P.part domain.now.protocol) directory.now }
     requires quota { CanCount intern (P.seen seat.old.view.client) }
-    requires sought { IsOne sought.now.head sought.now.hash }
+    requires sought { IsSought sought.now.text.now sought.now.head sought.now.hash }
+    requires short { length sought.now.text.now ≤ 120 }
     ensures comes { IfOk result (λ walk. ComesTo P.seen domain.now
-        (area_of (P.part domain.now.protocol)) sought.now.head walk seat.old seat.new) }
+        (area_of (P.part domain.now.protocol)) (text_of sought.now.text.now) walk
+        seat.old seat.new) }
     ensures spent { IsErr result → IsSpent seat.new.view.core }
     ensures refused { IsSpent seat.old.view.core → IsErr result }
     ensures leaves { Leaves (with_found (walked_by result) seat.old.view.core.owned)
         seat.old.view.core.weaks seat.old seat.new }
     ensures learns { LearnsIn P.seen P.with_seen (used_by intern result)
         seat.old.view.client seat.new.view.client }
+    ensures makes { seat.new.view.core.makes ≡ seat.old.view.core.makes }
     ensures room { HasRoom seat.new.view.core }
     ensures rest { IsAtRest domain.now seat.new }
 {
     for passed in 0..directory.cells {
         let cell = cell_on(sought.hash, passed, directory.cells);
-        match look::<R, S, P>(rt, domain, seat, directory, cell, &sought.head, intern)? {
+        match look::<R, S, P>(rt, domain, seat, directory, cell, sought, intern)? {
             Sight::Null => return Ok(Walk::Absent(passed)),
             Sight::Record(strong) => return Ok(Walk::Record(strong)),
             Sight::Other => {}
@@ -74,6 +79,7 @@ fn come_around<S, P: HasDirectory<S>>(domain: &Domain<P>, seat: &mut Seat<P>, di
         seat.old seat.new }
     ensures leaves { Leaves seat.old.view.core.owned seat.old.view.core.weaks seat.old seat.new }
     ensures client { seat.new.view.client ≡ seat.old.view.client }
+    ensures makes { seat.new.view.core.makes ≡ seat.old.view.core.makes }
     ensures room { HasRoom seat.new.view.core }
     ensures rest { IsAtRest domain.now seat.new }
 {

@@ -1,7 +1,10 @@
-use Rattle.std.proofs.Common.{ap, ◌∙◌, Some, None}
+use Rattle.std.proofs.Common.{ap, arith, ◌∙◌, Some, None}
 use Rattle.std.specs.Prelude.{Ok}
 use Rattle.directory_calls.specs.Directories.{area_of}
-use Rattle.weak_intern.proofs.Added.{dropped, dropped_leaves, dropped_places, err_grows, err_leaves, noted_made, ok_grows, ok_leaves, ok_places, owned_then, passed_made, quota_made}
+use Rattle.record_making.specs.Texts.{text_of}
+use Rattle.record_making.proofs.Noted.{on_err, same_refusal}
+use Rattle.record_making.proofs.Dropped.{dropped, makes_still}
+use Rattle.weak_intern.proofs.Added.{dropped_known, dropped_leaves, dropped_places, err_grows, err_leaves, found_some, is_err, knows_still, noted_made, ok_grows, ok_leaves, ok_places, owned_then, passed_made, placed_knows, quota_made, refused_grows}
 use Rattle.directory_calls.proofs.Parts.{place_of}
 use Rattle.weak_intern.proofs.Placed.{grows_as}
 use Rattle.weak_intern.proofs.interning.add.Goals as goal
@@ -11,8 +14,8 @@ place-requires-clause-quota g c =
     quota_made c.args.domain.now
     (place_of g.P.Part.seen g.P.Part.with_seen g.P.Part.reads g.P.Part.puts_back
     g.P.Part.puts_over)
-    (area_of (g.P.Part.part c.args.domain.now.protocol)) c.args.sought.now.head
-    c.in_ok-candidate.candidate.slot c.args.seat.now c.make_head.new.seat
+    (area_of (g.P.Part.part c.args.domain.now.protocol)) (text_of c.args.sought.now.text.now)
+    c.in_ok-candidate.candidate.slot c.args.seat.now c.make_record.new.seat
     c.in_ok-candidate.ensures.leaves c.in_ok-candidate.ensures.noted
     c.requires.quota
 
@@ -21,8 +24,8 @@ place-requires-clause-passed g c =
     passed_made c.args.domain.now
     (place_of g.P.Part.seen g.P.Part.with_seen g.P.Part.reads g.P.Part.puts_back
     g.P.Part.puts_over)
-    (area_of (g.P.Part.part c.args.domain.now.protocol)) c.args.sought.now.head
-    c.in_ok-candidate.candidate.slot c.args.seat.now c.make_head.new.seat
+    (area_of (g.P.Part.part c.args.domain.now.protocol)) (text_of c.args.sought.now.text.now)
+    c.in_ok-candidate.candidate.slot c.args.seat.now c.make_record.new.seat
     c.in_ok-candidate.ensures.leaves c.in_ok-candidate.ensures.noted
     c.args.passed c.requires.passed
 
@@ -31,8 +34,8 @@ place-requires-clause-noted g c =
     noted_made c.args.domain.now
     (place_of g.P.Part.seen g.P.Part.with_seen g.P.Part.reads g.P.Part.puts_back
     g.P.Part.puts_over)
-    (area_of (g.P.Part.part c.args.domain.now.protocol)) c.args.sought.now.head
-    c.in_ok-candidate.candidate.slot c.args.seat.now c.make_head.new.seat
+    (area_of (g.P.Part.part c.args.domain.now.protocol)) (text_of c.args.sought.now.text.now)
+    c.in_ok-candidate.candidate.slot c.args.seat.now c.make_record.new.seat
     c.in_ok-candidate.ensures.leaves c.in_ok-candidate.ensures.noted
 
 pub drop_strong-requires-clause-owned : goal.drop_strong-requires-clause-owned
@@ -40,15 +43,15 @@ drop_strong-requires-clause-owned g c =
     owned_then c.args.domain.now
     (place_of g.P.Part.seen g.P.Part.with_seen g.P.Part.reads g.P.Part.puts_back
     g.P.Part.puts_over)
-    (area_of (g.P.Part.part c.args.domain.now.protocol)) c.args.sought.now.head
-    c.in_ok-candidate.candidate.slot c.args.seat.now c.make_head.new.seat
+    (area_of (g.P.Part.part c.args.domain.now.protocol)) (text_of c.args.sought.now.text.now)
+    c.in_ok-candidate.candidate.slot c.args.seat.now c.make_record.new.seat
     c.in_ok-candidate.ensures.leaves c.in_ok-candidate.ensures.noted
     c.place.new.seat (Some c.in-Ok-Some.strong.slot)
     (ok_leaves c.args.domain.now
     (place_of g.P.Part.seen g.P.Part.with_seen g.P.Part.reads g.P.Part.puts_back
     g.P.Part.puts_over)
-    (area_of (g.P.Part.part c.args.domain.now.protocol)) c.args.sought.now.head
-    c.in_ok-candidate.candidate.slot c.args.seat.now c.make_head.new.seat
+    (area_of (g.P.Part.part c.args.domain.now.protocol)) (text_of c.args.sought.now.text.now)
+    c.in_ok-candidate.candidate.slot c.args.seat.now c.make_record.new.seat
     c.in_ok-candidate.ensures.leaves c.in_ok-candidate.ensures.noted
     c.place.new.seat c.place.result (Some c.in-Ok-Some.strong)
     (c.in-Ok-Some.is ∙ ap Ok c.in-Ok-Some.field-0-is) c.place.ensures.leaves)
@@ -58,45 +61,48 @@ returns-in-Ok-None-clause-places g c =
     ok_places c.args.domain.now
     (place_of g.P.Part.seen g.P.Part.with_seen g.P.Part.reads g.P.Part.puts_back
     g.P.Part.puts_over)
-    (area_of (g.P.Part.part c.args.domain.now.protocol)) c.args.sought.now.head
-    c.in_ok-candidate.candidate.slot c.args.seat.now c.make_head.new.seat
+    (area_of (g.P.Part.part c.args.domain.now.protocol)) (text_of c.args.sought.now.text.now)
+    c.in_ok-candidate.candidate.slot c.args.seat.now c.make_record.new.seat
     c.in_ok-candidate.ensures.leaves c.in_ok-candidate.ensures.noted
-    c.place.new.seat c.place.result None (c.in-Ok-None.is ∙ ap Ok c.in-Ok-None.field-0-is) c.place.ensures.places
+    c.place.new.seat c.place.result None (c.in-Ok-None.is ∙ ap Ok c.in-Ok-None.field-0-is)
+    c.place.ensures.places
 
 pub returns-in-Ok-None-clause-leaves : goal.returns-in-Ok-None-clause-leaves
 returns-in-Ok-None-clause-leaves g c =
     ok_leaves c.args.domain.now
     (place_of g.P.Part.seen g.P.Part.with_seen g.P.Part.reads g.P.Part.puts_back
     g.P.Part.puts_over)
-    (area_of (g.P.Part.part c.args.domain.now.protocol)) c.args.sought.now.head
-    c.in_ok-candidate.candidate.slot c.args.seat.now c.make_head.new.seat
+    (area_of (g.P.Part.part c.args.domain.now.protocol)) (text_of c.args.sought.now.text.now)
+    c.in_ok-candidate.candidate.slot c.args.seat.now c.make_record.new.seat
     c.in_ok-candidate.ensures.leaves c.in_ok-candidate.ensures.noted
-    c.place.new.seat c.place.result None (c.in-Ok-None.is ∙ ap Ok c.in-Ok-None.field-0-is) c.place.ensures.leaves
+    c.place.new.seat c.place.result None (c.in-Ok-None.is ∙ ap Ok c.in-Ok-None.field-0-is)
+    c.place.ensures.leaves
 
 pub returns-in-Ok-None-clause-grows : goal.returns-in-Ok-None-clause-grows
 returns-in-Ok-None-clause-grows g c =
     ok_grows c.args.domain.now
     (place_of g.P.Part.seen g.P.Part.with_seen g.P.Part.reads g.P.Part.puts_back
     g.P.Part.puts_over)
-    (area_of (g.P.Part.part c.args.domain.now.protocol)) c.args.sought.now.head
-    c.in_ok-candidate.candidate.slot c.args.seat.now c.make_head.new.seat
+    (area_of (g.P.Part.part c.args.domain.now.protocol)) (text_of c.args.sought.now.text.now)
+    c.in_ok-candidate.candidate.slot c.args.seat.now c.make_record.new.seat
     c.in_ok-candidate.ensures.leaves c.in_ok-candidate.ensures.noted
-    c.place.new.seat c.place.result None (c.in-Ok-None.is ∙ ap Ok c.in-Ok-None.field-0-is) c.place.ensures.grows
+    c.place.new.seat c.place.result None (c.in-Ok-None.is ∙ ap Ok c.in-Ok-None.field-0-is)
+    c.place.ensures.grows
 
 pub returns-in-Ok-Some-clause-places : goal.returns-in-Ok-Some-clause-places
 returns-in-Ok-Some-clause-places g c =
     dropped_places c.args.domain.now
     (place_of g.P.Part.seen g.P.Part.with_seen g.P.Part.reads g.P.Part.puts_back
     g.P.Part.puts_over)
-    (area_of (g.P.Part.part c.args.domain.now.protocol)) c.args.sought.now.head
-    c.in_ok-candidate.candidate.slot c.args.seat.now c.make_head.new.seat
+    (area_of (g.P.Part.part c.args.domain.now.protocol)) (text_of c.args.sought.now.text.now)
+    c.in_ok-candidate.candidate.slot c.args.seat.now c.make_record.new.seat
     c.in_ok-candidate.ensures.leaves c.in_ok-candidate.ensures.noted
     c.place.new.seat c.drop_strong.new.seat (Some c.in-Ok-Some.strong.slot)
     (ok_leaves c.args.domain.now
     (place_of g.P.Part.seen g.P.Part.with_seen g.P.Part.reads g.P.Part.puts_back
     g.P.Part.puts_over)
-    (area_of (g.P.Part.part c.args.domain.now.protocol)) c.args.sought.now.head
-    c.in_ok-candidate.candidate.slot c.args.seat.now c.make_head.new.seat
+    (area_of (g.P.Part.part c.args.domain.now.protocol)) (text_of c.args.sought.now.text.now)
+    c.in_ok-candidate.candidate.slot c.args.seat.now c.make_record.new.seat
     c.in_ok-candidate.ensures.leaves c.in_ok-candidate.ensures.noted
     c.place.new.seat c.place.result (Some c.in-Ok-Some.strong)
     (c.in-Ok-Some.is ∙ ap Ok c.in-Ok-Some.field-0-is) c.place.ensures.leaves)
@@ -107,8 +113,8 @@ returns-in-Ok-Some-clause-places g c =
     (ok_places c.args.domain.now
     (place_of g.P.Part.seen g.P.Part.with_seen g.P.Part.reads g.P.Part.puts_back
     g.P.Part.puts_over)
-    (area_of (g.P.Part.part c.args.domain.now.protocol)) c.args.sought.now.head
-    c.in_ok-candidate.candidate.slot c.args.seat.now c.make_head.new.seat
+    (area_of (g.P.Part.part c.args.domain.now.protocol)) (text_of c.args.sought.now.text.now)
+    c.in_ok-candidate.candidate.slot c.args.seat.now c.make_record.new.seat
     c.in_ok-candidate.ensures.leaves c.in_ok-candidate.ensures.noted
     c.place.new.seat c.place.result (Some c.in-Ok-Some.strong)
     (c.in-Ok-Some.is ∙ ap Ok c.in-Ok-Some.field-0-is) c.place.ensures.places)
@@ -118,15 +124,15 @@ returns-in-Ok-Some-clause-leaves g c =
     dropped_leaves c.args.domain.now
     (place_of g.P.Part.seen g.P.Part.with_seen g.P.Part.reads g.P.Part.puts_back
     g.P.Part.puts_over)
-    (area_of (g.P.Part.part c.args.domain.now.protocol)) c.args.sought.now.head
-    c.in_ok-candidate.candidate.slot c.args.seat.now c.make_head.new.seat
+    (area_of (g.P.Part.part c.args.domain.now.protocol)) (text_of c.args.sought.now.text.now)
+    c.in_ok-candidate.candidate.slot c.args.seat.now c.make_record.new.seat
     c.in_ok-candidate.ensures.leaves c.in_ok-candidate.ensures.noted
     c.place.new.seat c.drop_strong.new.seat (Some c.in-Ok-Some.strong.slot)
     (ok_leaves c.args.domain.now
     (place_of g.P.Part.seen g.P.Part.with_seen g.P.Part.reads g.P.Part.puts_back
     g.P.Part.puts_over)
-    (area_of (g.P.Part.part c.args.domain.now.protocol)) c.args.sought.now.head
-    c.in_ok-candidate.candidate.slot c.args.seat.now c.make_head.new.seat
+    (area_of (g.P.Part.part c.args.domain.now.protocol)) (text_of c.args.sought.now.text.now)
+    c.in_ok-candidate.candidate.slot c.args.seat.now c.make_record.new.seat
     c.in_ok-candidate.ensures.leaves c.in_ok-candidate.ensures.noted
     c.place.new.seat c.place.result (Some c.in-Ok-Some.strong)
     (c.in-Ok-Some.is ∙ ap Ok c.in-Ok-Some.field-0-is) c.place.ensures.leaves)
@@ -142,8 +148,8 @@ returns-in-Ok-Some-clause-grows g c =
     (ok_grows c.args.domain.now
     (place_of g.P.Part.seen g.P.Part.with_seen g.P.Part.reads g.P.Part.puts_back
     g.P.Part.puts_over)
-    (area_of (g.P.Part.part c.args.domain.now.protocol)) c.args.sought.now.head
-    c.in_ok-candidate.candidate.slot c.args.seat.now c.make_head.new.seat
+    (area_of (g.P.Part.part c.args.domain.now.protocol)) (text_of c.args.sought.now.text.now)
+    c.in_ok-candidate.candidate.slot c.args.seat.now c.make_record.new.seat
     c.in_ok-candidate.ensures.leaves c.in_ok-candidate.ensures.noted
     c.place.new.seat c.place.result (Some c.in-Ok-Some.strong)
     (c.in-Ok-Some.is ∙ ap Ok c.in-Ok-Some.field-0-is) c.place.ensures.grows)
@@ -153,15 +159,15 @@ returns-in-Err-clause-leaves g c =
     dropped_leaves c.args.domain.now
     (place_of g.P.Part.seen g.P.Part.with_seen g.P.Part.reads g.P.Part.puts_back
     g.P.Part.puts_over)
-    (area_of (g.P.Part.part c.args.domain.now.protocol)) c.args.sought.now.head
-    c.in_ok-candidate.candidate.slot c.args.seat.now c.make_head.new.seat
+    (area_of (g.P.Part.part c.args.domain.now.protocol)) (text_of c.args.sought.now.text.now)
+    c.in_ok-candidate.candidate.slot c.args.seat.now c.make_record.new.seat
     c.in_ok-candidate.ensures.leaves c.in_ok-candidate.ensures.noted
     c.place.new.seat c.drop_strong-in-Err.new.seat None
     (err_leaves c.args.domain.now
     (place_of g.P.Part.seen g.P.Part.with_seen g.P.Part.reads g.P.Part.puts_back
     g.P.Part.puts_over)
-    (area_of (g.P.Part.part c.args.domain.now.protocol)) c.args.sought.now.head
-    c.in_ok-candidate.candidate.slot c.args.seat.now c.make_head.new.seat
+    (area_of (g.P.Part.part c.args.domain.now.protocol)) (text_of c.args.sought.now.text.now)
+    c.in_ok-candidate.candidate.slot c.args.seat.now c.make_record.new.seat
     c.in_ok-candidate.ensures.leaves c.in_ok-candidate.ensures.noted
     c.place.new.seat c.place.result c.in-Err.field-0 c.in-Err.is c.place.ensures.leaves)
     (dropped c.place.new.seat c.drop_strong-in-Err.new.seat c.in_ok-candidate.candidate.slot
@@ -176,7 +182,81 @@ returns-in-Err-clause-grows g c =
     (err_grows c.args.domain.now
     (place_of g.P.Part.seen g.P.Part.with_seen g.P.Part.reads g.P.Part.puts_back
     g.P.Part.puts_over)
-    (area_of (g.P.Part.part c.args.domain.now.protocol)) c.args.sought.now.head
-    c.in_ok-candidate.candidate.slot c.args.seat.now c.make_head.new.seat
+    (area_of (g.P.Part.part c.args.domain.now.protocol)) (text_of c.args.sought.now.text.now)
+    c.in_ok-candidate.candidate.slot c.args.seat.now c.make_record.new.seat
     c.in_ok-candidate.ensures.leaves c.in_ok-candidate.ensures.noted
     c.place.new.seat c.place.result c.in-Err.field-0 c.in-Err.is c.place.ensures.grows)
+
+pub returns-in_err-candidate-clause-full : goal.returns-in_err-candidate-clause-full
+returns-in_err-candidate-clause-full g c told =
+    c.in_err-candidate.ensures.full (same_refusal _ _ _ c.from_residual.ensures.1 told)
+
+pub returns-in_err-candidate-clause-grows : goal.returns-in_err-candidate-clause-grows
+returns-in_err-candidate-clause-grows g c =
+    refused_grows (place_of g.P.Part.seen g.P.Part.with_seen g.P.Part.reads g.P.Part.puts_back
+    g.P.Part.puts_over)
+    c.from_residual.result c.args.seat.now c.make_record.new.seat
+    (is_err _ c.from_residual.result c.from_residual.ensures.1)
+    (on_err c.from_residual.result c.in_err-candidate.ensures.client)
+
+pub returns-in-Ok-None-clause-knows : goal.returns-in-Ok-None-clause-knows
+returns-in-Ok-None-clause-knows g c =
+    placed_knows g.P.Part.seen c.in_ok-candidate.candidate.slot (text_of c.args.sought.now.text.now)
+    c.place.new.seat c.place.result None (c.in-Ok-None.is ∙ ap Ok c.in-Ok-None.field-0-is)
+    c.place.ensures.knows
+
+pub returns-in-Ok-Some-clause-knows : goal.returns-in-Ok-Some-clause-knows
+returns-in-Ok-Some-clause-knows g c =
+    knows_still g.P.Part.seen c.in-Ok-Some.strong.slot (text_of c.args.sought.now.text.now)
+    c.place.new.seat c.drop_strong.new.seat c.drop_strong.ensures.client
+    (dropped_known c.args.domain.now
+    (place_of g.P.Part.seen g.P.Part.with_seen g.P.Part.reads g.P.Part.puts_back
+    g.P.Part.puts_over)
+    (area_of (g.P.Part.part c.args.domain.now.protocol)) (text_of c.args.sought.now.text.now)
+    c.in_ok-candidate.candidate.slot c.args.seat.now c.make_record.new.seat
+    c.in_ok-candidate.ensures.leaves c.in_ok-candidate.ensures.noted
+    c.place.new.seat c.drop_strong.new.seat (Some c.in-Ok-Some.strong.slot)
+    (ok_leaves c.args.domain.now
+    (place_of g.P.Part.seen g.P.Part.with_seen g.P.Part.reads g.P.Part.puts_back
+    g.P.Part.puts_over)
+    (area_of (g.P.Part.part c.args.domain.now.protocol)) (text_of c.args.sought.now.text.now)
+    c.in_ok-candidate.candidate.slot c.args.seat.now c.make_record.new.seat
+    c.in_ok-candidate.ensures.leaves c.in_ok-candidate.ensures.noted
+    c.place.new.seat c.place.result (Some c.in-Ok-Some.strong)
+    (c.in-Ok-Some.is ∙ ap Ok c.in-Ok-Some.field-0-is) c.place.ensures.leaves)
+    (dropped c.place.new.seat c.drop_strong.new.seat c.in_ok-candidate.candidate.slot
+    g.P.Kind.PayloadKind.fits c.args.domain.now c.drop_strong.ensures.dropped
+    c.drop_strong.ensures.objects)
+    c.in-Ok-Some.strong.slot (found_some c.in-Ok-Some.strong.slot c.args.seat.now.view.core.owned))
+    (placed_knows g.P.Part.seen c.in_ok-candidate.candidate.slot (text_of
+    c.args.sought.now.text.now)
+    c.place.new.seat c.place.result (Some c.in-Ok-Some.strong)
+    (c.in-Ok-Some.is ∙ ap Ok c.in-Ok-Some.field-0-is) c.place.ensures.knows)
+
+pub returns-in_err-candidate-clause-makes : goal.returns-in_err-candidate-clause-makes
+returns-in_err-candidate-clause-makes g c =
+    c.make_record.ensures.makes
+
+pub returns-in-Ok-None-clause-makes : goal.returns-in-Ok-None-clause-makes
+returns-in-Ok-None-clause-makes g c =
+    omega (arith, c.make_record.ensures.makes, c.place.ensures.makes)
+
+pub returns-in-Ok-Some-clause-makes : goal.returns-in-Ok-Some-clause-makes
+returns-in-Ok-Some-clause-makes g c =
+    omega (
+      arith,
+      c.make_record.ensures.makes,
+      c.place.ensures.makes,
+      makes_still c.place.new.seat c.drop_strong.new.seat c.in_ok-candidate.candidate.slot
+          g.P.Kind.PayloadKind.fits c.args.domain.now c.drop_strong.ensures.dropped,
+    )
+
+pub returns-in-Err-clause-makes : goal.returns-in-Err-clause-makes
+returns-in-Err-clause-makes g c =
+    omega (
+      arith,
+      c.make_record.ensures.makes,
+      c.place.ensures.makes,
+      makes_still c.place.new.seat c.drop_strong-in-Err.new.seat c.in_ok-candidate.candidate.slot
+          g.P.Kind.PayloadKind.fits c.args.domain.now c.drop_strong-in-Err.ensures.dropped,
+    )

@@ -1,9 +1,13 @@
-use Rattle.std.proofs.Common.{ap, ◌∙◌}
+use Rattle.std.proofs.Common.{ap, arith, ◌∙◌}
 use Rattle.std.specs.Prelude.{Ok}
 use Rattle.directory_calls.specs.Directories.{area_of}
 use Rattle.weak_intern.specs.Interning.{interned_by}
 use Rattle.directory_calls.specs.Steps.{handle_by}
-use Rattle.weak_intern.proofs.Interned.{absent_learns, absent_leaves, absent_none, added_grows, added_leaves, added_none, all_interns}
+use Rattle.record_making.specs.Texts.{text_of}
+use Rattle.record_making.proofs.Noted.{misses_after}
+use Rattle.record_making.proofs.Packed.{is_text_of}
+use Rattle.weak_intern.proofs.Heads.{sought_is}
+use Rattle.weak_intern.proofs.Interned.{absent_learns, absent_leaves, absent_none, added_grows, added_leaves, added_none, all_interns, all_knows, answered_owned, walked_interns, walked_knows, walked_owned}
 use Rattle.directory_calls.proofs.Parts.{place_of}
 use Rattle.weak_intern.proofs.interning.intern.Goals as goal
 
@@ -12,19 +16,20 @@ returns-in-Ok-Absent-clause-interns g c =
     all_interns c.args.domain.now
     (place_of g.P.Part.seen g.P.Part.with_seen g.P.Part.reads g.P.Part.puts_back
     g.P.Part.puts_over)
-    (area_of (g.P.Part.part c.args.domain.now.protocol)) c.args.text.now c.sought_of-sought.result.head
-    c.sought_of-sought.ensures.text c.args.seat.now c.seek.new.seat
+    (area_of (g.P.Part.part c.args.domain.now.protocol)) c.args.text.now (text_of c.args.text.now)
+    (is_text_of c.args.text.now c.requires.text.0 (omega (arith, c.requires.text.1)))
+    c.args.seat.now c.seek.new.seat
     (absent_leaves c.args.domain.now
     (place_of g.P.Part.seen g.P.Part.with_seen g.P.Part.reads g.P.Part.puts_back
     g.P.Part.puts_over)
-    (area_of (g.P.Part.part c.args.domain.now.protocol)) c.sought_of-sought.result.head
+    (area_of (g.P.Part.part c.args.domain.now.protocol)) (text_of c.args.text.now)
     c.args.seat.now c.seek.new.seat c.seek.result c.in-Ok-Absent.passed
     (c.in-Ok-Absent.is ∙ ap Ok c.in-Ok-Absent.field-0-is)
     c.seek.ensures.leaves)
     (absent_learns c.args.domain.now
     (place_of g.P.Part.seen g.P.Part.with_seen g.P.Part.reads g.P.Part.puts_back
     g.P.Part.puts_over)
-    (area_of (g.P.Part.part c.args.domain.now.protocol)) c.sought_of-sought.result.head
+    (area_of (g.P.Part.part c.args.domain.now.protocol)) (text_of c.args.text.now)
     c.args.seat.now c.seek.new.seat c.seek.result c.in-Ok-Absent.passed
     (c.in-Ok-Absent.is ∙ ap Ok c.in-Ok-Absent.field-0-is)
     c.seek.ensures.learns)
@@ -35,19 +40,20 @@ returns-in-Ok-Absent-clause-none g c = λ refused other.
     added_none c.args.domain.now
     (place_of g.P.Part.seen g.P.Part.with_seen g.P.Part.reads g.P.Part.puts_back
     g.P.Part.puts_over)
-    (area_of (g.P.Part.part c.args.domain.now.protocol)) c.args.text.now c.sought_of-sought.result.head
-    c.sought_of-sought.ensures.text c.args.seat.now c.seek.new.seat
+    (area_of (g.P.Part.part c.args.domain.now.protocol)) c.args.text.now (text_of c.args.text.now)
+    (is_text_of c.args.text.now c.requires.text.0 (omega (arith, c.requires.text.1)))
+    c.args.seat.now c.seek.new.seat
     (absent_leaves c.args.domain.now
     (place_of g.P.Part.seen g.P.Part.with_seen g.P.Part.reads g.P.Part.puts_back
     g.P.Part.puts_over)
-    (area_of (g.P.Part.part c.args.domain.now.protocol)) c.sought_of-sought.result.head
+    (area_of (g.P.Part.part c.args.domain.now.protocol)) (text_of c.args.text.now)
     c.args.seat.now c.seek.new.seat c.seek.result c.in-Ok-Absent.passed
     (c.in-Ok-Absent.is ∙ ap Ok c.in-Ok-Absent.field-0-is)
     c.seek.ensures.leaves)
     (absent_learns c.args.domain.now
     (place_of g.P.Part.seen g.P.Part.with_seen g.P.Part.reads g.P.Part.puts_back
     g.P.Part.puts_over)
-    (area_of (g.P.Part.part c.args.domain.now.protocol)) c.sought_of-sought.result.head
+    (area_of (g.P.Part.part c.args.domain.now.protocol)) (text_of c.args.text.now)
     c.args.seat.now c.seek.new.seat c.seek.result c.in-Ok-Absent.passed
     (c.in-Ok-Absent.is ∙ ap Ok c.in-Ok-Absent.field-0-is)
     c.seek.ensures.learns)
@@ -55,7 +61,7 @@ returns-in-Ok-Absent-clause-none g c = λ refused other.
     (absent_none c.args.domain.now
     (place_of g.P.Part.seen g.P.Part.with_seen g.P.Part.reads g.P.Part.puts_back
     g.P.Part.puts_over)
-    (area_of (g.P.Part.part c.args.domain.now.protocol)) c.sought_of-sought.result.head
+    (area_of (g.P.Part.part c.args.domain.now.protocol)) (text_of c.args.text.now)
     c.args.seat.now c.seek.new.seat c.seek.result c.in-Ok-Absent.passed
     (c.in-Ok-Absent.is ∙ ap Ok c.in-Ok-Absent.field-0-is)
     c.seek.ensures.comes)
@@ -66,19 +72,20 @@ returns-in-Ok-Absent-clause-leaves g c =
     added_leaves c.args.domain.now
     (place_of g.P.Part.seen g.P.Part.with_seen g.P.Part.reads g.P.Part.puts_back
     g.P.Part.puts_over)
-    (area_of (g.P.Part.part c.args.domain.now.protocol)) c.args.text.now c.sought_of-sought.result.head
-    c.sought_of-sought.ensures.text c.args.seat.now c.seek.new.seat
+    (area_of (g.P.Part.part c.args.domain.now.protocol)) c.args.text.now (text_of c.args.text.now)
+    (is_text_of c.args.text.now c.requires.text.0 (omega (arith, c.requires.text.1)))
+    c.args.seat.now c.seek.new.seat
     (absent_leaves c.args.domain.now
     (place_of g.P.Part.seen g.P.Part.with_seen g.P.Part.reads g.P.Part.puts_back
     g.P.Part.puts_over)
-    (area_of (g.P.Part.part c.args.domain.now.protocol)) c.sought_of-sought.result.head
+    (area_of (g.P.Part.part c.args.domain.now.protocol)) (text_of c.args.text.now)
     c.args.seat.now c.seek.new.seat c.seek.result c.in-Ok-Absent.passed
     (c.in-Ok-Absent.is ∙ ap Ok c.in-Ok-Absent.field-0-is)
     c.seek.ensures.leaves)
     (absent_learns c.args.domain.now
     (place_of g.P.Part.seen g.P.Part.with_seen g.P.Part.reads g.P.Part.puts_back
     g.P.Part.puts_over)
-    (area_of (g.P.Part.part c.args.domain.now.protocol)) c.sought_of-sought.result.head
+    (area_of (g.P.Part.part c.args.domain.now.protocol)) (text_of c.args.text.now)
     c.args.seat.now c.seek.new.seat c.seek.result c.in-Ok-Absent.passed
     (c.in-Ok-Absent.is ∙ ap Ok c.in-Ok-Absent.field-0-is)
     c.seek.ensures.learns)
@@ -89,20 +96,95 @@ returns-in-Ok-Absent-clause-grows g c =
     added_grows c.args.domain.now
     (place_of g.P.Part.seen g.P.Part.with_seen g.P.Part.reads g.P.Part.puts_back
     g.P.Part.puts_over)
-    (area_of (g.P.Part.part c.args.domain.now.protocol)) c.args.text.now c.sought_of-sought.result.head
-    c.sought_of-sought.ensures.text c.args.seat.now c.seek.new.seat
+    (area_of (g.P.Part.part c.args.domain.now.protocol)) c.args.text.now (text_of c.args.text.now)
+    (is_text_of c.args.text.now c.requires.text.0 (omega (arith, c.requires.text.1)))
+    c.args.seat.now c.seek.new.seat
     (absent_leaves c.args.domain.now
     (place_of g.P.Part.seen g.P.Part.with_seen g.P.Part.reads g.P.Part.puts_back
     g.P.Part.puts_over)
-    (area_of (g.P.Part.part c.args.domain.now.protocol)) c.sought_of-sought.result.head
+    (area_of (g.P.Part.part c.args.domain.now.protocol)) (text_of c.args.text.now)
     c.args.seat.now c.seek.new.seat c.seek.result c.in-Ok-Absent.passed
     (c.in-Ok-Absent.is ∙ ap Ok c.in-Ok-Absent.field-0-is)
     c.seek.ensures.leaves)
     (absent_learns c.args.domain.now
     (place_of g.P.Part.seen g.P.Part.with_seen g.P.Part.reads g.P.Part.puts_back
     g.P.Part.puts_over)
-    (area_of (g.P.Part.part c.args.domain.now.protocol)) c.sought_of-sought.result.head
+    (area_of (g.P.Part.part c.args.domain.now.protocol)) (text_of c.args.text.now)
     c.args.seat.now c.seek.new.seat c.seek.result c.in-Ok-Absent.passed
     (c.in-Ok-Absent.is ∙ ap Ok c.in-Ok-Absent.field-0-is)
     c.seek.ensures.learns)
     c.add.new.seat (interned_by c.add.result) c.add.ensures.grows
+
+pub seek-requires-clause-sought : goal.seek-requires-clause-sought
+seek-requires-clause-sought g c =
+    sought_is c.args.text.now c.head_of.result c.hash_of.result
+    (λ i. omega (arith, c.type_inv.text i)) c.requires.text.0 (omega (arith, c.requires.text.1))
+    c.head_of.ensures c.hash_of.ensures.hash c.hash_of.ensures.small
+
+pub returns-in-Ok-Absent-clause-knows : goal.returns-in-Ok-Absent-clause-knows
+returns-in-Ok-Absent-clause-knows g c =
+    all_knows g.P.Part.seen c.args.text.now (text_of c.args.text.now)
+    (is_text_of c.args.text.now c.requires.text.0 (omega (arith, c.requires.text.1)))
+    c.add.new.seat c.add.result c.add.ensures.knows
+
+pub returns-in-Ok-Absent-clause-full : goal.returns-in-Ok-Absent-clause-full
+returns-in-Ok-Absent-clause-full g c told =
+    misses_after g.P.Kind.PayloadKind.fits c.args.domain.now c.args.seat.now c.seek.new.seat
+    c.add.new.seat
+    (absent_leaves c.args.domain.now
+    (place_of g.P.Part.seen g.P.Part.with_seen g.P.Part.reads g.P.Part.puts_back
+    g.P.Part.puts_over)
+    (area_of (g.P.Part.part c.args.domain.now.protocol)) (text_of c.args.text.now)
+    c.args.seat.now c.seek.new.seat c.seek.result c.in-Ok-Absent.passed
+    (c.in-Ok-Absent.is ∙ ap Ok c.in-Ok-Absent.field-0-is)
+    c.seek.ensures.leaves).goes
+    (c.add.ensures.full told)
+
+pub add-requires-clause-sought : goal.add-requires-clause-sought
+add-requires-clause-sought g c =
+    sought_is c.args.text.now c.head_of.result c.hash_of.result
+    (λ i. omega (arith, c.type_inv.text i)) c.requires.text.0 (omega (arith, c.requires.text.1))
+    c.head_of.ensures c.hash_of.ensures.hash c.hash_of.ensures.small
+
+pub returns-in-Ok-Record-clause-interns : goal.returns-in-Ok-Record-clause-interns
+returns-in-Ok-Record-clause-interns g c =
+    walked_interns c.args.domain.now g.P.Part.seen (area_of (g.P.Part.part
+    c.args.domain.now.protocol))
+    c.args.text.now (text_of c.args.text.now)
+    (is_text_of c.args.text.now c.requires.text.0 (omega (arith, c.requires.text.1)))
+    c.args.seat.now c.seek.new.seat c.seek.result c.in-Ok-Record.strong
+    (c.in-Ok-Record.is ∙ ap Ok c.in-Ok-Record.field-0-is) c.seek.ensures.comes
+
+pub returns-in-Ok-Record-clause-knows : goal.returns-in-Ok-Record-clause-knows
+returns-in-Ok-Record-clause-knows g c =
+    walked_knows c.args.domain.now g.P.Part.seen (area_of (g.P.Part.part
+    c.args.domain.now.protocol))
+    c.args.text.now (text_of c.args.text.now)
+    (is_text_of c.args.text.now c.requires.text.0 (omega (arith, c.requires.text.1)))
+    c.args.seat.now c.seek.new.seat c.seek.result c.in-Ok-Record.strong
+    (c.in-Ok-Record.is ∙ ap Ok c.in-Ok-Record.field-0-is) c.seek.ensures.comes
+
+pub returns-in-Ok-Record-clause-owned : goal.returns-in-Ok-Record-clause-owned
+returns-in-Ok-Record-clause-owned g c =
+    walked_owned c.args.domain.now g.P.Part.seen (area_of (g.P.Part.part
+    c.args.domain.now.protocol))
+    c.args.text.now (text_of c.args.text.now)
+    (is_text_of c.args.text.now c.requires.text.0 (omega (arith, c.requires.text.1)))
+    c.args.seat.now c.seek.new.seat c.seek.result c.in-Ok-Record.strong
+    (c.in-Ok-Record.is ∙ ap Ok c.in-Ok-Record.field-0-is) c.seek.ensures.leaves
+
+pub returns-in-Ok-Absent-clause-owned : goal.returns-in-Ok-Absent-clause-owned
+returns-in-Ok-Absent-clause-owned g c =
+    answered_owned c.add.result c.seek.new.seat c.add.new.seat c.add.ensures.leaves
+
+pub returns-in-Ok-Absent-clause-makes : goal.returns-in-Ok-Absent-clause-makes
+returns-in-Ok-Absent-clause-makes g c =
+    omega (arith, c.seek.ensures.makes, c.add.ensures.makes)
+
+pub returns-in-Ok-Record-clause-makes : goal.returns-in-Ok-Record-clause-makes
+returns-in-Ok-Record-clause-makes g c =
+    omega (arith, c.seek.ensures.makes)
+
+pub returns-in-Err-clause-makes : goal.returns-in-Err-clause-makes
+returns-in-Err-clause-makes g c =
+    omega (arith, c.seek.ensures.makes)

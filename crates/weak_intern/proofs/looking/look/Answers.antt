@@ -1,6 +1,8 @@
+use Rattle.std.proofs.Common.{◌∙◌}
 use Rattle.directory_calls.specs.Directories.{area_of}
 use Rattle.weak_intern.specs.Walking.{met_by, taken_by}
 use Rattle.directory_calls.proofs.Parts.{place_of, zero_then}
+use Rattle.record_making.specs.Texts.{text_of}
 use Rattle.weak_intern.proofs.Meeting.{held_there, look_leaves, look_met, saw_owned, saw_there}
 use Rattle.weak_intern.proofs.looking.look.Goals as goal
 
@@ -29,7 +31,7 @@ returns-in-Some-clause-meets g c =
     (area_of (g.P.Part.part c.args.domain.now.protocol)) c.in-Some.weak.slot
     (held_there c.args.seat.now c.see.new.seat c.in_ok-weak.field-0 c.in-Some.weak c.in-Some.is
     c.in_ok-weak.ensures.leaves)
-    c.args.cell c.args.head.now c.meet.result
+    c.args.cell (text_of c.args.sought.now.text.now) c.meet.result
     (saw_there g.P.Part.seen c.args.domain.now (area_of (g.P.Part.part c.args.domain.now.protocol))
     c.args.cell c.args.seat.now c.see.new.seat c.in_ok-weak.field-0 c.in-Some.weak c.in-Some.is
     c.in_ok-weak.ensures.sees)
@@ -51,3 +53,7 @@ returns-in-Some-clause-learns g c =
     g.P.Part.puts_over)
     (taken_by c.args.intern c.meet.result) c.args.seat.now.view.client c.see.new.seat.view.client
     c.meet.new.seat.view.client c.see.ensures.learns c.meet.ensures.learns
+
+pub returns-in-Some-clause-makes : goal.returns-in-Some-clause-makes
+returns-in-Some-clause-makes g c =
+    c.meet.ensures.makes ∙ c.see.ensures.makes

@@ -2,7 +2,7 @@ use Rattle.std.proofs.Common.{ap, sym, subst}
 use Rattle.directory_calls.specs.Directories.{CanCount, area_of}
 use Rattle.weak_intern.specs.Walking.{raised_by}
 use Rattle.directory_calls.proofs.Parts.{part_as, place_of}
-use Rattle.weak_intern.proofs.Raised.{raised_ended, raised_learns, raised_leaves, raised_live, ready}
+use Rattle.weak_intern.proofs.Raised.{raised_begun, raised_ended, raised_learns, raised_leaves, raised_live, raised_makes, ready}
 use Rattle.weak_intern.proofs.seeing.raise.Goals as goal
 
 pub upgrade-raised-requires-clause-deed : goal.upgrade-raised-requires-clause-deed
@@ -21,6 +21,17 @@ upgrade-raised-requires-clause-deed g c =
 pub returns-clause-live : goal.returns-clause-live
 returns-clause-live g c =
     raised_live g.P.Kind.PayloadKind.fits c.args.domain.now
+    (place_of g.P.Part.seen g.P.Part.with_seen g.P.Part.reads g.P.Part.puts_back
+    g.P.Part.puts_over)
+    (area_of (g.P.Part.part c.args.domain.now.protocol)) c.new-deed.result.deed.intern
+    c.args.weak.slot c.args.seat.now c.requires.owned
+    c.drop_weak.new.seat c.upgrade-raised.new.seat c.upgrade-raised.result
+    c.upgrade-raised.ensures.upgraded c.upgrade-raised.ensures.objects c.drop_weak.ensures.dropped
+    c.drop_weak.ensures.objects c.drop_weak.ensures.client c.upgrade-raised.ensures.owned
+
+pub returns-clause-begins : goal.returns-clause-begins
+returns-clause-begins g c =
+    raised_begun g.P.Kind.PayloadKind.fits c.args.domain.now
     (place_of g.P.Part.seen g.P.Part.with_seen g.P.Part.reads g.P.Part.puts_back
     g.P.Part.puts_over)
     (area_of (g.P.Part.part c.args.domain.now.protocol)) c.new-deed.result.deed.intern
@@ -62,6 +73,18 @@ returns-clause-learns g c =
 pub returns-clause-leaves : goal.returns-clause-leaves
 returns-clause-leaves g c =
     raised_leaves g.P.Kind.PayloadKind.fits c.args.domain.now
+    (place_of g.P.Part.seen g.P.Part.with_seen g.P.Part.reads g.P.Part.puts_back
+    g.P.Part.puts_over)
+    (area_of (g.P.Part.part c.args.domain.now.protocol)) c.new-deed.result.deed.intern
+    c.args.weak.slot c.args.seat.now c.requires.owned
+    c.drop_weak.new.seat c.upgrade-raised.new.seat c.upgrade-raised.result
+    c.upgrade-raised.ensures.upgraded c.upgrade-raised.ensures.objects c.drop_weak.ensures.dropped
+    c.drop_weak.ensures.objects c.drop_weak.ensures.client c.upgrade-raised.ensures.refused
+    c.upgrade-raised.ensures.ended
+
+pub returns-clause-makes : goal.returns-clause-makes
+returns-clause-makes g c =
+    raised_makes g.P.Kind.PayloadKind.fits c.args.domain.now
     (place_of g.P.Part.seen g.P.Part.with_seen g.P.Part.reads g.P.Part.puts_back
     g.P.Part.puts_over)
     (area_of (g.P.Part.part c.args.domain.now.protocol)) c.new-deed.result.deed.intern

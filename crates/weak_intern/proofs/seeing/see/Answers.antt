@@ -74,3 +74,23 @@ returns-in-None-clause-learns g c =
     c.number-at.ensures.is c.args.seat.now c.requires.rest c.load.new.seat c.in_ok-slot.field-0
     None c.in-None.is
     c.in_ok-slot.ensures.loaded c.load.ensures.objects).2
+
+pub returns-in-Some-clause-makes : goal.returns-in-Some-clause-makes
+returns-in-Some-clause-makes g c =
+    (after_load g.P.Kind.PayloadKind.fits c.args.domain.now
+    (place_of g.P.Part.seen g.P.Part.with_seen g.P.Part.reads g.P.Part.puts_back
+    g.P.Part.puts_over)
+    (area_of (g.P.Part.part c.args.domain.now.protocol)) c.number-at.result c.args.cell
+    c.number-at.ensures.is c.args.seat.now c.requires.rest c.load.new.seat c.in_ok-slot.field-0
+    (Some c.of.result.slot) (c.in-Some.is ∙ ap Some (sym c.of.ensures))
+    c.in_ok-slot.ensures.loaded c.load.ensures.objects).3
+
+pub returns-in-None-clause-makes : goal.returns-in-None-clause-makes
+returns-in-None-clause-makes g c =
+    (after_load g.P.Kind.PayloadKind.fits c.args.domain.now
+    (place_of g.P.Part.seen g.P.Part.with_seen g.P.Part.reads g.P.Part.puts_back
+    g.P.Part.puts_over)
+    (area_of (g.P.Part.part c.args.domain.now.protocol)) c.number-at.result c.args.cell
+    c.number-at.ensures.is c.args.seat.now c.requires.rest c.load.new.seat c.in_ok-slot.field-0
+    None c.in-None.is
+    c.in_ok-slot.ensures.loaded c.load.ensures.objects).3

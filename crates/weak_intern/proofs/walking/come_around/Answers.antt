@@ -1,5 +1,5 @@
 use Rattle.directory_calls.specs.Directories.{area_of}
-use Rattle.weak_intern.proofs.Found.{around_client, around_ends, around_leaves, around_rest}
+use Rattle.weak_intern.proofs.Found.{around_client, around_ends, around_leaves, around_makes, around_rest}
 use Rattle.directory_calls.proofs.Parts.{place_of}
 use Rattle.weak_intern.proofs.walking.come_around.Goals as goal
 
@@ -22,6 +22,14 @@ returns-clause-leaves g c =
 pub returns-clause-client : goal.returns-clause-client
 returns-clause-client g c =
     around_client g.P.Kind.PayloadKind.fits c.args.domain.now
+    (place_of g.P.Part.seen g.P.Part.with_seen g.P.Part.reads g.P.Part.puts_back
+    g.P.Part.puts_over)
+    (area_of (g.P.Part.part c.args.domain.now.protocol)) c.number-at.result c.args.seat.now
+    c.look.new.seat c.look.result c.look.ensures
+
+pub returns-clause-makes : goal.returns-clause-makes
+returns-clause-makes g c =
+    around_makes g.P.Kind.PayloadKind.fits c.args.domain.now
     (place_of g.P.Part.seen g.P.Part.with_seen g.P.Part.reads g.P.Part.puts_back
     g.P.Part.puts_over)
     (area_of (g.P.Part.part c.args.domain.now.protocol)) c.number-at.result c.args.seat.now

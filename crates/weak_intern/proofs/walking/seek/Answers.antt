@@ -1,6 +1,7 @@
-use Rattle.std.proofs.Common.{arith}
+use Rattle.std.proofs.Common.{arith, ◌∙◌}
 use Rattle.std.proofs.lemmas.Result.{err_from_is_err_and}
 use Rattle.directory_calls.specs.Directories.{area_of}
+use Rattle.record_making.specs.Texts.{text_of}
 use Rattle.weak_intern.proofs.Found.{around_found, at_cell, null_found, null_leaves, other_passed, record_found, record_leaves, refused_learns}
 use Rattle.directory_calls.proofs.Parts.{place_of}
 use Rattle.weak_intern.proofs.walking.seek.Goals as goal
@@ -11,7 +12,8 @@ returns-in_err-look-clause-learns g c =
     refused_learns c.args.domain.now
     (place_of g.P.Part.seen g.P.Part.with_seen g.P.Part.reads g.P.Part.puts_back
     g.P.Part.puts_over)
-    (area_of (g.P.Part.part c.args.domain.now.protocol)) c.args.sought.now.head c.args.seat.now
+    (area_of (g.P.Part.part c.args.domain.now.protocol)) (text_of c.args.sought.now.text.now)
+    c.args.seat.now
     c.loop-passed.passed c.loop-passed.seat
     c.look.new.seat c.loop-passed.invariant c.args.intern c.from_residual.result p.0 p.1
     c.in_err-look.ensures.learns
@@ -21,11 +23,13 @@ returns-in-Null-clause-comes g c =
     (null_found c.args.domain.now
     (place_of g.P.Part.seen g.P.Part.with_seen g.P.Part.reads g.P.Part.puts_back
     g.P.Part.puts_over)
-    (area_of (g.P.Part.part c.args.domain.now.protocol)) c.args.sought.now.head c.args.seat.now
+    (area_of (g.P.Part.part c.args.domain.now.protocol)) (text_of c.args.sought.now.text.now)
+    c.args.seat.now
     c.loop-passed.passed c.loop-passed.seat
     c.look.new.seat c.loop-passed.invariant c.args.intern c.cell_on-cell.result
     c.in_ok-look.field-0 c.in-Null.is
-    (at_cell (area_of (g.P.Part.part c.args.domain.now.protocol)) c.args.sought.now.head
+    (at_cell (area_of (g.P.Part.part c.args.domain.now.protocol)) (text_of
+    c.args.sought.now.text.now)
     c.args.sought.now.hash c.loop-passed.passed c.args.directory.now.cells c.cell_on-cell.result
     c.requires.sought.place c.requires.over.cells c.cell_on-cell.ensures.cell)
     c.in_ok-look.ensures.meets c.in_ok-look.ensures.learns
@@ -36,7 +40,8 @@ returns-in-Null-clause-leaves g c =
     null_leaves c.args.domain.now
     (place_of g.P.Part.seen g.P.Part.with_seen g.P.Part.reads g.P.Part.puts_back
     g.P.Part.puts_over)
-    (area_of (g.P.Part.part c.args.domain.now.protocol)) c.args.sought.now.head c.args.seat.now
+    (area_of (g.P.Part.part c.args.domain.now.protocol)) (text_of c.args.sought.now.text.now)
+    c.args.seat.now
     c.loop-passed.passed c.loop-passed.seat
     c.look.new.seat c.loop-passed.invariant c.in_ok-look.field-0 c.in-Null.is
     c.in_ok-look.ensures.leaves
@@ -46,22 +51,37 @@ returns-in-Null-clause-learns g c =
     (null_found c.args.domain.now
     (place_of g.P.Part.seen g.P.Part.with_seen g.P.Part.reads g.P.Part.puts_back
     g.P.Part.puts_over)
-    (area_of (g.P.Part.part c.args.domain.now.protocol)) c.args.sought.now.head c.args.seat.now
+    (area_of (g.P.Part.part c.args.domain.now.protocol)) (text_of c.args.sought.now.text.now)
+    c.args.seat.now
     c.loop-passed.passed c.loop-passed.seat
     c.look.new.seat c.loop-passed.invariant c.args.intern c.cell_on-cell.result
     c.in_ok-look.field-0 c.in-Null.is
-    (at_cell (area_of (g.P.Part.part c.args.domain.now.protocol)) c.args.sought.now.head
+    (at_cell (area_of (g.P.Part.part c.args.domain.now.protocol)) (text_of
+    c.args.sought.now.text.now)
     c.args.sought.now.hash c.loop-passed.passed c.args.directory.now.cells c.cell_on-cell.result
     c.requires.sought.place c.requires.over.cells c.cell_on-cell.ensures.cell)
     c.in_ok-look.ensures.meets c.in_ok-look.ensures.learns
     (omega (arith, c.loop-passed-test.true, c.requires.over.cells))).1
+
+pub returns-in-Record-clause-comes : goal.returns-in-Record-clause-comes
+returns-in-Record-clause-comes g c =
+    (record_found c.args.domain.now
+    (place_of g.P.Part.seen g.P.Part.with_seen g.P.Part.reads g.P.Part.puts_back
+    g.P.Part.puts_over)
+    (area_of (g.P.Part.part c.args.domain.now.protocol)) (text_of c.args.sought.now.text.now)
+    c.args.seat.now
+    c.loop-passed.passed c.loop-passed.seat
+    c.look.new.seat c.loop-passed.invariant c.args.intern c.cell_on-cell.result
+    c.in_ok-look.field-0 c.in-Record.strong c.in-Record.is c.in_ok-look.ensures.meets
+    c.in_ok-look.ensures.learns).0
 
 pub returns-in-Record-clause-leaves : goal.returns-in-Record-clause-leaves
 returns-in-Record-clause-leaves g c =
     record_leaves c.args.domain.now
     (place_of g.P.Part.seen g.P.Part.with_seen g.P.Part.reads g.P.Part.puts_back
     g.P.Part.puts_over)
-    (area_of (g.P.Part.part c.args.domain.now.protocol)) c.args.sought.now.head c.args.seat.now
+    (area_of (g.P.Part.part c.args.domain.now.protocol)) (text_of c.args.sought.now.text.now)
+    c.args.seat.now
     c.loop-passed.passed c.loop-passed.seat
     c.look.new.seat c.loop-passed.invariant c.in_ok-look.field-0 c.in-Record.strong c.in-Record.is
     c.in_ok-look.ensures.leaves
@@ -71,7 +91,8 @@ returns-in-Record-clause-learns g c =
     (record_found c.args.domain.now
     (place_of g.P.Part.seen g.P.Part.with_seen g.P.Part.reads g.P.Part.puts_back
     g.P.Part.puts_over)
-    (area_of (g.P.Part.part c.args.domain.now.protocol)) c.args.sought.now.head c.args.seat.now
+    (area_of (g.P.Part.part c.args.domain.now.protocol)) (text_of c.args.sought.now.text.now)
+    c.args.seat.now
     c.loop-passed.passed c.loop-passed.seat
     c.look.new.seat c.loop-passed.invariant c.args.intern c.cell_on-cell.result
     c.in_ok-look.field-0 c.in-Record.strong c.in-Record.is c.in_ok-look.ensures.meets
@@ -82,23 +103,42 @@ loop-passed-preserved g c =
     other_passed c.args.domain.now
     (place_of g.P.Part.seen g.P.Part.with_seen g.P.Part.reads g.P.Part.puts_back
     g.P.Part.puts_over)
-    (area_of (g.P.Part.part c.args.domain.now.protocol)) c.args.sought.now.head c.args.seat.now
+    (area_of (g.P.Part.part c.args.domain.now.protocol)) (text_of c.args.sought.now.text.now)
+    c.args.seat.now
     c.loop-passed.passed c.loop-passed.seat
     c.look.new.seat c.loop-passed.invariant c.args.intern c.cell_on-cell.result
     c.in_ok-look.field-0 c.in-Other.is
-    (at_cell (area_of (g.P.Part.part c.args.domain.now.protocol)) c.args.sought.now.head
+    (at_cell (area_of (g.P.Part.part c.args.domain.now.protocol)) (text_of
+    c.args.sought.now.text.now)
     c.args.sought.now.hash c.loop-passed.passed c.args.directory.now.cells c.cell_on-cell.result
     c.requires.sought.place c.requires.over.cells c.cell_on-cell.ensures.cell)
     c.in_ok-look.ensures.meets c.in_ok-look.ensures.leaves c.in_ok-look.ensures.learns
-    c.in_ok-look.ensures.refused c.look.ensures.room c.look.ensures.rest
+    c.in_ok-look.ensures.refused c.look.ensures.room c.look.ensures.rest c.look.ensures.makes
 
 pub returns-clause-comes : goal.returns-clause-comes
 returns-clause-comes g c =
     around_found c.args.domain.now
     (place_of g.P.Part.seen g.P.Part.with_seen g.P.Part.reads g.P.Part.puts_back
     g.P.Part.puts_over)
-    (area_of (g.P.Part.part c.args.domain.now.protocol)) c.args.sought.now.head c.args.seat.now
+    (area_of (g.P.Part.part c.args.domain.now.protocol)) (text_of c.args.sought.now.text.now)
+    c.args.seat.now
     c.loop-passed.passed c.loop-passed.seat
     c.come_around.new.seat c.loop-passed.invariant
     (omega (arith, c.loop-passed-test.false, c.requires.over.cells))
     (omega (arith, c.requires.over.some_cells, c.requires.over.cells)) c.come_around.ensures.ends
+
+pub returns-in_err-look-clause-makes : goal.returns-in_err-look-clause-makes
+returns-in_err-look-clause-makes g c =
+    c.look.ensures.makes ∙ c.loop-passed.invariant.makes
+
+pub returns-in-Null-clause-makes : goal.returns-in-Null-clause-makes
+returns-in-Null-clause-makes g c =
+    c.look.ensures.makes ∙ c.loop-passed.invariant.makes
+
+pub returns-in-Record-clause-makes : goal.returns-in-Record-clause-makes
+returns-in-Record-clause-makes g c =
+    c.look.ensures.makes ∙ c.loop-passed.invariant.makes
+
+pub returns-clause-makes : goal.returns-clause-makes
+returns-clause-makes g c =
+    c.come_around.ensures.makes ∙ c.loop-passed.invariant.makes

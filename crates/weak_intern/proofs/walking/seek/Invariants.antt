@@ -1,8 +1,9 @@
 use Rattle.directory_calls.specs.Directories.{area_of}
+use Rattle.record_making.specs.Texts.{text_of}
 use Rattle.weak_intern.proofs.Found.{Walks}
 use Rattle.weak_intern.proofs.walking.seek.Given as goal
 
 abbrev pub invariant-loop-passed : goal.invariant-loop-passed
 invariant-loop-passed g l =
     Walks l.domain g.P.Part.seen g.P.Part.with_seen (area_of (g.P.Part.part l.domain.protocol))
-    l.sought.head l.passed l.fn.seat l.seat
+    (text_of l.sought.text.now) l.passed l.fn.seat l.seat

@@ -1,5 +1,5 @@
 -- What a make with the deed MakeSlot asks, and what it leaves.
-use Rattle.std.proofs.Common.{◌≡◌, ℕ, ◌<◌, List, [], ◌∷◌, refl, ap, sym, ◌∙◌, subst, arith, Some, None}
+use Rattle.std.proofs.Common.{◌≡◌, ℕ, ◌+◌, ◌<◌, List, [], ◌∷◌, refl, ap, sym, ◌∙◌, subst, arith, Some, None}
 use Rattle.std.specs.Prelude.{Err, IfOk, Ok, Result, if◌then◌else◌}
 use Rattle.plain_state.specs.declared.act.PlainAct.{PlainAct}
 use Rattle.plain_state.specs.declared.act.PlainAct.TheVariants as plain
@@ -34,7 +34,7 @@ use Rattle.directory_law.specs.Payloads.{IsOwn}
 use Rattle.directory_law.specs.Steps.{life_in, life_of, payload_in, payload_of}
 use Rattle.directory_law.specs.Views.{rope}
 use Rattle.directory_protocol.specs.Keeping.{MindsNone}
-use Rattle.weak_intern.specs.Interning.{candidate_in, with_noted}
+use Rattle.record_making.specs.Making.{candidate_in, made_by, with_notes}
 use Rattle.directory_calls.specs.Steps.{Leaves, handle_by, with_found}
 use Rattle.directory_calls.proofs.Going.{leaves_core, leaves_none}
 use Rattle.directory_calls.proofs.Parts.{Place, lift_ready, lifts, tells}
@@ -93,7 +93,8 @@ module _ {P V : Type 0} (fits : List ℕ → Type 0) (d : DomainState P) (l : Pl
       → 0 < times s new.view.core.owned
       → new.view.client
       ≡ l.with_seen old.view.client
-      (with_noted (candidate_in s head new) (l.seen old.view.client))
+      (with_notes (candidate_in s (head ∷ []) new ∷ (l.seen old.view.client).noted)
+      (l.seen old.view.client))
   made_noted s makes owns =
       let mid = makes.mid in
       let late = makes.starts.walks.0 in
@@ -103,17 +104,20 @@ module _ {P V : Type 0} (fits : List ℕ → Type 0) (d : DomainState P) (l : Pl
       let life = own_life s new has_new in
       let payload : payload_in (own_of new.view) s ≡ head =
       own_payload s new has_new ∙ ap (λ (o : Object). o.payload) makes.object in
-      let noted : alone (own_of new.view) s ≡ candidate_in s head new =
+      let noted : alone (own_of new.view) s ≡ candidate_in s (head ∷ []) new =
       λ i. rope s (life i) (payload i ∷ []) in
       ap (λ (x : SeatState V). x.view.client) makes.starts.walks.2
       ∙ step.told.client
       ∙ ap (λ a. lifts l make_next (own_of mid.view) (own_of late.view) mid.view.client a step.word)
       (act_is fits d l head s old mid makes.begins)
-      ∙ ap (λ c. l.with_seen c (with_noted (alone (own_of late.view) s) (l.seen c)))
+      ∙ ap (λ c. l.with_seen c (with_notes (alone (own_of late.view) s ∷ (l.seen c).noted) (l.seen
+      c)))
       makes.begins.goes.client
       ∙ ap (λ (x : SeatState V). l.with_seen old.view.client
-      (with_noted (alone (own_of x.view) s) (l.seen old.view.client))) (sym makes.starts.walks.2)
-      ∙ ap (λ (e : Rope). l.with_seen old.view.client (with_noted e (l.seen old.view.client))) noted
+      (with_notes (alone (own_of x.view) s ∷ (l.seen old.view.client).noted)
+      (l.seen old.view.client))) (sym makes.starts.walks.2)
+      ∙ ap (λ (e : Rope). l.with_seen old.view.client (with_notes (e ∷ (l.seen
+      old.view.client).noted) (l.seen old.view.client))) noted
 
   pub made_all : (r : Result Handle MakeError)
       → IfOk r (λ strong. Makes fits d (lifts l make_next) (tells l (MakeTells z)) head strong.slot
@@ -121,7 +125,8 @@ module _ {P V : Type 0} (fits : List ℕ → Type 0) (d : DomainState P) (l : Pl
       → IfOk r (λ strong. 0 < times strong.slot new.view.core.owned)
       → IfOk r (λ strong. new.view.client
       ≡ l.with_seen old.view.client
-      (with_noted (candidate_in strong.slot head new) (l.seen old.view.client)))
+      (with_notes (candidate_in strong.slot (head ∷ []) new ∷ (l.seen old.view.client).noted)
+      (l.seen old.view.client)))
   made_all (Ok strong) makes owns = made_noted strong.slot makes owns
   made_all (Err error) makes owns = tt
 
@@ -149,3 +154,25 @@ module _ {P V : Type 0} (fits : List ℕ → Type 0) (d : DomainState P) (l : Pl
       go (Err refused.AddsSpent) is makes = same (adds_spent is)
       go (Err refused.Full) is makes =
           leaves_core old new old.view.core _ (full is).goes.becomes.core refl knows
+
+  -- HOW MANY MAKES are used
+  pub made_makes : (r : Result Handle MakeError)
+      → (r ≡ Err refused.MakesSpent → new ≡ old) → (r ≡ Err refused.AddsSpent → new ≡ old)
+      → (r ≡ Err refused.Full → Misses fits d old new)
+      → IfOk r (λ strong. Makes fits d (lifts l make_next) (tells l (MakeTells z)) head strong.slot
+      old new)
+      → new.view.core.makes ≡ old.view.core.makes + made_by r
+  made_makes r makes_spent adds_spent full made = go r refl made
+    where
+      same : new ≡ old → new.view.core.makes ≡ old.view.core.makes + 0
+      same is = let e = ap (λ (x : SeatState V). x.view.core.makes) is in omega (arith, e)
+
+      go : (o : Result Handle MakeError) → r ≡ o
+          → IfOk o (λ strong. Makes fits d (lifts l make_next) (tells l (MakeTells z)) head
+          strong.slot old new)
+          → new.view.core.makes ≡ old.view.core.makes + made_by o
+      go (Ok strong) is makes = ap (λ (v : CoreView). v.makes) makes.core
+      go (Err refused.MakesSpent) is makes = same (makes_spent is)
+      go (Err refused.AddsSpent) is makes = same (adds_spent is)
+      go (Err refused.Full) is makes =
+          let e = ap (λ (v : CoreView). v.makes) (full is).goes.becomes.core in omega (arith, e)

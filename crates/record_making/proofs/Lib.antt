@@ -1,0 +1,7 @@
+pub mod Packed
+pub mod Made
+pub mod Dropped
+pub mod Linked
+pub mod Noted
+pub mod Before
+pub mod Chained

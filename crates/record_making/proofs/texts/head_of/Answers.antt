@@ -1,0 +1,6 @@
+use Rattle.record_making.proofs.Packed.{fit}
+use Rattle.record_making.proofs.texts.head_of.Goals as goal
+
+pub piece-requires : goal.piece-requires
+piece-requires c =
+    fit c.args.text.now c.first_120.result.now c.first_120.ensures c.requires.0

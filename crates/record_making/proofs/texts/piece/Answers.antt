@@ -1,0 +1,7 @@
+use Rattle.record_making.proofs.Packed.{numbered}
+use Rattle.record_making.proofs.texts.piece.Goals as goal
+
+pub returns : goal.returns
+returns c =
+    numbered c.args.number c.args.bytes.now c.record_of-payload.result
+    c.record_of-payload.ensures.packs
