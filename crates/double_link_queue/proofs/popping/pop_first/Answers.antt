@@ -1,0 +1,53 @@
+use Rattle.part_calls.specs.Parts.{as_part, seen_by}
+use Rattle.std.proofs.Common.{ap, sym, subst}
+use Rattle.plain_state.specs.declared.slot.SlotId.{SlotId}
+use Rattle.acquire_retire.proofs.Wholes.{then_ok}
+use Rattle.atomic_shared.specs.Places.{named}
+use Rattle.linked_queue.specs.declared.queue.PopError.{PopError}
+use Rattle.linked_queue.specs.Leaving.{found_by}
+use Rattle.linked_queue.specs.Queues.{deeds_in}
+use Rattle.linked_queue.specs.Pops.{IsWhyUnpopped, PopsAtHead, PopsBehind}
+use Rattle.linked_queue.proofs.Leavings.{drop_leaves}
+use Rattle.linked_queue.proofs.Poppings.{owns_found, pops_through, why_of}
+use Rattle.double_link_queue.proofs.popping.pop_first.Goals as goal
+
+pub returns-in-Err-clause-why : goal.returns-in-Err-clause-why
+returns-in-Err-clause-why g c =
+    subst (λ (e : PopError). IsWhyUnpopped g.P.Kind.PayloadKind.fits (as_part g.P.Part.part c.args.domain.now) 3 e (seen_by g.P.Part.seen c.args.seat.now))
+    (sym c.refusal_of.ensures)
+    (why_of g.P.Kind.PayloadKind.fits (as_part g.P.Part.part c.args.domain.now) 3 c.in-Err.error (seen_by g.P.Part.seen c.args.seat.now) c.in-Err.ensures.why)
+
+pub drop_strong-requires-clause-owned : goal.drop_strong-requires-clause-owned
+drop_strong-requires-clause-owned g c =
+    let gains = c.in-Ok.ensures.leaves in
+    owns_found c.in-Ok.front.slot (found_by c.pop_behind-popped.result)
+    c.args.seat.now.view.core.owned c.see_head.new.seat.view.core.owned
+    c.pop_behind-popped.new.seat.view.core.owned gains.owns
+    c.pop_behind-popped.ensures.popped.leaves.owns
+
+pub returns-clause-events : goal.returns-clause-events
+returns-clause-events g c =
+    then_ok (λ found. PopsBehind g.P.Kind.PayloadKind.fits (as_part g.P.Part.part c.args.domain.now) c.slot.result (named found)
+    (seen_by g.P.Part.seen c.see_head.new.seat) (seen_by g.P.Part.seen c.pop_behind-popped.new.seat))
+    (λ found. PopsAtHead g.P.Kind.PayloadKind.fits (as_part g.P.Part.part c.args.domain.now) (named found) (seen_by g.P.Part.seen c.args.seat.now) (seen_by g.P.Part.seen c.drop_strong.new.seat))
+    c.pop_behind-popped.result
+    (λ found pops. record {
+      front = c.in-Ok.front.slot;
+      seen = (seen_by g.P.Part.seen c.see_head.new.seat);
+      popped = (seen_by g.P.Part.seen c.pop_behind-popped.new.seat);
+      loads = c.in-Ok.ensures.loads;
+      pops = subst (λ (s : SlotId). PopsBehind g.P.Kind.PayloadKind.fits (as_part g.P.Part.part c.args.domain.now) s (named found)
+          (seen_by g.P.Part.seen c.see_head.new.seat) (seen_by g.P.Part.seen c.pop_behind-popped.new.seat)) c.slot.ensures pops;
+      drops = c.drop_strong.ensures.dropped;
+    })
+    c.pop_behind-popped.ensures.events
+
+pub returns-clause-popped : goal.returns-clause-popped
+returns-clause-popped g c =
+    let gains = c.in-Ok.ensures.leaves in
+    pops_through c.in-Ok.front.slot (seen_by g.P.Part.seen c.args.seat.now) (seen_by g.P.Part.seen c.see_head.new.seat)
+    (seen_by g.P.Part.seen c.pop_behind-popped.new.seat) (seen_by g.P.Part.seen c.drop_strong.new.seat) (found_by c.pop_behind-popped.result)
+    gains (ap deeds_in c.see_head.ensures.beside) c.pop_behind-popped.ensures.popped
+    (drop_leaves c.in-Ok.front.slot (seen_by g.P.Part.seen c.pop_behind-popped.new.seat) (seen_by g.P.Part.seen c.drop_strong.new.seat)
+    c.drop_strong.ensures.dropped c.drop_strong.ensures.objects)
+    c.drop_strong.ensures.seen
