@@ -1,1 +1,5 @@
 pub mod Queues
+pub mod Leaving
+pub mod Before
+pub mod Pushes
+pub mod NotPushed
