@@ -1,5 +1,5 @@
 -- The rest of a protocol accepts what the deeds of a doubly linked queue make of a view.
-use Rattle.std.proofs.Common.{◌≡◌, ℕ, Bool, true, false, refl}
+use Rattle.std.proofs.Common.{◌≡◌, Bool, true, false, refl}
 use Rattle.std.specs.Prelude.{cond, ◌==◌}
 use Rattle.part_calls.specs.Parts.{AcceptsAll}
 use Rattle.queue_law.specs.declared.view.Item.{Item}

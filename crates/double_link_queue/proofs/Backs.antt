@@ -1,21 +1,18 @@
 -- A seat's own node leads back to the one that the tail cell held.
-use Rattle.std.proofs.Common.{◌≡◌, ℕ, ◌+◌, ◌<◌, ◌≤◌, refl, ap, sym, ◌∙◌, subst, arith, List}
+use Rattle.std.proofs.Common.{◌≡◌, ℕ, ◌<◌, ap, sym, ◌∙◌, subst, arith, List}
 use Rattle.std.specs.Prelude.{Some}
 use Rattle.plain_state.specs.declared.act.EventPlace.TheVariants.{WeakField}
 use Rattle.plain_state.specs.declared.act.PlainAct.{PlainAct}
-use Rattle.plain_state.specs.declared.act.PlainAct.TheVariants as plain
 use Rattle.plain_state.specs.declared.slot.SlotId.{SlotId}
 use Rattle.plain_state.specs.Lists.{times}
 use Rattle.plain_protocol.specs.Owns.{Object}
 use Rattle.core_events.specs.declared.shape.Shape.{Shape}
 use Rattle.core_events.specs.declared.view.CoreView.{CoreView}
-use Rattle.core_events.specs.Views.{Holds}
 use Rattle.domain_rule.specs.Views.{object_in, own_of}
 use Rattle.acquire_retire.specs.Domains.{DomainState}
 use Rattle.acquire_retire.specs.Seats.{SeatState}
 use Rattle.retiring_stores.specs.Exchanging.{Stores}
 use Rattle.queue_law.specs.declared.view.Eyes.{Eyes}
-use Rattle.queue_law.specs.declared.view.Load.{Load}
 use Rattle.queue_law.specs.declared.view.View.{View}
 use Rattle.queue_law.specs.Lessons.{TellsNothing}
 use Rattle.queue_law.specs.Nodes.{back_next}

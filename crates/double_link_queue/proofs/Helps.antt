@@ -1,8 +1,7 @@
 -- The link behind the node before: what its deeds ask, and what they leave.
-use Rattle.std.proofs.Common.{◌≡◌, ℕ, ◌+◌, ◌<◌, ◌≤◌, Bool, true, false, [], ◌∷◌, ◌++◌, inl, refl, ap, sym, ◌∙◌, subst, arith, List}
+use Rattle.std.proofs.Common.{◌≡◌, ℕ, ◌<◌, Bool, true, false, [], ◌∷◌, ◌++◌, inl, refl, ap, sym, ◌∙◌, subst, arith, List}
 use Rattle.std.specs.Prelude.{Option, Some, None, cond, ◌==◌}
 use Rattle.plain_state.specs.declared.act.EventPlace.TheVariants.{Field}
-use Rattle.plain_state.specs.declared.act.PlainAct.TheVariants as plain
 use Rattle.plain_state.specs.declared.slot.SlotId.{SlotId}
 use Rattle.plain_state.specs.Lists.{times}
 use Rattle.plain_protocol.specs.Owns.{Object}
@@ -13,7 +12,6 @@ use Rattle.core_events.specs.declared.view.CoreView.{CoreView}
 use Rattle.core_events.specs.Views.{without}
 use Rattle.core_events.specs.Words.{slot_in}
 use Rattle.core_invariant.proofs.Kit.{times_push}
-use Rattle.domain_rule.specs.Views.{object_in, own_of}
 use Rattle.acquire_retire.specs.Calls.{IsReady, Steps}
 use Rattle.acquire_retire.specs.Collecting.{move}
 use Rattle.acquire_retire.specs.Domains.{DomainState}

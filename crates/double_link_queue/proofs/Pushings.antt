@@ -1,5 +1,5 @@
 -- What a push leaves of a seat, whatever it answers.
-use Rattle.std.proofs.Common.{◌≡◌, ℕ, ◌<◌, ap, sym, ◌∙◌, subst}
+use Rattle.std.proofs.Common.{◌≡◌, ◌<◌, ap, sym, ◌∙◌, subst}
 use Rattle.std.specs.Prelude.{Err, IfErr, IfOk, Ok, OnErr, Result}
 use Rattle.plain_state.specs.declared.slot.SlotId.{SlotId}
 use Rattle.plain_state.specs.Lists.{times}

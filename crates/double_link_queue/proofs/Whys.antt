@@ -1,6 +1,6 @@
 -- Why a push pushed nothing, step by step; and what follows for what a call answers.
-use Rattle.std.proofs.Common.{◌≡◌, ℕ, ◌+◌, ◌<◌, ◌≤◌, List, arith}
-use Rattle.std.specs.Prelude.{Err, IfErr, IfOk, IfSome, Ok, OnErr, Option, Result, Some, None}
+use Rattle.std.proofs.Common.{◌≡◌, ℕ, ◌+◌, ◌≤◌, List, arith}
+use Rattle.std.specs.Prelude.{Err, IfOk, IfSome, Ok, OnErr, Option, Result, Some, None}
 use Rattle.plain_state.specs.declared.slot.SlotId.{SlotId}
 use Rattle.counted_handles.specs.Handles.{Handle}
 use Rattle.counted_handles.specs.declared.refusal.LoadError.{LoadError}

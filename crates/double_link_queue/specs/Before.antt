@@ -1,5 +1,5 @@
 -- What a look at field 0 of the node before one that was seen tells a seat that holds both.
-use Rattle.std.proofs.Common.{◌≡◌, ◌≢◌, ℕ, ◌+◌, ◌-◌, ◌<◌, refl, ap, sym, ◌∙◌, subst, arith}
+use Rattle.std.proofs.Common.{◌≡◌, ◌≢◌, ℕ, ◌+◌, ◌<◌, refl, ap, sym, ◌∙◌, subst, arith}
 use Rattle.plain_state.specs.declared.act.PlainAct.{PlainAct}
 use Rattle.plain_state.specs.State.{Plain, no_payload}
 use Rattle.plain_protocol.specs.Laws.{Keeps}
@@ -38,8 +38,7 @@ held_set_keeps u cells p q views n step found meets low able does =
     r.seen_life r.at_before r.form in
     let pr = before_present u p views n v r.before r.node h ts t meets.lawful law.3 refl r.held r.seen
     r.seen_life r.at_before r.form live in
-    let w = calm_quiet p q n step found meets.lawful (reads_calm (first_of r.before) step r.reads) does in
-    (
+    let w = calm_quiet p q n step found meets.lawful (reads_calm (first_of r.before) step r.reads) does in (
       kept.0,
       λ s is.
           let same : s ≡ r.before = let x = r.at_before in omega arith in

@@ -3,3 +3,4 @@ pub mod Leaving
 pub mod Before
 pub mod Pushes
 pub mod NotPushed
+pub mod Waits

@@ -18,9 +18,9 @@ ghost use Rattle.linked_queue.specs.Pushes.{HasLoad};
 ghost use Rattle.linked_queue.specs.Queues.{deeds_in};
 ghost use Rattle.linked_queue.specs.UnlessRipe.{next_unless};
 
-use linked_queue::UnlessRipe;
 use acquire_retire::{Domain, Seat, SlotId};
 use counted_handles::Strong;
+use linked_queue::UnlessRipe;
 use part_calls::{Place, store};
 use queue_protocol::{CarryItem, HasQueue, QueueLaw};
 

@@ -119,12 +119,7 @@ fn is_set<S, P: HasQueue<S>>(
 }
 
 /// Field 0 of the node before gets the last node, unless it is set already.
-fn set_link<S, P: HasQueue<S>>(
-    domain: &Domain<P>,
-    seat: &mut Seat<P>,
-    before: SlotId,
-    last: Strong,
-)
+fn set_link<S, P: HasQueue<S>>(domain: &Domain<P>, seat: &mut Seat<P>, before: SlotId, last: Strong)
     requires rest { IsAtRest domain.now seat.old }
     requires room { HasRoom seat.old.view.core }
     requires queue { (P.part domain.now.protocol).form ≡ Double }

@@ -12,9 +12,13 @@ use crate::{DoubleQueue, MakeError, PushError, Strong};
 use acquire_retire::{Domain, OpenError, Quota, Seat, Shape, open_domain};
 use deleter::Deleter;
 use part_calls::drop_strong;
+use protocol_pairs::Whole;
 use queue_protocol::{NodeKind, QueueLaw};
 use slot_store::settle;
 use std::test::Fail;
+
+/// The zero flag of a strong word.
+const ZERO: u64 = 9_223_372_036_854_775_808;
 
 const SHAPE: Shape = Shape {
     seats: 1,
@@ -38,16 +42,13 @@ fn open_alone(rt: &HostRuntime, adds: u64) -> Result<(Domain<QueueLaw>, Seat<Que
 }
 
 /// Pushes an object that the queue may carry, in a domain with nothing but a queue a node, and tells its slot.
-fn push_new(
-    domain: &Domain<QueueLaw>,
-    seat: &mut Seat<QueueLaw>,
-    queue: DoubleQueue,
-) -> Option<u32>
+fn push_new(domain: &Domain<QueueLaw>, seat: &mut Seat<QueueLaw>, queue: DoubleQueue) -> Option<u32>
     requires rest { IsAtRest domain.now seat.old }
     requires room { HasRoom seat.old.view.core }
     requires queue { IsDoubleOf queue.head queue.tail domain.now }
     requires attached { IsAttached seat.old.view.client }
     ensures attached { IsAttached seat.new.view.client }
+    ensures stand { seat.new.view.client.stand ≡ seat.old.view.client.stand }
     ensures room { HasRoom seat.new.view.core }
     ensures rest { IsAtRest domain.now seat.new }
 {
@@ -61,8 +62,27 @@ fn push_new(
     Some(slot)
 }
 
+/// Pops an item, gives it up, and tells its slot.
+fn pop_one(domain: &Domain<QueueLaw>, seat: &mut Seat<QueueLaw>, queue: DoubleQueue) -> Option<u32>
+    requires rest { IsAtRest domain.now seat.old }
+    requires room { HasRoom seat.old.view.core }
+    requires queue { IsDoubleOf queue.head queue.tail domain.now }
+    requires attached { IsAttached seat.old.view.client }
+    ensures attached { IsAttached seat.new.view.client }
+    ensures stand { seat.new.view.client.stand ≡ seat.old.view.client.stand }
+    ensures room { HasRoom seat.new.view.core }
+    ensures rest { IsAtRest domain.now seat.new }
+{
+    let Ok(Some(item)) = queue.try_pop(domain, seat) else {
+        return None;
+    };
+    let slot = item.slot().0;
+    drop_strong::<QueueLaw, Whole, QueueLaw>(domain, seat, item);
+    Some(slot)
+}
+
 #[test]
-fn items_are_popped_in_the_order_of_their_pushes(rt: HostRuntime) -> Result<(), Fail> {
+fn items_come_in_order_and_nothing_is_left(rt: HostRuntime) -> Result<(), Fail> {
     let (domain, mut seat) = open_alone(&rt, 90)?;
     let Ok(queue) = DoubleQueue::lay(&domain, &mut seat, 0, 1) else {
         panic!(rt; "a queue")
@@ -70,21 +90,27 @@ fn items_are_popped_in_the_order_of_their_pushes(rt: HostRuntime) -> Result<(), 
     let first = push_new(&domain, &mut seat, queue);
     let second = push_new(&domain, &mut seat, queue);
     let third = push_new(&domain, &mut seat, queue);
-    let Ok(Some(item)) = queue.try_pop(&domain, &mut seat) else {
-        panic!(rt; "three items")
-    };
-    assert_eq!(rt; Some(item.slot().0), first);
-    let Ok(Some(item)) = queue.try_pop(&domain, &mut seat) else {
-        panic!(rt; "two items")
-    };
-    assert_eq!(rt; Some(item.slot().0), second);
-    let Ok(Some(item)) = queue.try_pop(&domain, &mut seat) else {
-        panic!(rt; "an item")
-    };
-    assert_eq!(rt; Some(item.slot().0), third);
-    let Ok(None) = queue.try_pop(&domain, &mut seat) else {
-        panic!(rt; "an empty queue")
-    };
+    assert!(rt; first.is_some() && second.is_some() && third.is_some());
+    assert_eq!(rt; pop_one(&domain, &mut seat, queue), first);
+    assert_eq!(rt; pop_one(&domain, &mut seat, queue), second);
+    assert_eq!(rt; pop_one(&domain, &mut seat, queue), third);
+    assert_eq!(rt; pop_one(&domain, &mut seat, queue), None);
+    if !domain.alone(&seat) {
+        panic!(rt; "one seat");
+    }
+    queue.shut(&domain, &mut seat);
+    if !domain.alone(&seat) {
+        panic!(rt; "one seat");
+    }
+    let deleter: Deleter<NodeKind, _> = Deleter::keep(|_payload: &[u64; 16]| 0);
+    settle(&domain, &mut seat, &deleter);
+    let heap = domain.image(rt.alloc(), &mut seat)?;
+    for slot in &heap.slots {
+        assert_eq!(rt; (slot.strong, slot.weak, slot.weak_field), (ZERO, 0, 0));
+        assert_eq!(rt; slot.fields, [0, 0]);
+    }
+    assert!(rt; heap.cells.iter().all(|cell| *cell == 0));
+    assert_eq!(rt; heap.deferred.len(), 0);
     Ok(())
 }
 

@@ -1,4 +1,4 @@
-use Rattle.std.proofs.Common.{refl, ap, ◌∙◌, subst, [], ◌∷◌, ◌++◌}
+use Rattle.std.proofs.Common.{ap, ◌∙◌, subst, [], ◌∷◌, ◌++◌}
 use Rattle.std.specs.Prelude.{None}
 use Rattle.plain_state.specs.declared.slot.SlotId.{SlotId}
 use Rattle.core_events.specs.Views.{without}
@@ -7,7 +7,7 @@ use Rattle.part_calls.specs.Parts.{as_part, seen_by}
 use Rattle.double_link_queue.specs.Leaving.{LeavesBoth}
 use Rattle.double_link_queue.specs.Pushes.{backed_in}
 use Rattle.double_link_queue.proofs.Backs.{load_kept}
-use Rattle.double_link_queue.proofs.Leavings.{both_same, weaken_leaves}
+use Rattle.double_link_queue.proofs.Leavings.{weaken_leaves}
 use Rattle.double_link_queue.proofs.Owning.{weak_through}
 use Rattle.double_link_queue.proofs.backing.link_back.Goals as goal
 

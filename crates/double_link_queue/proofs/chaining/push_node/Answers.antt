@@ -1,7 +1,5 @@
-use Rattle.std.proofs.Common.{ap, ◌∙◌, ◌++◌, ◌∷◌, []}
 use Rattle.core_events.specs.Views.{without}
 use Rattle.part_calls.specs.Parts.{seen_by}
-use Rattle.linked_queue.specs.Queues.{deeds_in}
 use Rattle.linked_queue.proofs.Leavings.{drop_leaves}
 use Rattle.double_link_queue.proofs.Owning.{both_of, gives_both, l_there, nothing_gives}
 use Rattle.double_link_queue.proofs.chaining.push_node.Goals as goal

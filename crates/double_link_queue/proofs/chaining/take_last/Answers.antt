@@ -1,4 +1,4 @@
-use Rattle.std.proofs.Common.{ap, sym, ◌∙◌, subst, ◌+◌, ◌<◌, [], ◌∷◌, ◌++◌, arith}
+use Rattle.std.proofs.Common.{ap, sym, ◌∙◌, subst, [], ◌∷◌, ◌++◌, arith}
 use Rattle.std.specs.Prelude.{None, Option}
 use Rattle.atomic_shared.specs.Places.{named}
 use Rattle.core_events.specs.Views.{without}

@@ -1,15 +1,13 @@
-use Rattle.std.proofs.Common.{◌≡◌, refl, sym, ap, ◌∙◌, ◌+◌, ◌≤◌, subst, arith}
+use Rattle.std.proofs.Common.{refl, sym, ap, ◌∙◌, subst, arith}
 use Rattle.std.specs.Prelude.{IfOk, None}
 use Rattle.plain_state.specs.declared.slot.SlotId.{SlotId}
 use Rattle.core_events.specs.declared.view.CoreView.{CoreView}
 use Rattle.acquire_retire.proofs.Wholes.{then_ok}
-use Rattle.queue_law.specs.declared.view.View.{View}
 use Rattle.queue_law.specs.Pushes.{carried_item}
 use Rattle.part_calls.specs.Parts.{as_part, seen_by}
 use Rattle.linked_queue.proofs.Accepting.{may_still}
 use Rattle.linked_queue.proofs.Leavings.{then_err}
 use Rattle.double_link_queue.specs.Pushes.{CanExchange, IsInFlight, beside_back}
-use Rattle.double_link_queue.proofs.Backs.{load_kept}
 use Rattle.double_link_queue.proofs.Owning.{both_of, nothing_then}
 use Rattle.double_link_queue.proofs.Pushings.{taken_deeds, untaken}
 use Rattle.double_link_queue.proofs.Takes.{attached_back, attached_on, both_leave, can_exchange, carried_still, load_on, tail_backed}

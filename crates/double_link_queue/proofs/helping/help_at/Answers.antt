@@ -1,10 +1,10 @@
-use Rattle.std.proofs.Common.{true, refl, sym, ap, ◌∙◌, subst, ◌+◌, ◌<◌, ◌++◌, ◌∷◌, [], arith}
+use Rattle.std.proofs.Common.{true, refl, sym, ap, ◌∙◌, subst, ◌++◌, ◌∷◌, [], arith}
 use Rattle.std.specs.Prelude.{None}
 use Rattle.plain_state.specs.declared.slot.SlotId.{SlotId}
 use Rattle.core_events.specs.Views.{without}
 use Rattle.core_invariant.proofs.Kit.{times_push}
 use Rattle.queue_law.specs.Pushes.{helped_view}
-use Rattle.part_calls.specs.Parts.{as_part, seen_by}
+use Rattle.part_calls.specs.Parts.{seen_by}
 use Rattle.linked_queue.specs.Leaving.{Leaves}
 use Rattle.linked_queue.proofs.Leavings.{copy_leaves, leaves_same}
 use Rattle.linked_queue.proofs.Owning.{through}

@@ -1,4 +1,4 @@
-use Rattle.std.proofs.Common.{refl, ap, ◌∙◌}
+use Rattle.std.proofs.Common.{ap, ◌∙◌}
 use Rattle.core_events.specs.Views.{without}
 use Rattle.queue_law.specs.declared.view.View.{View}
 use Rattle.part_calls.specs.Parts.{as_part, seen_by}

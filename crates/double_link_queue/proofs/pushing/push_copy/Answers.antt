@@ -1,4 +1,4 @@
-use Rattle.std.proofs.Common.{refl, sym, ap, ◌∙◌, ◌++◌, ◌∷◌, []}
+use Rattle.std.proofs.Common.{refl, sym, ◌++◌, ◌∷◌, []}
 use Rattle.std.specs.Prelude.{None}
 use Rattle.queue_law.specs.Pushes.{carried_item}
 use Rattle.part_calls.specs.Parts.{seen_by}
