@@ -103,7 +103,8 @@ module _ (fits : List ℕ → Type 0) (d : DomainState QueueLaw) (last before : 
             is_before = set_notes.is_before ∙ sees.is_before;
           };
           is_node =
-              ap (λ (o : Object). o.payload) (step.told.says.objects before (has_owned before new owns))
+              ap (λ (o : Object). o.payload) (step.told.says.objects before (has_owned before new
+              owns))
               ∙ step.told.happened.fact.2 before.0 sees.is_before;
         }
 
@@ -138,7 +139,8 @@ node_before_left owned weaks last before old new node leaves some_last some_befo
     let was = node.sees.owns in
     let at = leaves.owns before in
     record {
-      sees = before_left owned weaks last before old new node.sees leaves some_last some_before client;
+      sees = before_left owned weaks last before old new node.sees leaves some_last some_before
+          client;
       is_node = ap (λ (o : Object). o.payload) (leaves.knows before (omega arith) (omega arith))
           ∙ node.is_node;
     }

@@ -38,7 +38,8 @@ module _ {V : Type 0} (old new : SeatState V) where
   }
 
   pub both_same : new ≡ old → LeavesBoth old.view.core.owned old.view.core.weaks old new
-  both_same is = subst (λ (z : SeatState V). LeavesBoth old.view.core.owned old.view.core.weaks old z)
+  both_same is = subst (λ (z : SeatState V). LeavesBoth old.view.core.owned old.view.core.weaks old
+      z)
       (sym is)
       (record { owns = λ x. refl; weakly = λ x. refl; same = refl; knows = λ x was is. refl })
 
@@ -73,7 +74,8 @@ module _ {P V : Type 0} {fits : List ℕ → Type 0} {d : DomainState P}
       let rest : rest_of new.view.core ≡ rest_of v =
       puts.same ∙ ap (λ k. rest_of (without_given k (Some s) old.view.core)) kind in
       let same : apart new.view.core ≡ apart v =
-      ap (λ (u : CoreView). record u { owned = []; weaks = []; made = []; adds = 0; makes = 0 }) rest in
+      ap (λ (u : CoreView). record u { owned = []; weaks = []; made = []; adds = 0; makes = 0 })
+      rest in
       record {
         owns = λ x. ap (λ (u : CoreView). times x u.owned) rest;
         weakly = λ x. ap (λ (u : CoreView). times x u.weaks) rest;
@@ -81,5 +83,6 @@ module _ {P V : Type 0} {fits : List ℕ → Type 0} {d : DomainState P}
         knows = λ x was is.
             let strong = ap (λ (u : CoreView). times x u.owned) rest in
             let weak = ap (λ (u : CoreView). times x u.weaks) rest in
-            knows x (holds_has v x (holds_both x new.view.core v same (omega arith) (omega arith) is));
+            knows x (holds_has v x (holds_both x new.view.core v same (omega arith) (omega arith)
+            is));
       }

@@ -106,7 +106,8 @@ module _ (fits : List ℕ → Type 0) (d : DomainState QueueLaw) (last : SlotId)
 
       pub null_helped : FindsNull fits d (WeakField last) before_next TellsNothing old new
           → new.view.client.eyes.helped ≡ true
-      null_helped null = ap (λ (v : View). v.eyes.helped) (client_null d (WeakField last) old new null)
+      null_helped null = ap (λ (v : View). v.eyes.helped) (client_null d (WeakField last) old new
+          null)
 
       on_found : (s : SlotId) → Refers fits d (WeakField last) before_next TellsNothing s old new
           → Kept (Some s)
@@ -121,7 +122,8 @@ module _ (fits : List ℕ → Type 0) (d : DomainState QueueLaw) (last : SlotId)
                 (ap (λ (v : CoreView). v.owned) r.core) (ap (λ (v : CoreView). v.shape) r.core),
           )
 
-      pub found_back : (s : SlotId) → Refers fits d (WeakField last) before_next TellsNothing s old new
+      pub found_back : (s : SlotId) → Refers fits d (WeakField last) before_next TellsNothing s old
+          new
           → SeesBack last s new
       found_back s r = record {
         tail = (on_found s r).3;
@@ -141,7 +143,8 @@ module _ (fits : List ℕ → Type 0) (d : DomainState QueueLaw) (last : SlotId)
             (let adds = ap (λ (v : CoreView). v.adds) m.core in omega arith),
             ap beside_eyes client ∙ ap beside_eyes same,
             both_as old new old.view.core old.view.core _ m.core refl knows (λ x was is. was),
-            sees_on m.mid.view.client m.checks.walks.1.word client same (ap (λ (v : CoreView). v.owned) m.core)
+            sees_on m.mid.view.client m.checks.walks.1.word client same (ap (λ (v : CoreView).
+                v.owned) m.core)
                 (ap (λ (v : CoreView). v.shape) m.core),
           )
 

@@ -12,7 +12,8 @@ use Rattle.linked_queue.proofs.Owning.{found_more}
 use Rattle.double_link_queue.specs.Leaving.{LeavesBoth, apart}
 
 -- what a seat holds beside what it owns is told by what stays
-pub holds_both : (x : SlotId) (v w : CoreView) → apart v ≡ apart w → times x v.owned ≤ times x w.owned
+pub holds_both : (x : SlotId) (v w : CoreView) → apart v ≡ apart w → times x v.owned ≤ times x
+    w.owned
     → times x v.weaks ≤ times x w.weaks → Holds v x → Holds w x
 holds_both x v w same strong weak held =
     let e = ap (λ (u : CoreView). held_times x (record u { owned = []; weaks = [] })) same in

@@ -18,7 +18,8 @@ attached_on v w same attached = record {
   attached = ap (λ (u : View). u.attached) same ∙ attached.attached;
 }
 
-pub attached_back : (last : SlotId) (v w : View) → w ≡ backed_in last v → IsAttached v → IsAttached w
+pub attached_back : (last : SlotId) (v w : View) → w ≡ backed_in last v → IsAttached v → IsAttached
+    w
 attached_back last v w is attached = record {
   here = ap (λ (u : View). u.here) is ∙ attached.here;
   attached = ap (λ (u : View). u.attached) is ∙ attached.attached;
@@ -45,7 +46,8 @@ module _ (last node : SlotId) (old mid : SeatState View) (sees : SeesTail last o
         → CanExchange last node new
     can_exchange tail helped = record {
       tail = tail;
-      load = load_kept old.view.core.owned old.view.core.weaks node old new load both_leave load.owns
+      load = load_kept old.view.core.owned old.view.core.weaks node old new load both_leave
+          load.owns
           (ap (λ (v : View). v.load.node) same ∙ ap (λ (v : View). v.load.node) backed)
           (ap (λ (v : View). v.load.life) same ∙ ap (λ (v : View). v.load.life) backed)
           (ap (λ (v : View). v.load.item) same ∙ ap (λ (v : View). v.load.item) backed);

@@ -50,7 +50,8 @@ notes_none v w is = notes_help false v w is
 
 pub helped_by : (b : Bool) (v w : View) → b ≡ true → w ≡ cond b (helped_view v) v
     → w.eyes.helped ≡ true
-helped_by b v w set is = ap (λ (u : View). u.eyes.helped) (is ∙ ap (λ c. cond c (helped_view v) v) set)
+helped_by b v w set is = ap (λ (u : View). u.eyes.helped) (is ∙ ap (λ c. cond c (helped_view v) v)
+    set)
 
 module _ (fits : List ℕ → Type 0) (d : DomainState QueueLaw) (last back : SlotId)
     (old : SeatState View) (sees : SeesBack last back old) where
@@ -101,7 +102,8 @@ module _ (fits : List ℕ → Type 0) (d : DomainState QueueLaw) (last back : Sl
       up_owned = ap (λ (v : CoreView). v.owned) gains.core
 
       up_last : 0 < times last new.view.core.owned
-      up_last = still_owned last back old.view.core.owned new.view.core.owned up_owned sees.tail.owns
+      up_last = still_owned last back old.view.core.owned new.view.core.owned up_owned
+          sees.tail.owns
 
       pub up_back : SeesBack last back new
       up_back = back_on (added _ _ gains) up_last (ap (λ (v : CoreView). v.weaks) gains.core)
@@ -115,7 +117,8 @@ module _ (fits : List ℕ → Type 0) (d : DomainState QueueLaw) (last back : Sl
       }
 
       pub up_leaves : LeavesBoth (old.view.core.owned ++ back ∷ []) old.view.core.weaks old new
-      up_leaves = both_as old new (with_strong back old.view.core) old.view.core _ gains.core refl knows
+      up_leaves = both_as old new (with_strong back old.view.core) old.view.core _ gains.core refl
+          knows
           (λ x was is. was)
 
     -- the object had ended
@@ -139,7 +142,8 @@ module _ (fits : List ℕ → Type 0) (d : DomainState QueueLaw) (last back : Sl
           (is_one found.becomes.walks.1.word found.zero) (client _ _ found.becomes)
 
       pub ended_leaves : LeavesBoth old.view.core.owned old.view.core.weaks old new
-      ended_leaves = both_as old new (with_add old.view.core) old.view.core _ found.becomes.core refl knows
+      ended_leaves = both_as old new (with_add old.view.core) old.view.core _ found.becomes.core
+          refl knows
           (λ x was is. was)
 
 -- what is seen of the node before is seen still, where the seat owns both nodes and its eyes are on them

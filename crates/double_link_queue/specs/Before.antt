@@ -36,9 +36,11 @@ held_set_keeps u cells p q views n step found meets low able does =
     let live = held_live p n r.before meets.lawful able.holds in
     let b = before_here u p views n v r.before r.node h ts t meets.lawful law.3 refl r.held r.seen
     r.seen_life r.at_before r.form in
-    let pr = before_present u p views n v r.before r.node h ts t meets.lawful law.3 refl r.held r.seen
+    let pr = before_present u p views n v r.before r.node h ts t meets.lawful law.3 refl r.held
+    r.seen
     r.seen_life r.at_before r.form live in
-    let w = calm_quiet p q n step found meets.lawful (reads_calm (first_of r.before) step r.reads) does in (
+    let w = calm_quiet p q n step found meets.lawful (reads_calm (first_of r.before) step r.reads)
+    does in (
       kept.0,
       λ s is.
           let same : s ≡ r.before = let x = r.at_before in omega arith in

@@ -14,10 +14,11 @@ apart v = record (aside v) { weaks = [] }
 
 -- The seat owns these references strongly and these weakly, each in some order. What it has beside is as it was, and so
 -- is what it knows of the objects that it held and still holds.
-pub record LeavesBoth {V : Type 0} (owned weaks : List SlotId) (old new : SeatState V) : Type 0 where
-  pub owns : (x : SlotId) → times x new.view.core.owned ≡ times x owned
-  pub weakly : (x : SlotId) → times x new.view.core.weaks ≡ times x weaks
-  pub same : apart new.view.core ≡ apart old.view.core
-  pub knows :
-      (x : SlotId) → Holds old.view.core x → Holds new.view.core x
-      → object_in new.view x ≡ object_in old.view x
+pub record LeavesBoth {V : Type 0} (owned weaks : List SlotId) (old new : SeatState V) : Type 0
+  where
+    pub owns : (x : SlotId) → times x new.view.core.owned ≡ times x owned
+    pub weakly : (x : SlotId) → times x new.view.core.weaks ≡ times x weaks
+    pub same : apart new.view.core ≡ apart old.view.core
+    pub knows :
+        (x : SlotId) → Holds old.view.core x → Holds new.view.core x
+        → object_in new.view x ≡ object_in old.view x

@@ -9,6 +9,7 @@ use Rattle.double_link_queue.specs.declared.pushing.NotPushed.{NotPushed}
 use Rattle.double_link_queue.specs.declared.pushing.NotPushed.TheVariants as failed
 use Rattle.double_link_queue.specs.Pushes.{PushDiffers}
 
-abbrev pub IsWhyNotPushed : (List ℕ → Type 0) → DomainState QueueLaw → NotPushed → SeatState View → Type 0
+abbrev pub IsWhyNotPushed : (List ℕ → Type 0) → DomainState QueueLaw → NotPushed → SeatState View →
+    Type 0
 IsWhyNotPushed fits d (failed.Again seen now) old = PushDiffers fits d seen now
 IsWhyNotPushed fits d (failed.Refused error) old = IsWhyRefused fits d 7 error old

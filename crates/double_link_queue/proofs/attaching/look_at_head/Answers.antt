@@ -8,14 +8,17 @@ use Rattle.double_link_queue.proofs.attaching.look_at_head.Goals as goal
 
 pub returns-in-Found-clause-looks : goal.returns-in-Found-clause-looks
 returns-in-Found-clause-looks g c =
-    let head = Cell (as_part g.P.Part.part c.args.domain.now).protocol.head in
-    let step = step_as (as_part g.P.Part.part c.args.domain.now) (Cell c.args.head) head c.look.result _ (seen_by g.P.Part.seen c.args.seat.now)
-    (seen_by g.P.Part.seen c.look.new.seat) (ap Cell c.requires.head) c.in-Found.is c.look.ensures.steps in
-    let by = looked (as_part g.P.Part.part c.args.domain.now) head c.in-Found.found (seen_by g.P.Part.seen c.args.seat.now) (seen_by g.P.Part.seen c.look.new.seat) step in
+    let d = as_part g.P.Part.part c.args.domain.now in
+    let before = seen_by g.P.Part.seen c.args.seat.now in
+    let after_look = seen_by g.P.Part.seen c.look.new.seat in
+    let head = Cell d.protocol.head in
+    let step = step_as d (Cell c.args.head) head c.look.result _ before
+    after_look (ap Cell c.requires.head) c.in-Found.is c.look.ensures.steps in
+    let by = looked d head c.in-Found.found before after_look step in
     record {
       becomes = by;
-      there = looked_there (as_part g.P.Part.part c.args.domain.now) head c.in-Found.found (seen_by g.P.Part.seen c.args.seat.now)
-          (seen_by g.P.Part.seen c.look.new.seat) by;
+      there = looked_there d head c.in-Found.found before
+          after_look by;
     }
 
 pub look-requires-clause-accepted : goal.look-requires-clause-accepted

@@ -12,14 +12,22 @@ use Rattle.double_link_queue.proofs.carrying.carry.Goals as goal
 
 pub returns-clause-load : goal.returns-clause-load
 returns-clause-load g c =
-    carries g.P.Kind.PayloadKind.fits (as_part g.P.Part.part c.args.domain.now) c.args.node c.args.item.slot (seen_by g.P.Part.seen c.args.seat.now) (seen_by g.P.Part.seen c.store.new.seat)
+    let d = as_part g.P.Part.part c.args.domain.now in
+    let fits = g.P.Kind.PayloadKind.fits in
+    let before = seen_by g.P.Part.seen c.args.seat.now in
+    let after_store = seen_by g.P.Part.seen c.store.new.seat in
+    carries fits d c.args.node c.args.item.slot before after_store
     c.requires.node c.store.ensures.stored c.requires.left
-    (exchange_leaves (Field c.args.node 1) _ (Some c.args.item.slot) _ (seen_by g.P.Part.seen c.args.seat.now)
-    (seen_by g.P.Part.seen c.store.new.seat) refl c.store.ensures.stored.swaps c.store.ensures.objects)
+    (exchange_leaves (Field c.args.node 1) _ (Some c.args.item.slot) _ before
+    after_store refl c.store.ensures.stored.swaps c.store.ensures.objects)
 
 pub returns-clause-carried : goal.returns-clause-carried
 returns-clause-carried g c =
-    carries_item g.P.Kind.PayloadKind.fits (as_part g.P.Part.part c.args.domain.now) c.args.node c.args.item.slot (seen_by g.P.Part.seen c.args.seat.now) (seen_by g.P.Part.seen c.store.new.seat)
+    let d = as_part g.P.Part.part c.args.domain.now in
+    let fits = g.P.Kind.PayloadKind.fits in
+    let before = seen_by g.P.Part.seen c.args.seat.now in
+    let after_store = seen_by g.P.Part.seen c.store.new.seat in
+    carries_item fits d c.args.node c.args.item.slot before after_store
     c.requires.node c.store.ensures.stored c.requires.item
 
 pub store-requires-clause-accepted : goal.store-requires-clause-accepted

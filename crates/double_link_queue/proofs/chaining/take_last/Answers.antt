@@ -22,7 +22,8 @@ take_tail-requires-clause-load g c =
     let mid = seen_by g.P.Part.seen c.load_tail.new.seat in
     let last = c.in-Ok-Some.last.slot in
     let owned = old.view.core.owned ++ last ∷ [] in
-    let gains = subst (λ (o : Option Handle). Leaves (with_found (named o) old.view.core.owned) old mid)
+    let gains = subst (λ (o : Option Handle). Leaves (with_found (named o) old.view.core.owned) old
+    mid)
     c.in-Ok-Some.field-0-is c.in-Ok-Some.ensures.leaves in
     let push = times_push c.args.node last old.view.core.owned in
     let owns = c.requires.load.owns in
@@ -47,7 +48,8 @@ returns-in-Err-take_tail-clause-leaves g c =
     let late = seen_by g.P.Part.seen c.take_tail.new.seat in
     let new = seen_by g.P.Part.seen c.drop_strong.new.seat in
     let last = c.in-Ok-Some.last.slot in
-    let gains = subst (λ (o : Option Handle). Leaves (with_found (named o) old.view.core.owned) old mid)
+    let gains = subst (λ (o : Option Handle). Leaves (with_found (named o) old.view.core.owned) old
+    mid)
     c.in-Ok-Some.field-0-is c.in-Ok-Some.ensures.leaves in
     through_both last None old mid late new
     (both_of (old.view.core.owned ++ last ∷ []) old mid gains) c.take_tail.ensures.leaves

@@ -13,25 +13,38 @@ use Rattle.double_link_queue.proofs.exchanging.load_tail.Goals as goal
 
 pub returns : goal.returns
 returns g c =
-    let all = cell_sights g.P.Kind.PayloadKind.fits (as_part g.P.Part.part c.args.domain.now) false (TailTells (ends_of (as_part g.P.Part.part c.args.domain.now)))
-    (as_part g.P.Part.part c.args.domain.now).protocol.tail c.args.tail c.requires.tail (seen_by g.P.Part.seen c.args.seat.now) (seen_by g.P.Part.seen c.try_load.new.seat)
-    (rest_seen g.P.Part.part g.P.Part.seen c.args.domain.now c.args.seat.now c.requires.rest) c.try_load.ensures.objects c.try_load.result (λ e. ap (seen_by g.P.Part.seen) (c.try_load.ensures.refused e))
-    c.try_load.ensures.spent.0 c.try_load.ensures.loaded c.try_load.ensures.moved (PushDiffers g.P.Kind.PayloadKind.fits (as_part g.P.Part.part c.args.domain.now)) (λ seen now m. inl m) in
+    let d = as_part g.P.Part.part c.args.domain.now in
+    let fits = g.P.Kind.PayloadKind.fits in
+    let before = seen_by g.P.Part.seen c.args.seat.now in
+    let after_try_load = seen_by g.P.Part.seen c.try_load.new.seat in
+    let all = cell_sights fits d false (TailTells (ends_of d))
+    d.protocol.tail c.args.tail c.requires.tail before after_try_load
+    (rest_seen g.P.Part.part g.P.Part.seen c.args.domain.now c.args.seat.now c.requires.rest)
+    c.try_load.ensures.objects c.try_load.result (λ e. ap (seen_by g.P.Part.seen)
+    (c.try_load.ensures.refused e))
+    c.try_load.ensures.spent.0 c.try_load.ensures.loaded c.try_load.ensures.moved (PushDiffers fits
+    d) (λ seen now m. inl m) in
     record {
       there =
-          cell_there g.P.Kind.PayloadKind.fits (as_part g.P.Part.part c.args.domain.now) false (TailTells (ends_of (as_part g.P.Part.part c.args.domain.now)))
-          (as_part g.P.Part.part c.args.domain.now).protocol.tail c.args.tail c.requires.tail (seen_by g.P.Part.seen c.args.seat.now) (seen_by g.P.Part.seen c.try_load.new.seat)
-          (rest_seen g.P.Part.part g.P.Part.seen c.args.domain.now c.args.seat.now c.requires.rest) c.try_load.ensures.objects c.try_load.result (λ e. ap (seen_by g.P.Part.seen) (c.try_load.ensures.refused e))
+          cell_there fits d false (TailTells (ends_of d))
+          d.protocol.tail c.args.tail c.requires.tail before after_try_load
+          (rest_seen g.P.Part.part g.P.Part.seen c.args.domain.now c.args.seat.now c.requires.rest)
+          c.try_load.ensures.objects c.try_load.result (λ e. ap (seen_by g.P.Part.seen)
+          (c.try_load.ensures.refused e))
           c.try_load.ensures.spent.0 c.try_load.ensures.loaded c.try_load.ensures.moved
-          (not_null g.P.Kind.PayloadKind.fits (as_part g.P.Part.part c.args.domain.now) (as_part g.P.Part.part c.args.domain.now).protocol.tail false (seen_by g.P.Part.seen c.args.seat.now)
-          (seen_by g.P.Part.seen c.try_load.new.seat) c.requires.attached);
+          (not_null fits d d.protocol.tail false before
+          after_try_load c.requires.attached);
       sees =
-          cell_seen g.P.Kind.PayloadKind.fits (as_part g.P.Part.part c.args.domain.now) false (TailTells (ends_of (as_part g.P.Part.part c.args.domain.now)))
-          (as_part g.P.Part.part c.args.domain.now).protocol.tail c.args.tail c.requires.tail (seen_by g.P.Part.seen c.args.seat.now) (seen_by g.P.Part.seen c.try_load.new.seat)
-          (rest_seen g.P.Part.part g.P.Part.seen c.args.domain.now c.args.seat.now c.requires.rest) c.try_load.ensures.objects c.try_load.result (λ e. ap (seen_by g.P.Part.seen) (c.try_load.ensures.refused e))
-          c.try_load.ensures.spent.0 c.try_load.ensures.loaded c.try_load.ensures.moved (λ s. SeesTail s (seen_by g.P.Part.seen c.try_load.new.seat))
-          (sees_tail g.P.Kind.PayloadKind.fits (as_part g.P.Part.part c.args.domain.now) (seen_by g.P.Part.seen c.args.seat.now) (seen_by g.P.Part.seen c.try_load.new.seat) (rest_seen g.P.Part.part g.P.Part.seen c.args.domain.now c.args.seat.now c.requires.rest)
-          (as_part g.P.Part.part c.args.domain.now).protocol.tail);
+          cell_seen fits d false (TailTells (ends_of d))
+          d.protocol.tail c.args.tail c.requires.tail before after_try_load
+          (rest_seen g.P.Part.part g.P.Part.seen c.args.domain.now c.args.seat.now c.requires.rest)
+          c.try_load.ensures.objects c.try_load.result (λ e. ap (seen_by g.P.Part.seen)
+          (c.try_load.ensures.refused e))
+          c.try_load.ensures.spent.0 c.try_load.ensures.loaded c.try_load.ensures.moved (λ s.
+          SeesTail s after_try_load)
+          (sees_tail fits d before after_try_load (rest_seen g.P.Part.part g.P.Part.seen
+          c.args.domain.now c.args.seat.now c.requires.rest)
+          d.protocol.tail);
       adds = all.0.0;
       beside = all.0.1;
       leaves = all.0.2;

@@ -28,7 +28,8 @@ set_link-requires-clause-before g c =
     let owns = sees.sees.tail.owns in
     let owns_before = sees.sees.owns in
     subst (λ (s : SlotId). SeesNodeBefore s before copied) (sym c.in_ok-given.ensures.copied.0)
-    (node_before_left (mid.view.core.owned ++ last ∷ []) mid.view.core.weaks last before mid copied sees
+    (node_before_left (mid.view.core.owned ++ last ∷ []) mid.view.core.weaks last before mid copied
+    sees
     (both_of (mid.view.core.owned ++ last ∷ []) mid copied
     (copy_leaves last mid copied c.in_ok-given.ensures.copied.1 c.copy_strong.ensures.objects))
     (omega arith) (omega arith) c.copy_strong.ensures.seen)

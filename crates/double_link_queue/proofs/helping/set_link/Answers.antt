@@ -38,10 +38,11 @@ returns-in-Some-clause-client g c =
 
 pub returns-in-Some-clause-leaves : goal.returns-in-Some-clause-leaves
 returns-in-Some-clause-leaves g c =
+    let fits' = g.P.Kind.PayloadKind.fits in
     let old = seen_by g.P.Part.seen c.args.seat.now in
     let mid = seen_by g.P.Part.seen c.try_replace.new.seat in
     let new = seen_by g.P.Part.seen c.drop_strong.new.seat in
-    let fits = g.P.Kind.PayloadKind.fits in
+    let fits = fits' in
     let d = as_part g.P.Part.part c.args.domain.now in
     let both : Some c.in-Some.last ≡ Some c.args.last =
     sym c.in-Some.is ∙ c.in-Err.ensures.back in
@@ -51,7 +52,8 @@ returns-in-Some-clause-leaves g c =
     let still = subst (λ (h : Handle). KnowsStill (without_strong h.slot mid.view.core) mid new)
     handles c.drop_strong.ensures.objects in
     then_gives c.args.last.slot old mid new c.requires.before.sees.tail.owns
-    (lost_keeps fits d (Field c.args.before 0) (Some c.args.last.slot) None c.in-Err.lost.now old mid
+    (lost_keeps fits d (Field c.args.before 0) (Some c.args.last.slot) None c.in-Err.lost.now old
+    mid
     c.in-Err.ensures.lost)
     (drop_leaves c.args.last.slot mid new drops still)
 

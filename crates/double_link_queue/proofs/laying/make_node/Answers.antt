@@ -9,12 +9,17 @@ use Rattle.double_link_queue.proofs.laying.make_node.Goals as goal
 
 pub make-requires-clause-deed : goal.make-requires-clause-deed
 make-requires-clause-deed g c s mid begins w =
-    node_ready g.P.Kind.PayloadKind.fits (as_part g.P.Part.part c.args.domain.now) s (seen_by g.P.Part.seen c.args.seat.now) mid begins
+    node_ready g.P.Kind.PayloadKind.fits (as_part g.P.Part.part c.args.domain.now) s (seen_by
+    g.P.Part.seen c.args.seat.now) mid begins
 
 pub returns-clause-node : goal.returns-clause-node
 returns-clause-node g c =
-    then_ok_both _ _ (λ node. HasNode node.slot (seen_by g.P.Part.seen c.make.new.seat)) c.make.result
-    (λ node makes owns. made_node g.P.Kind.PayloadKind.fits (as_part g.P.Part.part c.args.domain.now) node.slot (seen_by g.P.Part.seen c.args.seat.now) (seen_by g.P.Part.seen c.make.new.seat) makes
+    let d = as_part g.P.Part.part c.args.domain.now in
+    let fits = g.P.Kind.PayloadKind.fits in
+    let before = seen_by g.P.Part.seen c.args.seat.now in
+    let after_make = seen_by g.P.Part.seen c.make.new.seat in
+    then_ok_both _ _ (λ node. HasNode node.slot after_make) c.make.result
+    (λ node makes owns. made_node fits d node.slot before after_make makes
     owns)
     c.make.ensures.made c.make.ensures.owned
 

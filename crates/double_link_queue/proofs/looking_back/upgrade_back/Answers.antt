@@ -40,7 +40,8 @@ returns-clause-tail g c =
     sees.owns (ap (λ (v : View). v.eyes) c.drop_weak.ensures.seen)
 
 pub returns-clause-beside : goal.returns-clause-beside
-returns-clause-beside g c = ap beside_eyes c.drop_weak.ensures.seen ∙ c.count_before-found.ensures.beside
+returns-clause-beside g c =
+    ap beside_eyes c.drop_weak.ensures.seen ∙ c.count_before-found.ensures.beside
 
 pub returns-clause-leaves : goal.returns-clause-leaves
 returns-clause-leaves g c =

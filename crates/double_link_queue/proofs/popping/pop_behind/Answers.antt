@@ -17,9 +17,12 @@ use Rattle.double_link_queue.proofs.popping.pop_behind.Goals as goal
 
 pub returns-in-Err-clause-why : goal.returns-in-Err-clause-why
 returns-in-Err-clause-why g c =
-    subst (λ (e : PopError). IsWhyUnpopped g.P.Kind.PayloadKind.fits (as_part g.P.Part.part c.args.domain.now) 2 e (seen_by g.P.Part.seen c.args.seat.now))
+    let d = as_part g.P.Part.part c.args.domain.now in
+    let fits = g.P.Kind.PayloadKind.fits in
+    let before = seen_by g.P.Part.seen c.args.seat.now in
+    subst (λ (e : PopError). IsWhyUnpopped fits d 2 e before)
     (sym c.refusal_of.ensures)
-    (why_of g.P.Kind.PayloadKind.fits (as_part g.P.Part.part c.args.domain.now) 2 c.in-Err.error (seen_by g.P.Part.seen c.args.seat.now) c.in-Err.ensures.why)
+    (why_of fits d 2 c.in-Err.error before c.in-Err.ensures.why)
 
 pub returns-in-Ok-None-clause-events : goal.returns-in-Ok-None-clause-events
 returns-in-Ok-None-clause-events g c =
@@ -27,8 +30,10 @@ returns-in-Ok-None-clause-events g c =
 
 pub drop_strong-requires-clause-owned : goal.drop_strong-requires-clause-owned
 drop_strong-requires-clause-owned g c =
+    let before = seen_by g.P.Part.seen c.args.seat.now in
+    let after_see_next = seen_by g.P.Part.seen c.see_next.new.seat in
     let gains = subst (λ (o : Option Handle). Leaves
-    (with_found (named o) c.args.seat.now.view.core.owned) (seen_by g.P.Part.seen c.args.seat.now) (seen_by g.P.Part.seen c.see_next.new.seat))
+    (with_found (named o) c.args.seat.now.view.core.owned) before after_see_next)
     c.in-Ok-Some.field-0-is c.in-Ok-Some.ensures.leaves in
     owns_found c.in-Ok-Some.next.slot (handle_by c.pop_node-popped.result)
     c.args.seat.now.view.core.owned c.see_next.new.seat.view.core.owned
@@ -36,40 +41,54 @@ drop_strong-requires-clause-owned g c =
     c.pop_node-popped.ensures.popped.leaves.owns
 
 pub returns-in-Ok-clause-events : goal.returns-in-Ok-clause-events
-returns-in-Ok-clause-events g c = record {
-  next = c.in-Ok-Some.next.slot;
-  seen = (seen_by g.P.Part.seen c.see_next.new.seat);
-  popped = (seen_by g.P.Part.seen c.pop_node-popped.new.seat);
-  loads = subst (λ (o : Option Handle). Loads g.P.Kind.PayloadKind.fits (as_part g.P.Part.part c.args.domain.now)
-      (Field c.args.front 0) next_next (NextTells (ends_of (as_part g.P.Part.part c.args.domain.now))) (named o)
-      (seen_by g.P.Part.seen c.args.seat.now) (seen_by g.P.Part.seen c.see_next.new.seat))
-      c.in-Ok-Some.field-0-is c.in-Ok-Some.ensures.loads;
-  takes = subst (λ (s : SlotId). TakesItem g.P.Kind.PayloadKind.fits (as_part g.P.Part.part c.args.domain.now) c.args.front s c.in-Ok.item.slot
-      (seen_by g.P.Part.seen c.see_next.new.seat) (seen_by g.P.Part.seen c.pop_node-popped.new.seat))
-      c.slot.ensures c.in-Ok.ensures.events;
-  drops = c.drop_strong.ensures.dropped;
-}
+returns-in-Ok-clause-events g c =
+    let d = as_part g.P.Part.part c.args.domain.now in
+    let fits = g.P.Kind.PayloadKind.fits in
+    let before = seen_by g.P.Part.seen c.args.seat.now in
+    let after_pop_node_popped = seen_by g.P.Part.seen c.pop_node-popped.new.seat in
+    let after_see_next = seen_by g.P.Part.seen c.see_next.new.seat in
+    record {
+      next = c.in-Ok-Some.next.slot;
+      seen = after_see_next;
+      popped = after_pop_node_popped;
+      loads = subst (λ (o : Option Handle). Loads fits d
+          (Field c.args.front 0) next_next (NextTells (ends_of d)) (named o)
+          before after_see_next)
+          c.in-Ok-Some.field-0-is c.in-Ok-Some.ensures.loads;
+      takes = subst (λ (s : SlotId). TakesItem fits d c.args.front s c.in-Ok.item.slot
+          after_see_next after_pop_node_popped)
+          c.slot.ensures c.in-Ok.ensures.events;
+      drops = c.drop_strong.ensures.dropped;
+    }
 
 pub returns-in-Ok-clause-popped : goal.returns-in-Ok-clause-popped
 returns-in-Ok-clause-popped g c =
+    let before = seen_by g.P.Part.seen c.args.seat.now in
+    let after_drop_strong = seen_by g.P.Part.seen c.drop_strong.new.seat in
+    let after_pop_node_popped = seen_by g.P.Part.seen c.pop_node-popped.new.seat in
+    let after_see_next = seen_by g.P.Part.seen c.see_next.new.seat in
     let gains = subst (λ (o : Option Handle). Leaves
-    (with_found (named o) c.args.seat.now.view.core.owned) (seen_by g.P.Part.seen c.args.seat.now) (seen_by g.P.Part.seen c.see_next.new.seat))
+    (with_found (named o) c.args.seat.now.view.core.owned) before after_see_next)
     c.in-Ok-Some.field-0-is c.in-Ok-Some.ensures.leaves in
-    pops_through c.in-Ok-Some.next.slot (seen_by g.P.Part.seen c.args.seat.now) (seen_by g.P.Part.seen c.see_next.new.seat)
-    (seen_by g.P.Part.seen c.pop_node-popped.new.seat) (seen_by g.P.Part.seen c.drop_strong.new.seat) (Some c.in-Ok.item.slot) gains
+    pops_through c.in-Ok-Some.next.slot before after_see_next
+    after_pop_node_popped after_drop_strong (Some c.in-Ok.item.slot) gains
     (ap deeds_in c.see_next.ensures.beside) c.in-Ok.ensures.popped
-    (drop_leaves c.in-Ok-Some.next.slot (seen_by g.P.Part.seen c.pop_node-popped.new.seat) (seen_by g.P.Part.seen c.drop_strong.new.seat)
+    (drop_leaves c.in-Ok-Some.next.slot after_pop_node_popped after_drop_strong
     c.drop_strong.ensures.dropped c.drop_strong.ensures.objects)
     c.drop_strong.ensures.seen
 
 pub returns-in-Err-popped-clause-popped : goal.returns-in-Err-popped-clause-popped
 returns-in-Err-popped-clause-popped g c =
+    let before = seen_by g.P.Part.seen c.args.seat.now in
+    let after_drop_strong = seen_by g.P.Part.seen c.drop_strong.new.seat in
+    let after_pop_node_popped = seen_by g.P.Part.seen c.pop_node-popped.new.seat in
+    let after_see_next = seen_by g.P.Part.seen c.see_next.new.seat in
     let gains = subst (λ (o : Option Handle). Leaves
-    (with_found (named o) c.args.seat.now.view.core.owned) (seen_by g.P.Part.seen c.args.seat.now) (seen_by g.P.Part.seen c.see_next.new.seat))
+    (with_found (named o) c.args.seat.now.view.core.owned) before after_see_next)
     c.in-Ok-Some.field-0-is c.in-Ok-Some.ensures.leaves in
-    pops_through c.in-Ok-Some.next.slot (seen_by g.P.Part.seen c.args.seat.now) (seen_by g.P.Part.seen c.see_next.new.seat)
-    (seen_by g.P.Part.seen c.pop_node-popped.new.seat) (seen_by g.P.Part.seen c.drop_strong.new.seat) None gains (ap deeds_in c.see_next.ensures.beside)
+    pops_through c.in-Ok-Some.next.slot before after_see_next
+    after_pop_node_popped after_drop_strong None gains (ap deeds_in c.see_next.ensures.beside)
     c.in-Err-popped.ensures.popped
-    (drop_leaves c.in-Ok-Some.next.slot (seen_by g.P.Part.seen c.pop_node-popped.new.seat) (seen_by g.P.Part.seen c.drop_strong.new.seat)
+    (drop_leaves c.in-Ok-Some.next.slot after_pop_node_popped after_drop_strong
     c.drop_strong.ensures.dropped c.drop_strong.ensures.objects)
     c.drop_strong.ensures.seen

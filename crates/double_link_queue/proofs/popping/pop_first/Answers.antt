@@ -13,9 +13,12 @@ use Rattle.double_link_queue.proofs.popping.pop_first.Goals as goal
 
 pub returns-in-Err-clause-why : goal.returns-in-Err-clause-why
 returns-in-Err-clause-why g c =
-    subst (λ (e : PopError). IsWhyUnpopped g.P.Kind.PayloadKind.fits (as_part g.P.Part.part c.args.domain.now) 3 e (seen_by g.P.Part.seen c.args.seat.now))
+    let d = as_part g.P.Part.part c.args.domain.now in
+    let fits = g.P.Kind.PayloadKind.fits in
+    let before = seen_by g.P.Part.seen c.args.seat.now in
+    subst (λ (e : PopError). IsWhyUnpopped fits d 3 e before)
     (sym c.refusal_of.ensures)
-    (why_of g.P.Kind.PayloadKind.fits (as_part g.P.Part.part c.args.domain.now) 3 c.in-Err.error (seen_by g.P.Part.seen c.args.seat.now) c.in-Err.ensures.why)
+    (why_of fits d 3 c.in-Err.error before c.in-Err.ensures.why)
 
 pub drop_strong-requires-clause-owned : goal.drop_strong-requires-clause-owned
 drop_strong-requires-clause-owned g c =
@@ -27,27 +30,37 @@ drop_strong-requires-clause-owned g c =
 
 pub returns-clause-events : goal.returns-clause-events
 returns-clause-events g c =
-    then_ok (λ found. PopsBehind g.P.Kind.PayloadKind.fits (as_part g.P.Part.part c.args.domain.now) c.slot.result (named found)
-    (seen_by g.P.Part.seen c.see_head.new.seat) (seen_by g.P.Part.seen c.pop_behind-popped.new.seat))
-    (λ found. PopsAtHead g.P.Kind.PayloadKind.fits (as_part g.P.Part.part c.args.domain.now) (named found) (seen_by g.P.Part.seen c.args.seat.now) (seen_by g.P.Part.seen c.drop_strong.new.seat))
+    let d = as_part g.P.Part.part c.args.domain.now in
+    let fits = g.P.Kind.PayloadKind.fits in
+    let before = seen_by g.P.Part.seen c.args.seat.now in
+    let after_drop_strong = seen_by g.P.Part.seen c.drop_strong.new.seat in
+    let after_pop_behind_popped = seen_by g.P.Part.seen c.pop_behind-popped.new.seat in
+    let after_see_head = seen_by g.P.Part.seen c.see_head.new.seat in
+    then_ok (λ found. PopsBehind fits d c.slot.result (named found)
+    after_see_head after_pop_behind_popped)
+    (λ found. PopsAtHead fits d (named found) before after_drop_strong)
     c.pop_behind-popped.result
     (λ found pops. record {
       front = c.in-Ok.front.slot;
-      seen = (seen_by g.P.Part.seen c.see_head.new.seat);
-      popped = (seen_by g.P.Part.seen c.pop_behind-popped.new.seat);
+      seen = after_see_head;
+      popped = after_pop_behind_popped;
       loads = c.in-Ok.ensures.loads;
-      pops = subst (λ (s : SlotId). PopsBehind g.P.Kind.PayloadKind.fits (as_part g.P.Part.part c.args.domain.now) s (named found)
-          (seen_by g.P.Part.seen c.see_head.new.seat) (seen_by g.P.Part.seen c.pop_behind-popped.new.seat)) c.slot.ensures pops;
+      pops = subst (λ (s : SlotId). PopsBehind fits d s (named found)
+          after_see_head after_pop_behind_popped) c.slot.ensures pops;
       drops = c.drop_strong.ensures.dropped;
     })
     c.pop_behind-popped.ensures.events
 
 pub returns-clause-popped : goal.returns-clause-popped
 returns-clause-popped g c =
+    let before = seen_by g.P.Part.seen c.args.seat.now in
+    let after_drop_strong = seen_by g.P.Part.seen c.drop_strong.new.seat in
+    let after_pop_behind_popped = seen_by g.P.Part.seen c.pop_behind-popped.new.seat in
+    let after_see_head = seen_by g.P.Part.seen c.see_head.new.seat in
     let gains = c.in-Ok.ensures.leaves in
-    pops_through c.in-Ok.front.slot (seen_by g.P.Part.seen c.args.seat.now) (seen_by g.P.Part.seen c.see_head.new.seat)
-    (seen_by g.P.Part.seen c.pop_behind-popped.new.seat) (seen_by g.P.Part.seen c.drop_strong.new.seat) (found_by c.pop_behind-popped.result)
+    pops_through c.in-Ok.front.slot before after_see_head
+    after_pop_behind_popped after_drop_strong (found_by c.pop_behind-popped.result)
     gains (ap deeds_in c.see_head.ensures.beside) c.pop_behind-popped.ensures.popped
-    (drop_leaves c.in-Ok.front.slot (seen_by g.P.Part.seen c.pop_behind-popped.new.seat) (seen_by g.P.Part.seen c.drop_strong.new.seat)
+    (drop_leaves c.in-Ok.front.slot after_pop_behind_popped after_drop_strong
     c.drop_strong.ensures.dropped c.drop_strong.ensures.objects)
     c.drop_strong.ensures.seen

@@ -29,22 +29,29 @@ copy_strong-requires-clause-owned g c =
 
 pub returns-in_default-clause-leaves : goal.returns-in_default-clause-leaves
 returns-in_default-clause-leaves g c =
-    through c.in_ok-node.node.slot None (seen_by g.P.Part.seen c.args.seat.now) (seen_by g.P.Part.seen c.make_node.new.seat)
-    (seen_by g.P.Part.seen c.copy_strong.new.seat) (seen_by g.P.Part.seen c.drop_strong.new.seat) c.in_ok-node.ensures.leaves
-    (leaves_same (seen_by g.P.Part.seen c.make_node.new.seat) (seen_by g.P.Part.seen c.copy_strong.new.seat) (ap (seen_by g.P.Part.seen) c.in_default.ensures.refused))
-    (drop_leaves c.in_ok-node.node.slot (seen_by g.P.Part.seen c.copy_strong.new.seat) (seen_by g.P.Part.seen c.drop_strong.new.seat)
+    let before = seen_by g.P.Part.seen c.args.seat.now in
+    let after_copy_strong = seen_by g.P.Part.seen c.copy_strong.new.seat in
+    let after_drop_strong = seen_by g.P.Part.seen c.drop_strong.new.seat in
+    let after_make_node = seen_by g.P.Part.seen c.make_node.new.seat in
+    through c.in_ok-node.node.slot None before after_make_node
+    after_copy_strong after_drop_strong c.in_ok-node.ensures.leaves
+    (leaves_same after_make_node after_copy_strong (ap (seen_by g.P.Part.seen)
+    c.in_default.ensures.refused))
+    (drop_leaves c.in_ok-node.node.slot after_copy_strong after_drop_strong
     c.drop_strong.ensures.dropped c.drop_strong.ensures.objects)
 
 pub carry-requires-clause-node : goal.carry-requires-clause-node
 carry-requires-clause-node g c =
+    let after_copy_strong = seen_by g.P.Part.seen c.copy_strong.new.seat in
+    let after_make_node = seen_by g.P.Part.seen c.make_node.new.seat in
     let node = c.in_ok-node.node.slot in
     let has = c.in_ok-node.ensures.node in
-    subst (λ (s : SlotId). HasNode s (seen_by g.P.Part.seen c.copy_strong.new.seat)) (sym c.slot.ensures)
-    (node_still node (seen_by g.P.Part.seen c.make_node.new.seat) (seen_by g.P.Part.seen c.copy_strong.new.seat) has
+    subst (λ (s : SlotId). HasNode s after_copy_strong) (sym c.slot.ensures)
+    (node_still node after_make_node after_copy_strong has
     (still_owned node c.args.item.now.slot c.make_node.new.seat.view.core.owned
     c.copy_strong.new.seat.view.core.owned
     (ap (λ (v : CoreView). v.owned) c.in-Ok.ensures.copied.1.core) has.owns)
-    (c.copy_strong.ensures.objects node (has_owned node (seen_by g.P.Part.seen c.make_node.new.seat) has.owns))
+    (c.copy_strong.ensures.objects node (has_owned node after_make_node has.owns))
     c.copy_strong.ensures.seen)
 
 pub carry-requires-clause-left : goal.carry-requires-clause-left
@@ -59,6 +66,9 @@ carry-requires-clause-left g c =
 
 pub returns-clause-carried : goal.returns-clause-carried
 returns-clause-carried g c =
+    let before = seen_by g.P.Part.seen c.args.seat.now in
+    let after_copy_strong = seen_by g.P.Part.seen c.copy_strong.new.seat in
+    let after_make_node = seen_by g.P.Part.seen c.make_node.new.seat in
     let item = c.args.item.now.slot in
     let some' = c.requires.item in
     let made = c.in_ok-node.ensures.leaves in
@@ -66,33 +76,43 @@ returns-clause-carried g c =
     let push = times_push item c.in_ok-node.node.slot c.args.seat.now.view.core.owned in
     let owns : 0 < times item c.make_node.new.seat.view.core.owned = omega arith in
     c.carry.ensures.carried
-    ∙ ap (item_in (seen_by g.P.Part.seen c.copy_strong.new.seat)) c.in-Ok.ensures.copied.0
-    ∙ item_still item (seen_by g.P.Part.seen c.make_node.new.seat) (seen_by g.P.Part.seen c.copy_strong.new.seat)
-    (c.copy_strong.ensures.objects item (has_owned item (seen_by g.P.Part.seen c.make_node.new.seat) owns))
-    ∙ item_still item (seen_by g.P.Part.seen c.args.seat.now) (seen_by g.P.Part.seen c.make_node.new.seat)
+    ∙ ap (item_in after_copy_strong) c.in-Ok.ensures.copied.0
+    ∙ item_still item after_make_node after_copy_strong
+    (c.copy_strong.ensures.objects item (has_owned item after_make_node owns))
+    ∙ item_still item before after_make_node
     (made.knows item (omega arith) (omega arith))
 
 pub returns-clause-leaves : goal.returns-clause-leaves
 returns-clause-leaves g c =
+    let before = seen_by g.P.Part.seen c.args.seat.now in
+    let after_carry = seen_by g.P.Part.seen c.carry.new.seat in
+    let after_copy_strong = seen_by g.P.Part.seen c.copy_strong.new.seat in
+    let after_make_node = seen_by g.P.Part.seen c.make_node.new.seat in
     let item = c.args.item.now.slot in
-    leaves_on (c.args.seat.now.view.core.owned ++ c.in_ok-node.node.slot ∷ []) (seen_by g.P.Part.seen c.args.seat.now)
-    (seen_by g.P.Part.seen c.make_node.new.seat) (seen_by g.P.Part.seen c.carry.new.seat) c.in_ok-node.ensures.leaves
-    (through item None (seen_by g.P.Part.seen c.make_node.new.seat) (seen_by g.P.Part.seen c.copy_strong.new.seat) (seen_by g.P.Part.seen c.copy_strong.new.seat)
-    (seen_by g.P.Part.seen c.carry.new.seat)
-    (copy_leaves item (seen_by g.P.Part.seen c.make_node.new.seat) (seen_by g.P.Part.seen c.copy_strong.new.seat) c.in-Ok.ensures.copied.1
+    leaves_on (c.args.seat.now.view.core.owned ++ c.in_ok-node.node.slot ∷ []) before
+    after_make_node after_carry c.in_ok-node.ensures.leaves
+    (through item None after_make_node after_copy_strong after_copy_strong
+    after_carry
+    (copy_leaves item after_make_node after_copy_strong c.in-Ok.ensures.copied.1
     c.copy_strong.ensures.objects)
-    (leaves_same (seen_by g.P.Part.seen c.copy_strong.new.seat) (seen_by g.P.Part.seen c.copy_strong.new.seat) refl)
+    (leaves_same after_copy_strong after_copy_strong refl)
     (subst (λ (s : SlotId). Leaves (without s c.copy_strong.new.seat.view.core.owned)
-    (seen_by g.P.Part.seen c.copy_strong.new.seat) (seen_by g.P.Part.seen c.carry.new.seat)) c.in-Ok.ensures.copied.0 c.carry.ensures.leaves))
+    after_copy_strong after_carry) c.in-Ok.ensures.copied.0 c.carry.ensures.leaves))
 
 pub returns-clause-events : goal.returns-clause-events
-returns-clause-events g c = record {
-  made = (seen_by g.P.Part.seen c.make_node.new.seat);
-  copied = (seen_by g.P.Part.seen c.copy_strong.new.seat);
-  makes = c.in_ok-node.ensures.made;
-  copies = c.in-Ok.ensures.copied.1;
-  stores = subst (λ (x : SlotId × SlotId). Stores g.P.Kind.PayloadKind.fits (as_part g.P.Part.part c.args.domain.now)
-      (next_unless carry_next) TellsNothing (Field x.0 1) (Some x.1) (seen_by g.P.Part.seen c.copy_strong.new.seat)
-      (seen_by g.P.Part.seen c.carry.new.seat))
-      (λ i. (c.slot.ensures i, c.in-Ok.ensures.copied.0 i)) c.carry.ensures.stores;
-}
+returns-clause-events g c =
+    let d = as_part g.P.Part.part c.args.domain.now in
+    let fits = g.P.Kind.PayloadKind.fits in
+    let after_carry = seen_by g.P.Part.seen c.carry.new.seat in
+    let after_copy_strong = seen_by g.P.Part.seen c.copy_strong.new.seat in
+    let after_make_node = seen_by g.P.Part.seen c.make_node.new.seat in
+    record {
+      made = after_make_node;
+      copied = after_copy_strong;
+      makes = c.in_ok-node.ensures.made;
+      copies = c.in-Ok.ensures.copied.1;
+      stores = subst (λ (x : SlotId × SlotId). Stores fits d
+          (next_unless carry_next) TellsNothing (Field x.0 1) (Some x.1) after_copy_strong
+          after_carry)
+          (λ i. (c.slot.ensures i, c.in-Ok.ensures.copied.0 i)) c.carry.ensures.stores;
+    }

@@ -12,26 +12,39 @@ use Rattle.double_link_queue.proofs.seeing.load_head.Goals as goal
 
 pub returns : goal.returns
 returns g c =
-    let all = cell_sights g.P.Kind.PayloadKind.fits (as_part g.P.Part.part c.args.domain.now) true (HeadTells (ends_of (as_part g.P.Part.part c.args.domain.now)))
-    (as_part g.P.Part.part c.args.domain.now).protocol.head c.args.head c.requires.head (seen_by g.P.Part.seen c.args.seat.now) (seen_by g.P.Part.seen c.try_load.new.seat)
-    (rest_seen g.P.Part.part g.P.Part.seen c.args.domain.now c.args.seat.now c.requires.rest) c.try_load.ensures.objects c.try_load.result (λ e. ap (seen_by g.P.Part.seen) (c.try_load.ensures.refused e))
-    c.try_load.ensures.spent.0 c.try_load.ensures.loaded c.try_load.ensures.moved (Differs g.P.Kind.PayloadKind.fits (as_part g.P.Part.part c.args.domain.now)) (λ seen now m. inl m) in
+    let d = as_part g.P.Part.part c.args.domain.now in
+    let fits = g.P.Kind.PayloadKind.fits in
+    let before = seen_by g.P.Part.seen c.args.seat.now in
+    let after_try_load = seen_by g.P.Part.seen c.try_load.new.seat in
+    let all = cell_sights fits d true (HeadTells (ends_of d))
+    d.protocol.head c.args.head c.requires.head before after_try_load
+    (rest_seen g.P.Part.part g.P.Part.seen c.args.domain.now c.args.seat.now c.requires.rest)
+    c.try_load.ensures.objects c.try_load.result (λ e. ap (seen_by g.P.Part.seen)
+    (c.try_load.ensures.refused e))
+    c.try_load.ensures.spent.0 c.try_load.ensures.loaded c.try_load.ensures.moved (Differs fits d)
+    (λ seen now m. inl m) in
     record {
       loads = search rules;
       there =
-          cell_there g.P.Kind.PayloadKind.fits (as_part g.P.Part.part c.args.domain.now) true (HeadTells (ends_of (as_part g.P.Part.part c.args.domain.now)))
-          (as_part g.P.Part.part c.args.domain.now).protocol.head c.args.head c.requires.head (seen_by g.P.Part.seen c.args.seat.now) (seen_by g.P.Part.seen c.try_load.new.seat)
-          (rest_seen g.P.Part.part g.P.Part.seen c.args.domain.now c.args.seat.now c.requires.rest) c.try_load.ensures.objects c.try_load.result (λ e. ap (seen_by g.P.Part.seen) (c.try_load.ensures.refused e))
+          cell_there fits d true (HeadTells (ends_of d))
+          d.protocol.head c.args.head c.requires.head before after_try_load
+          (rest_seen g.P.Part.part g.P.Part.seen c.args.domain.now c.args.seat.now c.requires.rest)
+          c.try_load.ensures.objects c.try_load.result (λ e. ap (seen_by g.P.Part.seen)
+          (c.try_load.ensures.refused e))
           c.try_load.ensures.spent.0 c.try_load.ensures.loaded c.try_load.ensures.moved
-          (not_null g.P.Kind.PayloadKind.fits (as_part g.P.Part.part c.args.domain.now) (as_part g.P.Part.part c.args.domain.now).protocol.head true (seen_by g.P.Part.seen c.args.seat.now)
-          (seen_by g.P.Part.seen c.try_load.new.seat) c.requires.attached);
+          (not_null fits d d.protocol.head true before
+          after_try_load c.requires.attached);
       sees =
-          cell_seen g.P.Kind.PayloadKind.fits (as_part g.P.Part.part c.args.domain.now) true (HeadTells (ends_of (as_part g.P.Part.part c.args.domain.now)))
-          (as_part g.P.Part.part c.args.domain.now).protocol.head c.args.head c.requires.head (seen_by g.P.Part.seen c.args.seat.now) (seen_by g.P.Part.seen c.try_load.new.seat)
-          (rest_seen g.P.Part.part g.P.Part.seen c.args.domain.now c.args.seat.now c.requires.rest) c.try_load.ensures.objects c.try_load.result (λ e. ap (seen_by g.P.Part.seen) (c.try_load.ensures.refused e))
-          c.try_load.ensures.spent.0 c.try_load.ensures.loaded c.try_load.ensures.moved (λ s. SeesHead s (seen_by g.P.Part.seen c.try_load.new.seat))
-          (sees_head g.P.Kind.PayloadKind.fits (as_part g.P.Part.part c.args.domain.now) (seen_by g.P.Part.seen c.args.seat.now) (seen_by g.P.Part.seen c.try_load.new.seat) (rest_seen g.P.Part.part g.P.Part.seen c.args.domain.now c.args.seat.now c.requires.rest)
-          (as_part g.P.Part.part c.args.domain.now).protocol.head);
+          cell_seen fits d true (HeadTells (ends_of d))
+          d.protocol.head c.args.head c.requires.head before after_try_load
+          (rest_seen g.P.Part.part g.P.Part.seen c.args.domain.now c.args.seat.now c.requires.rest)
+          c.try_load.ensures.objects c.try_load.result (λ e. ap (seen_by g.P.Part.seen)
+          (c.try_load.ensures.refused e))
+          c.try_load.ensures.spent.0 c.try_load.ensures.loaded c.try_load.ensures.moved (λ s.
+          SeesHead s after_try_load)
+          (sees_head fits d before after_try_load (rest_seen g.P.Part.part g.P.Part.seen
+          c.args.domain.now c.args.seat.now c.requires.rest)
+          d.protocol.head);
       adds = all.0.0;
       beside = all.0.1;
       leaves = all.0.2;

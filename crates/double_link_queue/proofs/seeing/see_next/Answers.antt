@@ -15,26 +15,35 @@ use Rattle.double_link_queue.proofs.seeing.see_next.Goals as goal
 
 pub returns : goal.returns
 returns g c =
-    let all = sights g.P.Kind.PayloadKind.fits (as_part g.P.Part.part c.args.domain.now) (place.Field c.args.front 0) (next_next) (NextTells (ends_of (as_part g.P.Part.part c.args.domain.now)))
-    (λ own after v a w. refl) (seen_by g.P.Part.seen c.args.seat.now) (seen_by g.P.Part.seen c.try_load.new.seat) (rest_seen g.P.Part.part g.P.Part.seen c.args.domain.now c.args.seat.now c.requires.rest)
-    c.try_load.ensures.objects c.try_load.result (λ e. ap (seen_by g.P.Part.seen) (c.try_load.ensures.refused e))
+    let d = as_part g.P.Part.part c.args.domain.now in
+    let fits = g.P.Kind.PayloadKind.fits in
+    let before = seen_by g.P.Part.seen c.args.seat.now in
+    let after_try_load = seen_by g.P.Part.seen c.try_load.new.seat in
+    let all = sights fits d (place.Field c.args.front 0) (next_next) (NextTells (ends_of d))
+    (λ own after v a w. refl) before after_try_load (rest_seen g.P.Part.part g.P.Part.seen
+    c.args.domain.now c.args.seat.now c.requires.rest)
+    c.try_load.ensures.objects c.try_load.result (λ e. ap (seen_by g.P.Part.seen)
+    (c.try_load.ensures.refused e))
     c.try_load.ensures.spent.0 c.try_load.ensures.loaded c.try_load.ensures.moved
-    (Differs g.P.Kind.PayloadKind.fits (as_part g.P.Part.part c.args.domain.now)) (λ seen now m. inr (inl (c.args.front, ((seen_by g.P.Part.seen c.args.seat.now), (seen_by g.P.Part.seen c.try_load.new.seat), m)))) in
+    (Differs fits d) (λ seen now m. inr (inl (c.args.front, (before, after_try_load, m)))) in
     record {
       loads = c.try_load.ensures.loaded;
       none =
-          found_none (λ found. Loads g.P.Kind.PayloadKind.fits (as_part g.P.Part.part c.args.domain.now) (Field c.args.front 0) next_next
-          (NextTells (ends_of (as_part g.P.Part.part c.args.domain.now))) found (seen_by g.P.Part.seen c.args.seat.now) (seen_by g.P.Part.seen c.try_load.new.seat))
-          (FindsLast g.P.Kind.PayloadKind.fits (as_part g.P.Part.part c.args.domain.now) c.args.front (seen_by g.P.Part.seen c.args.seat.now) (seen_by g.P.Part.seen c.try_load.new.seat))
+          found_none (λ found. Loads fits d (Field c.args.front 0) next_next
+          (NextTells (ends_of d)) found before after_try_load)
+          (FindsLast fits d c.args.front before after_try_load)
           c.try_load.result
-          (finds_last g.P.Kind.PayloadKind.fits (as_part g.P.Part.part c.args.domain.now) (seen_by g.P.Part.seen c.args.seat.now) (seen_by g.P.Part.seen c.try_load.new.seat) (rest_seen g.P.Part.part g.P.Part.seen c.args.domain.now c.args.seat.now c.requires.rest) c.args.front
+          (finds_last fits d before after_try_load (rest_seen g.P.Part.part g.P.Part.seen
+          c.args.domain.now c.args.seat.now c.requires.rest) c.args.front
           c.requires.head c.requires.attached)
           c.try_load.ensures.loaded;
       sees =
-          found_sees (λ found. Loads g.P.Kind.PayloadKind.fits (as_part g.P.Part.part c.args.domain.now) (Field c.args.front 0) (next_next)
-          (NextTells (ends_of (as_part g.P.Part.part c.args.domain.now))) found (seen_by g.P.Part.seen c.args.seat.now) (seen_by g.P.Part.seen c.try_load.new.seat))
-          (λ s. SeesNext c.args.front s (seen_by g.P.Part.seen c.try_load.new.seat)) c.try_load.result
-          (λ s. sees_next g.P.Kind.PayloadKind.fits (as_part g.P.Part.part c.args.domain.now) (seen_by g.P.Part.seen c.args.seat.now) (seen_by g.P.Part.seen c.try_load.new.seat) (rest_seen g.P.Part.part g.P.Part.seen c.args.domain.now c.args.seat.now c.requires.rest) c.args.front s c.requires.head c.try_load.ensures.objects)
+          found_sees (λ found. Loads fits d (Field c.args.front 0) (next_next)
+          (NextTells (ends_of d)) found before after_try_load)
+          (λ s. SeesNext c.args.front s after_try_load) c.try_load.result
+          (λ s. sees_next fits d before after_try_load (rest_seen g.P.Part.part g.P.Part.seen
+          c.args.domain.now c.args.seat.now c.requires.rest) c.args.front s c.requires.head
+          c.try_load.ensures.objects)
           c.try_load.ensures.loaded;
       adds = all.0.0;
       beside = all.0.1;

@@ -8,8 +8,11 @@ use Rattle.double_link_queue.proofs.taking.look_again.Goals as goal
 
 pub returns-in-Found-clause-looks : goal.returns-in-Found-clause-looks
 returns-in-Found-clause-looks g c =
-    step_as (as_part g.P.Part.part c.args.domain.now) (Cell c.args.head) (Cell (as_part g.P.Part.part c.args.domain.now).protocol.head)
-    c.look.result _ (seen_by g.P.Part.seen c.args.seat.now) (seen_by g.P.Part.seen c.look.new.seat) (ap Cell c.requires.head)
+    let d = as_part g.P.Part.part c.args.domain.now in
+    let before = seen_by g.P.Part.seen c.args.seat.now in
+    let after_look = seen_by g.P.Part.seen c.look.new.seat in
+    step_as d (Cell c.args.head) (Cell d.protocol.head)
+    c.look.result _ before after_look (ap Cell c.requires.head)
     (c.in-Found.is ∙ word_slot_of c.in-Found.found c.held_as.result c.held_as.ensures)
     c.look.ensures.steps
 

@@ -19,53 +19,66 @@ use Rattle.double_link_queue.proofs.taking.take.Goals as goal
 
 pub try_replace-requires-clause-expected : goal.try_replace-requires-clause-expected
 try_replace-requires-clause-expected g c =
-    let copies = subst (λ (s : SlotId). GainsStrong g.P.Kind.PayloadKind.fits (as_part g.P.Part.part c.args.domain.now) same_view
-    IsSameView s (seen_by g.P.Part.seen c.args.seat.now) (seen_by g.P.Part.seen c.copy_strong.new.seat))
+    let d = as_part g.P.Part.part c.args.domain.now in
+    let fits = g.P.Kind.PayloadKind.fits in
+    let before = seen_by g.P.Part.seen c.args.seat.now in
+    let after_copy_strong = seen_by g.P.Part.seen c.copy_strong.new.seat in
+    let copies = subst (λ (s : SlotId). GainsStrong fits d same_view
+    IsSameView s before after_copy_strong)
     c.of.ensures c.in-Ok.ensures.copied.1 in
-    front_there g.P.Kind.PayloadKind.fits (as_part g.P.Part.part c.args.domain.now) c.args.sight.front c.args.sight.next c.args.sight.item (seen_by g.P.Part.seen c.args.seat.now)
-    (seen_by g.P.Part.seen c.copy_strong.new.seat) c.requires.sees copies c.copy_strong.ensures.seen
+    front_there fits d c.args.sight.front c.args.sight.next c.args.sight.item before
+    after_copy_strong c.requires.sees copies c.copy_strong.ensures.seen
     c.copy_strong.ensures.objects
 
 pub try_replace-requires-clause-deed : goal.try_replace-requires-clause-deed
 try_replace-requires-clause-deed g c =
-    let copies = subst (λ (s : SlotId). GainsStrong g.P.Kind.PayloadKind.fits (as_part g.P.Part.part c.args.domain.now) same_view
-    IsSameView s (seen_by g.P.Part.seen c.args.seat.now) (seen_by g.P.Part.seen c.copy_strong.new.seat))
+    let d = as_part g.P.Part.part c.args.domain.now in
+    let fits = g.P.Kind.PayloadKind.fits in
+    let before = seen_by g.P.Part.seen c.args.seat.now in
+    let after_copy_strong = seen_by g.P.Part.seen c.copy_strong.new.seat in
+    let copies = subst (λ (s : SlotId). GainsStrong fits d same_view
+    IsSameView s before after_copy_strong)
     c.of.ensures c.in-Ok.ensures.copied.1 in
-    take_ready g.P.Kind.PayloadKind.fits (as_part g.P.Part.part c.args.domain.now) c.args.sight.front c.args.sight.next c.args.sight.item (seen_by g.P.Part.seen c.args.seat.now)
-    (seen_by g.P.Part.seen c.copy_strong.new.seat) c.requires.sees copies c.copy_strong.ensures.seen
+    take_ready fits d c.args.sight.front c.args.sight.next c.args.sight.item before
+    after_copy_strong c.requires.sees copies c.copy_strong.ensures.seen
     c.copy_strong.ensures.objects c.args.head c.in-Ok.given.slot c.requires.head
     (c.in-Ok.ensures.copied.0 ∙ c.of.ensures) c.requires.attached
 
 pub returns-in-Ok-try_replace : goal.returns-in-Ok-try_replace
 returns-in-Ok-try_replace g c =
-    let copies = subst (λ (s : SlotId). GainsStrong g.P.Kind.PayloadKind.fits (as_part g.P.Part.part c.args.domain.now) same_view
-    IsSameView s (seen_by g.P.Part.seen c.args.seat.now) (seen_by g.P.Part.seen c.copy_strong.new.seat))
+    let d = as_part g.P.Part.part c.args.domain.now in
+    let fits = g.P.Kind.PayloadKind.fits in
+    let before = seen_by g.P.Part.seen c.args.seat.now in
+    let after_copy_strong = seen_by g.P.Part.seen c.copy_strong.new.seat in
+    let after_try_replace = seen_by g.P.Part.seen c.try_replace.new.seat in
+    let copies = subst (λ (s : SlotId). GainsStrong fits d same_view
+    IsSameView s before after_copy_strong)
     c.of.ensures c.in-Ok.ensures.copied.1 in
     let same = c.in-Ok.ensures.copied.0 ∙ c.of.ensures in
-    let replaces = subst (λ (x : ℕ × SlotId). Replaces g.P.Kind.PayloadKind.fits (as_part g.P.Part.part c.args.domain.now) take_next
-    TellsNothing (Cell x.0) (Some x.1) (Some c.args.sight.front) (seen_by g.P.Part.seen c.copy_strong.new.seat)
-    (seen_by g.P.Part.seen c.try_replace.new.seat))
+    let replaces = subst (λ (x : ℕ × SlotId). Replaces fits d take_next
+    TellsNothing (Cell x.0) (Some x.1) (Some c.args.sight.front) after_copy_strong
+    after_try_replace)
     (λ i. (c.requires.head i, same i)) c.in-Ok-try_replace.ensures.replaced.0 in
     let still = subst (λ (s : SlotId). Leaves (without s c.copy_strong.new.seat.view.core.owned)
-    (seen_by g.P.Part.seen c.copy_strong.new.seat) (seen_by g.P.Part.seen c.try_replace.new.seat)) same
-    (exchange_leaves (Cell c.args.head) _ (Some c.in-Ok.given.slot) _ (seen_by g.P.Part.seen c.copy_strong.new.seat)
-    (seen_by g.P.Part.seen c.try_replace.new.seat) refl c.in-Ok-try_replace.ensures.replaced.0
+    after_copy_strong after_try_replace) same
+    (exchange_leaves (Cell c.args.head) _ (Some c.in-Ok.given.slot) _ after_copy_strong
+    after_try_replace refl c.in-Ok-try_replace.ensures.replaced.0
     c.try_replace.ensures.objects) in
     record {
-      takes = record { copied = (seen_by g.P.Part.seen c.copy_strong.new.seat); copies = copies; replaces = replaces };
-      popped = taken_deeds g.P.Kind.PayloadKind.fits (as_part g.P.Part.part c.args.domain.now) c.args.sight.front c.args.sight.next
-          c.args.sight.item (seen_by g.P.Part.seen c.args.seat.now) (seen_by g.P.Part.seen c.copy_strong.new.seat) c.requires.sees copies
-          c.copy_strong.ensures.seen c.copy_strong.ensures.objects (seen_by g.P.Part.seen c.try_replace.new.seat)
+      takes = record { copied = after_copy_strong; copies = copies; replaces = replaces };
+      popped = taken_deeds fits d c.args.sight.front c.args.sight.next
+          c.args.sight.item before after_copy_strong c.requires.sees copies
+          c.copy_strong.ensures.seen c.copy_strong.ensures.objects after_try_replace
           replaces still;
-      dummy = taken_dummy g.P.Kind.PayloadKind.fits (as_part g.P.Part.part c.args.domain.now) c.args.sight.front c.args.sight.next
-          c.args.sight.item (seen_by g.P.Part.seen c.args.seat.now) (seen_by g.P.Part.seen c.copy_strong.new.seat) c.requires.sees copies
-          c.copy_strong.ensures.seen c.copy_strong.ensures.objects (seen_by g.P.Part.seen c.try_replace.new.seat)
+      dummy = taken_dummy fits d c.args.sight.front c.args.sight.next
+          c.args.sight.item before after_copy_strong c.requires.sees copies
+          c.copy_strong.ensures.seen c.copy_strong.ensures.objects after_try_replace
           replaces still;
       refused = tt;
       why = tt;
-      leaves = taken_leaves g.P.Kind.PayloadKind.fits (as_part g.P.Part.part c.args.domain.now) c.args.sight.front c.args.sight.next
-          c.args.sight.item (seen_by g.P.Part.seen c.args.seat.now) (seen_by g.P.Part.seen c.copy_strong.new.seat) c.requires.sees copies
-          c.copy_strong.ensures.seen c.copy_strong.ensures.objects (seen_by g.P.Part.seen c.try_replace.new.seat)
+      leaves = taken_leaves fits d c.args.sight.front c.args.sight.next
+          c.args.sight.item before after_copy_strong c.requires.sees copies
+          c.copy_strong.ensures.seen c.copy_strong.ensures.objects after_try_replace
           replaces still;
       room = c.try_replace.ensures.room;
       beside_part = c.try_replace.ensures.beside ∙ c.copy_strong.ensures.beside;
@@ -74,13 +87,19 @@ returns-in-Ok-try_replace g c =
 
 pub returns : goal.returns
 returns g c =
-    let copies = subst (λ (s : SlotId). GainsStrong g.P.Kind.PayloadKind.fits (as_part g.P.Part.part c.args.domain.now) same_view
-    IsSameView s (seen_by g.P.Part.seen c.args.seat.now) (seen_by g.P.Part.seen c.copy_strong.new.seat))
+    let d = as_part g.P.Part.part c.args.domain.now in
+    let fits = g.P.Kind.PayloadKind.fits in
+    let before = seen_by g.P.Part.seen c.args.seat.now in
+    let after_copy_strong = seen_by g.P.Part.seen c.copy_strong.new.seat in
+    let after_drop_strong = seen_by g.P.Part.seen c.drop_strong.new.seat in
+    let after_try_replace = seen_by g.P.Part.seen c.try_replace.new.seat in
+    let copies = subst (λ (s : SlotId). GainsStrong fits d same_view
+    IsSameView s before after_copy_strong)
     c.of.ensures c.in-Ok.ensures.copied.1 in
     let same = c.in-Ok.ensures.copied.0 ∙ c.of.ensures in
-    let loses = subst (λ (x : ℕ × SlotId). LosesTo g.P.Kind.PayloadKind.fits (as_part g.P.Part.part c.args.domain.now) take_next
+    let loses = subst (λ (x : ℕ × SlotId). LosesTo fits d take_next
     TellsNothing (Cell x.0) (Some x.1) (Some c.args.sight.front) c.in-Err.lost.now
-    (seen_by g.P.Part.seen c.copy_strong.new.seat) (seen_by g.P.Part.seen c.try_replace.new.seat))
+    after_copy_strong after_try_replace)
     (λ i. (c.requires.head i, same i)) c.in-Err.ensures.lost in
     let both : Some c.in-Some.given ≡ Some c.in-Ok.given =
     sym c.in-Some.is ∙ c.in-Err.ensures.back in
@@ -91,17 +110,18 @@ returns g c =
       popped = tt;
       dummy = tt;
       refused = search rules;
-      why = inl (inr (inr (inr (lost_to g.P.Kind.PayloadKind.fits (as_part g.P.Part.part c.args.domain.now) c.args.sight.front c.args.sight.next c.args.sight.item (seen_by g.P.Part.seen c.args.seat.now)
-          (seen_by g.P.Part.seen c.copy_strong.new.seat) c.requires.sees copies c.copy_strong.ensures.seen
-          c.copy_strong.ensures.objects (seen_by g.P.Part.seen c.try_replace.new.seat) (seen_by g.P.Part.seen c.drop_strong.new.seat)
+      why = inl (inr (inr (inr (lost_to fits d c.args.sight.front c.args.sight.next
+          c.args.sight.item before
+          after_copy_strong c.requires.sees copies c.copy_strong.ensures.seen
+          c.copy_strong.ensures.objects after_try_replace after_drop_strong
           c.in-Err.lost.now loses c.held_as.result c.held_as.ensures))));
-      leaves = unchanged g.P.Kind.PayloadKind.fits (as_part g.P.Part.part c.args.domain.now) c.args.sight.front c.args.sight.next c.args.sight.item (seen_by g.P.Part.seen c.args.seat.now)
-          (seen_by g.P.Part.seen c.copy_strong.new.seat) c.requires.sees copies c.copy_strong.ensures.seen
-          c.copy_strong.ensures.objects (seen_by g.P.Part.seen c.try_replace.new.seat) (seen_by g.P.Part.seen c.drop_strong.new.seat) c.in-Err.lost.now loses
-          (subst (λ (s : SlotId). DropsStrong g.P.Kind.PayloadKind.fits (as_part g.P.Part.part c.args.domain.now) s (seen_by g.P.Part.seen c.try_replace.new.seat)
-          (seen_by g.P.Part.seen c.drop_strong.new.seat)) back c.drop_strong.ensures.dropped)
+      leaves = unchanged fits d c.args.sight.front c.args.sight.next c.args.sight.item before
+          after_copy_strong c.requires.sees copies c.copy_strong.ensures.seen
+          c.copy_strong.ensures.objects after_try_replace after_drop_strong c.in-Err.lost.now loses
+          (subst (λ (s : SlotId). DropsStrong fits d s after_try_replace
+          after_drop_strong) back c.drop_strong.ensures.dropped)
           (subst (λ (s : SlotId). KnowsStill (without_strong s c.try_replace.new.seat.view.core)
-          (seen_by g.P.Part.seen c.try_replace.new.seat) (seen_by g.P.Part.seen c.drop_strong.new.seat)) back c.drop_strong.ensures.objects);
+          after_try_replace after_drop_strong) back c.drop_strong.ensures.objects);
       room = c.drop_strong.ensures.room c.try_replace.ensures.room;
       beside_part = c.drop_strong.ensures.beside ∙ c.try_replace.ensures.beside
           ∙ c.copy_strong.ensures.beside;

@@ -70,10 +70,12 @@ returns-clause-moved g c =
 
 pub returns-clause-beside : goal.returns-clause-beside
 returns-clause-beside g c =
+    let fits = g.P.Kind.PayloadKind.fits in
     weak_load_beside g.P.Part.seen g.P.Part.with_seen g.Q.Protocol.gone g.P.Part.puts_over
-    g.P.Kind.PayloadKind.fits c.args.domain.now
+    fits c.args.domain.now
     (g.D.Deed.next c.new.result.deed (g.P.Part.part c.args.domain.now.protocol))
     (lifted_allows g.P.Part.seen
     (g.D.Deed.allows c.new.result.deed (g.P.Part.part c.args.domain.now.protocol)))
     c.args.seat.now c.try_load_weak.new.seat (weak_place c.args.place) c.try_load_weak.result
-    c.requires.rest c.try_load_weak.ensures.refused c.try_load_weak.ensures.loaded c.try_load_weak.ensures.moved
+    c.requires.rest c.try_load_weak.ensures.refused c.try_load_weak.ensures.loaded
+    c.try_load_weak.ensures.moved

@@ -21,74 +21,114 @@ use Rattle.double_link_queue.proofs.queue.DoubleQueue.lay.Goals as goal
 
 pub returns-in_default-clause-why : goal.returns-in_default-clause-why
 returns-in_default-clause-why g c =
+    let d = as_part g.P.Part.part c.args.domain.now in
+    let fits = g.P.Kind.PayloadKind.fits in
+    let before = seen_by g.P.Part.seen c.args.seat.now in
+    let after_drop_strong = seen_by g.P.Part.seen c.drop_strong.new.seat in
+    let after_make_node = seen_by g.P.Part.seen c.make_node.new.seat in
     let dummy = c.in_ok-dummy.dummy.slot in
     inr (
       refl,
-      spent_made g.P.Kind.PayloadKind.fits (as_part g.P.Part.part c.args.domain.now) dummy (seen_by g.P.Part.seen c.args.seat.now) (seen_by g.P.Part.seen c.make_node.new.seat)
+      spent_made fits d dummy before after_make_node
           c.in_ok-dummy.ensures.made (c.in_default.ensures.spent.0 refl),
       record {
         dummy = dummy;
-        made = (seen_by g.P.Part.seen c.make_node.new.seat);
+        made = after_make_node;
         makes = c.in_ok-dummy.ensures.made;
-        drops = subst (λ (z : SeatState View). DropsStrong g.P.Kind.PayloadKind.fits (as_part g.P.Part.part c.args.domain.now) dummy z
-            (seen_by g.P.Part.seen c.drop_strong.new.seat))
+        drops = subst (λ (z : SeatState View). DropsStrong fits d dummy z
+            after_drop_strong)
             (ap (seen_by g.P.Part.seen) c.in_default.ensures.refused) c.drop_strong.ensures.dropped;
       },
     )
 
 pub returns-in_default-clause-leaves : goal.returns-in_default-clause-leaves
 returns-in_default-clause-leaves g c =
-    through c.in_ok-dummy.dummy.slot None (seen_by g.P.Part.seen c.args.seat.now) (seen_by g.P.Part.seen c.make_node.new.seat)
-    (seen_by g.P.Part.seen c.copy_strong.new.seat) (seen_by g.P.Part.seen c.drop_strong.new.seat) c.in_ok-dummy.ensures.leaves
-    (leaves_same (seen_by g.P.Part.seen c.make_node.new.seat) (seen_by g.P.Part.seen c.copy_strong.new.seat) (ap (seen_by g.P.Part.seen) c.in_default.ensures.refused))
-    (drop_leaves c.in_ok-dummy.dummy.slot (seen_by g.P.Part.seen c.copy_strong.new.seat) (seen_by g.P.Part.seen c.drop_strong.new.seat)
+    let before = seen_by g.P.Part.seen c.args.seat.now in
+    let after_copy_strong = seen_by g.P.Part.seen c.copy_strong.new.seat in
+    let after_drop_strong = seen_by g.P.Part.seen c.drop_strong.new.seat in
+    let after_make_node = seen_by g.P.Part.seen c.make_node.new.seat in
+    through c.in_ok-dummy.dummy.slot None before after_make_node
+    after_copy_strong after_drop_strong c.in_ok-dummy.ensures.leaves
+    (leaves_same after_make_node after_copy_strong (ap (seen_by g.P.Part.seen)
+    c.in_default.ensures.refused))
+    (drop_leaves c.in_ok-dummy.dummy.slot after_copy_strong after_drop_strong
     c.drop_strong.ensures.dropped c.drop_strong.ensures.objects)
 
 pub lay_tail-requires-clause-node : goal.lay_tail-requires-clause-node
 lay_tail-requires-clause-node g c =
-    subst (λ (s : SlotId). HasNode s (seen_by g.P.Part.seen c.copy_strong.new.seat)) (sym c.in-Ok.ensures.copied.0)
-    (node_copied g.P.Kind.PayloadKind.fits (as_part g.P.Part.part c.args.domain.now) c.in_ok-dummy.dummy.slot (seen_by g.P.Part.seen c.args.seat.now) (seen_by g.P.Part.seen c.make_node.new.seat)
-    (seen_by g.P.Part.seen c.copy_strong.new.seat) (seen_by g.P.Part.seen c.args.seat.now) (seen_by g.P.Part.seen c.args.seat.now) c.in_ok-dummy.ensures.node
+    let d = as_part g.P.Part.part c.args.domain.now in
+    let fits = g.P.Kind.PayloadKind.fits in
+    let before = seen_by g.P.Part.seen c.args.seat.now in
+    let after_copy_strong = seen_by g.P.Part.seen c.copy_strong.new.seat in
+    let after_make_node = seen_by g.P.Part.seen c.make_node.new.seat in
+    subst (λ (s : SlotId). HasNode s after_copy_strong) (sym c.in-Ok.ensures.copied.0)
+    (node_copied fits d c.in_ok-dummy.dummy.slot before after_make_node
+    after_copy_strong before before c.in_ok-dummy.ensures.node
     c.in-Ok.ensures.copied.1 c.copy_strong.ensures.seen c.copy_strong.ensures.objects)
 
 pub lay_head-requires-clause-dummy : goal.lay_head-requires-clause-dummy
 lay_head-requires-clause-dummy g c =
-    half_owned g.P.Kind.PayloadKind.fits (as_part g.P.Part.part c.args.domain.now) c.in_ok-dummy.dummy.slot (seen_by g.P.Part.seen c.args.seat.now) (seen_by g.P.Part.seen c.make_node.new.seat)
-    (seen_by g.P.Part.seen c.copy_strong.new.seat) (seen_by g.P.Part.seen c.lay_tail.new.seat) (seen_by g.P.Part.seen c.args.seat.now) c.in_ok-dummy.ensures.node
+    let d = as_part g.P.Part.part c.args.domain.now in
+    let fits = g.P.Kind.PayloadKind.fits in
+    let before = seen_by g.P.Part.seen c.args.seat.now in
+    let after_copy_strong = seen_by g.P.Part.seen c.copy_strong.new.seat in
+    let after_lay_tail = seen_by g.P.Part.seen c.lay_tail.new.seat in
+    let after_make_node = seen_by g.P.Part.seen c.make_node.new.seat in
+    half_owned fits d c.in_ok-dummy.dummy.slot before after_make_node
+    after_copy_strong after_lay_tail before c.in_ok-dummy.ensures.node
     c.in-Ok.ensures.copied.1 c.copy_strong.ensures.seen c.copy_strong.ensures.objects
     (subst (λ (s : SlotId). Leaves (without s c.copy_strong.new.seat.view.core.owned)
-    (seen_by g.P.Part.seen c.copy_strong.new.seat) (seen_by g.P.Part.seen c.lay_tail.new.seat)) c.in-Ok.ensures.copied.0 c.lay_tail.ensures.leaves)
+    after_copy_strong after_lay_tail) c.in-Ok.ensures.copied.0 c.lay_tail.ensures.leaves)
 
 pub lay_head-requires-clause-half : goal.lay_head-requires-clause-half
 lay_head-requires-clause-half g c =
-    half_laid g.P.Kind.PayloadKind.fits (as_part g.P.Part.part c.args.domain.now) c.in_ok-dummy.dummy.slot (seen_by g.P.Part.seen c.args.seat.now) (seen_by g.P.Part.seen c.make_node.new.seat)
-    (seen_by g.P.Part.seen c.copy_strong.new.seat) (seen_by g.P.Part.seen c.lay_tail.new.seat) (seen_by g.P.Part.seen c.args.seat.now) c.in_ok-dummy.ensures.node
+    let d = as_part g.P.Part.part c.args.domain.now in
+    let fits = g.P.Kind.PayloadKind.fits in
+    let before = seen_by g.P.Part.seen c.args.seat.now in
+    let after_copy_strong = seen_by g.P.Part.seen c.copy_strong.new.seat in
+    let after_lay_tail = seen_by g.P.Part.seen c.lay_tail.new.seat in
+    let after_make_node = seen_by g.P.Part.seen c.make_node.new.seat in
+    half_laid fits d c.in_ok-dummy.dummy.slot before after_make_node
+    after_copy_strong after_lay_tail before c.in_ok-dummy.ensures.node
     c.in-Ok.ensures.copied.1 c.copy_strong.ensures.seen c.copy_strong.ensures.objects
     (subst (λ (s : SlotId). Leaves (without s c.copy_strong.new.seat.view.core.owned)
-    (seen_by g.P.Part.seen c.copy_strong.new.seat) (seen_by g.P.Part.seen c.lay_tail.new.seat)) c.in-Ok.ensures.copied.0 c.lay_tail.ensures.leaves)
+    after_copy_strong after_lay_tail) c.in-Ok.ensures.copied.0 c.lay_tail.ensures.leaves)
     c.lay_tail.ensures.half c.make_node.ensures.deeds c.requires.unlaid
 
 pub returns-clause-lays : goal.returns-clause-lays
-returns-clause-lays g c = record {
-  dummy = c.in_ok-dummy.dummy.slot;
-  made = (seen_by g.P.Part.seen c.make_node.new.seat);
-  copied = (seen_by g.P.Part.seen c.copy_strong.new.seat);
-  half = (seen_by g.P.Part.seen c.lay_tail.new.seat);
-  makes = c.in_ok-dummy.ensures.made;
-  copies = c.in-Ok.ensures.copied.1;
-  tail = subst (λ (s : SlotId). Stores g.P.Kind.PayloadKind.fits (as_part g.P.Part.part c.args.domain.now) lay_tail_next TellsNothing
-      (Cell (as_part g.P.Part.part c.args.domain.now).protocol.tail) (Some s) (seen_by g.P.Part.seen c.copy_strong.new.seat) (seen_by g.P.Part.seen c.lay_tail.new.seat))
-      c.in-Ok.ensures.copied.0 c.lay_tail.ensures.stores;
-  head = c.lay_head.ensures.stores;
-}
+returns-clause-lays g c =
+    let d = as_part g.P.Part.part c.args.domain.now in
+    let fits = g.P.Kind.PayloadKind.fits in
+    let after_copy_strong = seen_by g.P.Part.seen c.copy_strong.new.seat in
+    let after_lay_tail = seen_by g.P.Part.seen c.lay_tail.new.seat in
+    let after_make_node = seen_by g.P.Part.seen c.make_node.new.seat in
+    record {
+      dummy = c.in_ok-dummy.dummy.slot;
+      made = after_make_node;
+      copied = after_copy_strong;
+      half = after_lay_tail;
+      makes = c.in_ok-dummy.ensures.made;
+      copies = c.in-Ok.ensures.copied.1;
+      tail = subst (λ (s : SlotId). Stores fits d lay_tail_next TellsNothing
+          (Cell d.protocol.tail) (Some s) after_copy_strong after_lay_tail)
+          c.in-Ok.ensures.copied.0 c.lay_tail.ensures.stores;
+      head = c.lay_head.ensures.stores;
+    }
 
 pub returns-clause-leaves : goal.returns-clause-leaves
 returns-clause-leaves g c =
-    laid_leaves g.P.Kind.PayloadKind.fits (as_part g.P.Part.part c.args.domain.now) c.in_ok-dummy.dummy.slot (seen_by g.P.Part.seen c.args.seat.now) (seen_by g.P.Part.seen c.make_node.new.seat)
-    (seen_by g.P.Part.seen c.copy_strong.new.seat) (seen_by g.P.Part.seen c.lay_tail.new.seat) (seen_by g.P.Part.seen c.lay_head.new.seat) c.in_ok-dummy.ensures.node
+    let d = as_part g.P.Part.part c.args.domain.now in
+    let fits = g.P.Kind.PayloadKind.fits in
+    let before = seen_by g.P.Part.seen c.args.seat.now in
+    let after_copy_strong = seen_by g.P.Part.seen c.copy_strong.new.seat in
+    let after_lay_head = seen_by g.P.Part.seen c.lay_head.new.seat in
+    let after_lay_tail = seen_by g.P.Part.seen c.lay_tail.new.seat in
+    let after_make_node = seen_by g.P.Part.seen c.make_node.new.seat in
+    laid_leaves fits d c.in_ok-dummy.dummy.slot before after_make_node
+    after_copy_strong after_lay_tail after_lay_head c.in_ok-dummy.ensures.node
     c.in-Ok.ensures.copied.1 c.copy_strong.ensures.seen c.copy_strong.ensures.objects
     (subst (λ (s : SlotId). Leaves (without s c.copy_strong.new.seat.view.core.owned)
-    (seen_by g.P.Part.seen c.copy_strong.new.seat) (seen_by g.P.Part.seen c.lay_tail.new.seat)) c.in-Ok.ensures.copied.0 c.lay_tail.ensures.leaves)
+    after_copy_strong after_lay_tail) c.in-Ok.ensures.copied.0 c.lay_tail.ensures.leaves)
     c.in_ok-dummy.ensures.leaves c.lay_head.ensures.leaves
 
 pub returns-in_err-dummy-clause-beside : goal.returns-in_err-dummy-clause-beside

@@ -44,13 +44,17 @@ drop_strong-requires-clause-owned g c =
 
 pub returns-in-Ok-push_at_last-clause-pushed : goal.returns-in-Ok-push_at_last-clause-pushed
 returns-in-Ok-push_at_last-clause-pushed g c =
-    let old = (seen_by g.P.Part.seen c.args.seat.now) in
-    let loaded = (seen_by g.P.Part.seen c.load_node.new.seat) in
-    let pushed = (seen_by g.P.Part.seen c.push_at_last.new.seat) in
+    let before = seen_by g.P.Part.seen c.args.seat.now in
+    let after_drop_strong = seen_by g.P.Part.seen c.drop_strong.new.seat in
+    let after_load_node = seen_by g.P.Part.seen c.load_node.new.seat in
+    let after_push_at_last = seen_by g.P.Part.seen c.push_at_last.new.seat in
+    let old = before in
+    let loaded = after_load_node in
+    let pushed = after_push_at_last in
     let all = through_both c.in-Ok.node.slot None old loaded loaded pushed
     (both_of (old.view.core.owned ++ c.in-Ok.node.slot ∷ []) old loaded c.in-Ok.ensures.leaves)
     (both_same loaded loaded refl) c.push_at_last.ensures.leaves in
-    let new = (seen_by g.P.Part.seen c.drop_strong.new.seat) in
+    let new = after_drop_strong in
     let item = c.args.item.slot in
     record {
       leaves = nothing_gives item old pushed new c.requires.item all
@@ -58,8 +62,10 @@ returns-in-Ok-push_at_last-clause-pushed g c =
           (drop_leaves item pushed new c.drop_strong.ensures.dropped
           c.drop_strong.ensures.objects));
       deeds = ap deeds_in c.drop_strong.ensures.seen ∙ c.in-Ok-push_at_last.ensures.pushed
-          ∙ ap (λ (i : Item). pushed_too i (landed_in (deeds_in loaded.view.client))) c.in-Ok.ensures.carried
-          ∙ ap (λ (v : View). pushed_too (item_in old item) (landed_in v)) c.load_node.ensures.deeds;
+          ∙ ap (λ (i : Item). pushed_too i (landed_in (deeds_in loaded.view.client)))
+          c.in-Ok.ensures.carried
+          ∙ ap (λ (v : View). pushed_too (item_in old item) (landed_in v))
+          c.load_node.ensures.deeds;
     }
 
 pub returns-in-Ok-push_at_last-clause-beside : goal.returns-in-Ok-push_at_last-clause-beside

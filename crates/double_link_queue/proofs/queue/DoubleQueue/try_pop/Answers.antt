@@ -7,12 +7,16 @@ use Rattle.double_link_queue.proofs.queue.DoubleQueue.try_pop.Goals as goal
 
 pub returns-clause-attached : goal.returns-clause-attached
 returns-clause-attached g c =
-    pops_attached (found_by c.pop_first.result) (seen_by g.P.Part.seen c.args.seat.now) (seen_by g.P.Part.seen c.pop_first.new.seat)
+    let before = seen_by g.P.Part.seen c.args.seat.now in
+    let after_pop_first = seen_by g.P.Part.seen c.pop_first.new.seat in
+    pops_attached (found_by c.pop_first.result) before after_pop_first
     c.pop_first.ensures.popped c.requires.attached
 
 pub returns-clause-owned : goal.returns-clause-owned
 returns-clause-owned g c =
-    pops_owned c.pop_first.result (seen_by g.P.Part.seen c.args.seat.now) (seen_by g.P.Part.seen c.pop_first.new.seat) c.pop_first.ensures.popped
+    let before = seen_by g.P.Part.seen c.args.seat.now in
+    let after_pop_first = seen_by g.P.Part.seen c.pop_first.new.seat in
+    pops_owned c.pop_first.result before after_pop_first c.pop_first.ensures.popped
 
 pub returns-clause-beside : goal.returns-clause-beside
 returns-clause-beside g c =
