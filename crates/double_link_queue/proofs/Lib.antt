@@ -9,3 +9,4 @@ pub mod Accepting
 pub mod Pushings
 pub mod Whys
 pub mod Takes
+pub mod Making

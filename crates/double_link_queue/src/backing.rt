@@ -32,6 +32,7 @@ pub(crate) fn link_back<S, P: HasQueue<S>>(
     ensures refused { OnErr result ((P.seen seat.new.view.client) ≡ (P.seen seat.old.view.client)) }
     ensures spent { IfErr result (λ spent. IsSpent seat.old.view.core) }
     ensures adds { seat.new.view.core.adds ≤ seat.old.view.core.adds + 1 }
+    ensures makes { seat.new.view.core.makes ≡ seat.old.view.core.makes }
     ensures leaves { LeavesBoth seat.old.view.core.owned seat.old.view.core.weaks
         (seen_by P.seen seat.old) (seen_by P.seen seat.new) }
     ensures beside_part { HasBeside P.with_seen first_view seat.old seat.new }
@@ -52,6 +53,7 @@ fn set_back<S, P: HasQueue<S>>(domain: &Domain<P>, seat: &mut Seat<P>, node: Slo
     ensures backed { (P.seen seat.new.view.client)
         ≡ backed_in back.slot (P.seen seat.old.view.client) }
     ensures adds { seat.new.view.core.adds ≡ seat.old.view.core.adds }
+    ensures makes { seat.new.view.core.makes ≡ seat.old.view.core.makes }
     ensures leaves { LeavesBoth seat.old.view.core.owned
         (without back.slot seat.old.view.core.weaks)
         (seen_by P.seen seat.old) (seen_by P.seen seat.new) }

@@ -42,6 +42,7 @@ pub(crate) fn push_node<S, P: HasQueue<S>>(
         (landed_in (deeds_in (P.seen seat.old.view.client)))) }
     ensures refused { OnErr result (deeds_in (P.seen seat.new.view.client)
         ≡ deeds_in (P.seen seat.old.view.client)) }
+    ensures makes { seat.new.view.core.makes ≡ seat.old.view.core.makes }
     ensures leaves { LeavesBoth (without node.slot seat.old.view.core.owned)
         seat.old.view.core.weaks (seen_by P.seen seat.old) (seen_by P.seen seat.new) }
     ensures why { IfErr result
@@ -87,6 +88,7 @@ pub(crate) fn take_last<S, P: HasQueue<S>>(
     ensures refused { OnErr result (beside_back (P.seen seat.new.view.client)
         ≡ beside_back (P.seen seat.old.view.client)) }
     ensures load { OnErr result (HasLoad node (seen_by P.seen seat.new)) }
+    ensures makes { seat.new.view.core.makes ≡ seat.old.view.core.makes }
     ensures leaves { LeavesBoth (with_found (handle_by result) seat.old.view.core.owned)
         seat.old.view.core.weaks (seen_by P.seen seat.old) (seen_by P.seen seat.new) }
     ensures why { IfErr result
@@ -134,6 +136,7 @@ fn take_tail<S, P: HasQueue<S>>(
     ensures refused { OnErr result (beside_back (P.seen seat.new.view.client)
         ≡ beside_back (P.seen seat.old.view.client)) }
     ensures load { OnErr result (HasLoad node (seen_by P.seen seat.new)) }
+    ensures makes { seat.new.view.core.makes ≡ seat.old.view.core.makes }
     ensures leaves { LeavesBoth seat.old.view.core.owned seat.old.view.core.weaks
         (seen_by P.seen seat.old) (seen_by P.seen seat.new) }
     ensures why { IfErr result

@@ -38,6 +38,7 @@ pub(crate) fn load_tail<S, P: HasQueue<S>>(
     ensures adds { seat.new.view.core.adds ≤ seat.old.view.core.adds + 1 }
     ensures beside { beside_eyes (P.seen seat.new.view.client)
         ≡ beside_eyes (P.seen seat.old.view.client) }
+    ensures makes { seat.new.view.core.makes ≡ seat.old.view.core.makes }
     ensures leaves { Leaves (with_found (found_by result) seat.old.view.core.owned)
         (seen_by P.seen seat.old) (seen_by P.seen seat.new) }
     ensures why { IfErr result
@@ -71,6 +72,7 @@ pub(crate) fn exchange<S, P: HasQueue<S>>(
         ≡ flying_view (P.seen seat.old.view.client)) }
     ensures flight { IfOk result (λ done. IsInFlight last node (seen_by P.seen seat.new)) }
     ensures refused { OnErr result ((P.seen seat.new.view.client) ≡ (P.seen seat.old.view.client)) }
+    ensures makes { seat.new.view.core.makes ≡ seat.old.view.core.makes }
     ensures leaves { Leaves seat.old.view.core.owned (seen_by P.seen seat.old)
         (seen_by P.seen seat.new) }
     ensures why { IfErr result
@@ -114,6 +116,7 @@ pub(crate) fn land<S, P: HasQueue<S>>(
     requires room { HasRoom seat.old.view.core }
     requires flight { IsInFlight last node.slot (seen_by P.seen seat.old) }
     ensures landed { (P.seen seat.new.view.client) ≡ landed_in (P.seen seat.old.view.client) }
+    ensures makes { seat.new.view.core.makes ≡ seat.old.view.core.makes }
     ensures leaves { Leaves (without node.slot seat.old.view.core.owned) (seen_by P.seen seat.old)
         (seen_by P.seen seat.new) }
     ensures beside_part { HasBeside P.with_seen first_view seat.old seat.new }

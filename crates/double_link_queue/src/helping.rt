@@ -38,6 +38,7 @@ pub(crate) fn help<S, P: HasQueue<S>>(
     ensures adds { seat.new.view.core.adds ≤ seat.old.view.core.adds + 3 }
     ensures beside { beside_eyes (P.seen seat.new.view.client)
         ≡ beside_eyes (P.seen seat.old.view.client) }
+    ensures makes { seat.new.view.core.makes ≡ seat.old.view.core.makes }
     ensures leaves { LeavesBoth seat.old.view.core.owned seat.old.view.core.weaks
         (seen_by P.seen seat.old) (seen_by P.seen seat.new) }
     ensures why { IfErr result
@@ -75,6 +76,7 @@ fn help_at<S, P: HasQueue<S>>(
     ensures tail { SeesTail last.now.slot (seen_by P.seen seat.new) }
     ensures adds { seat.new.view.core.adds ≤ seat.old.view.core.adds + 1 }
     ensures notes { NotesHelp (P.seen seat.old.view.client) (P.seen seat.new.view.client) }
+    ensures makes { seat.new.view.core.makes ≡ seat.old.view.core.makes }
     ensures leaves { Leaves seat.old.view.core.owned (seen_by P.seen seat.old)
         (seen_by P.seen seat.new) }
     ensures spent { IfErr result (λ spent. IsSpent seat.old.view.core) }
@@ -106,6 +108,7 @@ fn is_set<S, P: HasQueue<S>>(
     ensures adds { seat.new.view.core.adds ≡ seat.old.view.core.adds }
     ensures spent { seat.new.view.core.quota.adds ≡ seat.old.view.core.quota.adds }
     ensures notes { NotesHelp (P.seen seat.old.view.client) (P.seen seat.new.view.client) }
+    ensures makes { seat.new.view.core.makes ≡ seat.old.view.core.makes }
     ensures leaves { Leaves seat.old.view.core.owned (seen_by P.seen seat.old)
         (seen_by P.seen seat.new) }
     ensures beside_part { HasBeside P.with_seen first_view seat.old seat.new }
@@ -126,6 +129,7 @@ fn set_link<S, P: HasQueue<S>>(domain: &Domain<P>, seat: &mut Seat<P>, before: S
     requires before { SeesNodeBefore last.slot before (seen_by P.seen seat.old) }
     ensures client { (P.seen seat.new.view.client) ≡ helped_view (P.seen seat.old.view.client) }
     ensures adds { seat.new.view.core.adds ≡ seat.old.view.core.adds }
+    ensures makes { seat.new.view.core.makes ≡ seat.old.view.core.makes }
     ensures leaves { Leaves (without last.slot seat.old.view.core.owned) (seen_by P.seen seat.old)
         (seen_by P.seen seat.new) }
     ensures beside_part { HasBeside P.with_seen first_view seat.old seat.new }

@@ -41,6 +41,7 @@ pub(crate) fn find_before<S, P: HasQueue<S>>(
     ensures adds { seat.new.view.core.adds ≤ seat.old.view.core.adds + 2 }
     ensures beside { beside_eyes (P.seen seat.new.view.client)
         ≡ beside_eyes (P.seen seat.old.view.client) }
+    ensures makes { seat.new.view.core.makes ≡ seat.old.view.core.makes }
     ensures leaves { LeavesBoth (with_found (found_by result) seat.old.view.core.owned)
         seat.old.view.core.weaks (seen_by P.seen seat.old) (seen_by P.seen seat.new) }
     ensures why { IfErr result
@@ -75,6 +76,7 @@ fn load_back<S, P: HasQueue<S>>(
     ensures adds { seat.new.view.core.adds ≤ seat.old.view.core.adds + 1 }
     ensures beside { beside_eyes (P.seen seat.new.view.client)
         ≡ beside_eyes (P.seen seat.old.view.client) }
+    ensures makes { seat.new.view.core.makes ≡ seat.old.view.core.makes }
     ensures leaves { LeavesBoth seat.old.view.core.owned
         (with_found (weakly_found_by result) seat.old.view.core.weaks)
         (seen_by P.seen seat.old) (seen_by P.seen seat.new) }
@@ -108,6 +110,7 @@ fn upgrade_back<S, P: HasQueue<S>>(
     ensures adds { seat.new.view.core.adds ≤ seat.old.view.core.adds + 1 }
     ensures beside { beside_eyes (P.seen seat.new.view.client)
         ≡ beside_eyes (P.seen seat.old.view.client) }
+    ensures makes { seat.new.view.core.makes ≡ seat.old.view.core.makes }
     ensures leaves { LeavesBoth (with_found (found_by result) seat.old.view.core.owned)
         (without back.slot seat.old.view.core.weaks) (seen_by P.seen seat.old)
         (seen_by P.seen seat.new) }
@@ -143,6 +146,7 @@ fn count_before<S, P: HasQueue<S>>(
     ensures adds { seat.new.view.core.adds ≤ seat.old.view.core.adds + 1 }
     ensures beside { beside_eyes (P.seen seat.new.view.client)
         ≡ beside_eyes (P.seen seat.old.view.client) }
+    ensures makes { seat.new.view.core.makes ≡ seat.old.view.core.makes }
     ensures leaves { LeavesBoth (with_found (found_by result) seat.old.view.core.owned)
         seat.old.view.core.weaks (seen_by P.seen seat.old) (seen_by P.seen seat.new) }
     ensures why { IfErr result

@@ -37,7 +37,7 @@ impl DoubleQueue {
     /// Appends an item to the queue, in one try, and gives the seat's reference to it. `Again` where another seat was
     /// quicker, and `Refused` with the causes of `make`; `AddsSpent` may come of a later increment of the call, and at
     /// most seven adds were left. Then nothing is pushed, and the item is handed back; a node that was made is given
-    /// up. It may have set the link of another seat's push.
+    /// up. It makes one node at most, and may have set the link of another seat's push.
     pub fn try_push<S, P: HasQueue<S>>(
         &self,
         domain: &Domain<P>,
@@ -55,6 +55,7 @@ impl DoubleQueue {
             (λ done. Pushes item.slot (seen_by P.seen seat.old) (seen_by P.seen seat.new)) }
         ensures refused { OnErr result
             (PushesNothing (seen_by P.seen seat.old) (seen_by P.seen seat.new)) }
+        ensures makes { seat.new.view.core.makes ≤ seat.old.view.core.makes + 1 }
         ensures back { IfErr result (λ error. back_of error ≡ item) }
         ensures owned { IfErr result (λ error.
             0 < times (back_of error).slot seat.new.view.core.owned) }
@@ -90,6 +91,7 @@ fn push_item<S, P: HasQueue<S>>(
         (λ done. Pushes item.slot (seen_by P.seen seat.old) (seen_by P.seen seat.new)) }
     ensures refused { OnErr result
         (PushesNothing (seen_by P.seen seat.old) (seen_by P.seen seat.new)) }
+    ensures makes { seat.new.view.core.makes ≤ seat.old.view.core.makes + 1 }
     ensures back { IfErr result (λ error. back_of error ≡ item) }
     ensures why { IfErr result
         (λ error. IsWhyUnpushed P.Kind.fits (as_part P.part domain.now) error
@@ -139,6 +141,7 @@ fn push_copy<S, P: HasQueue<S>>(
         (landed_in (deeds_in (P.seen seat.old.view.client)))) }
     ensures refused { OnErr result (deeds_in (P.seen seat.new.view.client)
         ≡ deeds_in (P.seen seat.old.view.client)) }
+    ensures makes { seat.new.view.core.makes ≤ seat.old.view.core.makes + 1 }
     ensures leaves { LeavesBoth seat.old.view.core.owned seat.old.view.core.weaks
         (seen_by P.seen seat.old) (seen_by P.seen seat.new) }
     ensures why { IfErr result
@@ -177,6 +180,7 @@ pub(crate) fn load_node<S, P: HasQueue<S>>(
     ensures adds { seat.new.view.core.adds ≤ seat.old.view.core.adds + 2 }
     ensures deeds { deeds_in (P.seen seat.new.view.client)
         ≡ deeds_in (P.seen seat.old.view.client) }
+    ensures makes { seat.new.view.core.makes ≤ seat.old.view.core.makes + 1 }
     ensures leaves { Leaves (with_found (handle_by result) seat.old.view.core.owned)
         (seen_by P.seen seat.old) (seen_by P.seen seat.new) }
     ensures why { IfErr result

@@ -1,5 +1,5 @@
 //! A push that tries again until no other seat is quicker. It keeps its one node through its tries.
-ghost use Rattle.std.specs.Prelude.{◌≡◌, ◌<◌, IfErr, IfOk, OnErr};
+ghost use Rattle.std.specs.Prelude.{◌≡◌, ◌<◌, ◌≤◌, ◌+◌, IfErr, IfOk, OnErr};
 ghost use Rattle.plain_state.specs.Lists.{times};
 ghost use Rattle.core_events.specs.Steps.{HasRoom};
 ghost use Rattle.core_events.specs.Views.{without};
@@ -54,6 +54,7 @@ impl DoubleQueue {
             (seen_by P.seen seat.new)) }
         ensures refused { OnErr result (PushesNothing (seen_by P.seen seat.old)
             (seen_by P.seen seat.new)) }
+        ensures makes { seat.new.view.core.makes ≤ seat.old.view.core.makes + 1 }
         ensures back { IfErr result (λ refused. refused.back ≡ item) }
         ensures why { IfErr result (λ refused. IsWhyNeverPushed P.Kind.fits
             (as_part P.part domain.now) item.slot refused.why (seen_by P.seen seat.old)) }
@@ -101,6 +102,7 @@ fn push_at_last<S, P: HasQueue<S>, R: Wait>(
         (landed_in (deeds_in (P.seen seat.old.view.client)))) }
     ensures refused { OnErr result (deeds_in (P.seen seat.new.view.client)
         ≡ deeds_in (P.seen seat.old.view.client)) }
+    ensures makes { seat.new.view.core.makes ≡ seat.old.view.core.makes }
     ensures leaves { LeavesBoth (without node.slot seat.old.view.core.owned)
         seat.old.view.core.weaks (seen_by P.seen seat.old) (seen_by P.seen seat.new) }
     ensures why { IfErr result (λ spent. TriesTooFew 5 (seen_by P.seen seat.old)) }
@@ -144,6 +146,7 @@ fn take_at_last<S, P: HasQueue<S>, R: Wait>(
     ensures flight { IfOk result (λ last. IsInFlight last.slot node (seen_by P.seen seat.new)) }
     ensures refused { OnErr result (beside_back (P.seen seat.new.view.client)
         ≡ beside_back (P.seen seat.old.view.client)) }
+    ensures makes { seat.new.view.core.makes ≡ seat.old.view.core.makes }
     ensures leaves { LeavesBoth (with_found (handle_by result) seat.old.view.core.owned)
         seat.old.view.core.weaks (seen_by P.seen seat.old) (seen_by P.seen seat.new) }
     ensures why { IfErr result (λ spent. TriesTooFew 5 (seen_by P.seen seat.old)) }

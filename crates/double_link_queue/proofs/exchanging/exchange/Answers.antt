@@ -1,4 +1,4 @@
-use Rattle.std.proofs.Common.{◌≡◌, ℕ, ◌<◌, inr, refl, ap, sym, ◌∙◌, subst}
+use Rattle.std.proofs.Common.{rules, ◌≡◌, ℕ, ◌<◌, inr, refl, ap, sym, ◌∙◌, subst}
 use Rattle.std.specs.Prelude.{Some}
 use Rattle.plain_state.specs.declared.act.EventPlace.TheVariants.{Cell}
 use Rattle.plain_state.specs.declared.slot.SlotId.{SlotId}
@@ -72,6 +72,7 @@ returns-in-Ok-try_replace g c =
       flight = in_flight fits d last node old copied c.requires.ready copies
           c.copy_strong.ensures.seen c.copy_strong.ensures.objects new still client;
       refused = tt;
+      makes = search rules;
       leaves = exchange_keeps fits d last node old copied c.requires.ready copies
           c.copy_strong.ensures.seen c.copy_strong.ensures.objects new still;
       why = tt;
@@ -106,6 +107,7 @@ returns g c =
       refused = c.drop_strong.ensures.seen
           ∙ lost_client fits d last node old copied c.requires.ready copies
           c.copy_strong.ensures.seen c.copy_strong.ensures.objects lost new c.in-Err.lost.now loses;
+      makes = search rules;
       leaves = unexchanged fits d last node old copied c.requires.ready copies
           c.copy_strong.ensures.seen c.copy_strong.ensures.objects lost new c.in-Err.lost.now loses
           (subst (λ (s : SlotId). DropsStrong fits d s lost new) back c.drop_strong.ensures.dropped)

@@ -9,6 +9,8 @@ use Rattle.linked_queue.specs.Pushes.{SeesTail}
 use Rattle.double_link_queue.specs.Pushes.{PushDiffers}
 use Rattle.linked_queue.proofs.CellLoads.{cell_seen, cell_sights, cell_there, not_null}
 use Rattle.linked_queue.proofs.Nodes.{sees_tail}
+use Rattle.counted_handles.specs.declared.place.Place.TheVariants as place
+use Rattle.double_link_queue.proofs.Making.{load_makes}
 use Rattle.double_link_queue.proofs.exchanging.load_tail.Goals as goal
 
 pub returns : goal.returns
@@ -46,6 +48,10 @@ returns g c =
           c.args.domain.now c.args.seat.now c.requires.rest)
           d.protocol.tail);
       adds = all.0.0;
+      makes =
+          load_makes fits d before after_try_load (place.Cell c.args.tail) c.try_load.result
+          (λ e. ap (seen_by g.P.Part.seen) (c.try_load.ensures.refused e)) c.try_load.ensures.loaded
+          c.try_load.ensures.moved;
       beside = all.0.1;
       leaves = all.0.2;
       why = all.1;

@@ -4,6 +4,7 @@ use Rattle.part_calls.specs.Parts.{as_part, seen_by}
 use Rattle.queue_law.specs.Lessons.{before_next}
 use Rattle.linked_queue.proofs.Accepting.{kept_all}
 use Rattle.double_link_queue.proofs.LooksBack.{before_ready, looked_back}
+use Rattle.double_link_queue.proofs.Making.{weak_load_makes}
 use Rattle.double_link_queue.proofs.looking_back.load_back.Goals as goal
 
 pub try_load_weak-requires-clause-deed : goal.try_load_weak-requires-clause-deed
@@ -31,6 +32,12 @@ returns g c =
       sees = all.3;
       tail = all.0.3;
       adds = all.0.0;
+      makes =
+          weak_load_makes g.P.Kind.PayloadKind.fits (as_part g.P.Part.part c.args.domain.now)
+          (seen_by g.P.Part.seen c.args.seat.now) (seen_by g.P.Part.seen c.try_load_weak.new.seat)
+          c.args.last c.try_load_weak.result
+          (λ e. ap (seen_by g.P.Part.seen) (c.try_load_weak.ensures.refused e))
+          c.try_load_weak.ensures.loaded c.try_load_weak.ensures.moved;
       beside = all.0.1;
       leaves = all.0.2;
       why = all.1;

@@ -46,4 +46,5 @@ loop-try-preserved g c =
         beside = same ∙ was.5.beside;
       },
       c.take_last.ensures.beside_part ∙ was.6,
+      c.take_last.ensures.makes ∙ was.7,
     )
