@@ -22,10 +22,8 @@ use Rattle.queue_law.specs.declared.view.View.{View}
 use Rattle.queue_law.specs.Lessons.{set_next}
 use Rattle.queue_law.specs.Pushes.{HelpReady, helped_view}
 use Rattle.queue_protocol.specs.declared.law.QueueLaw.{QueueLaw}
-use Rattle.linked_queue.specs.Leaving.{Leaves}
 use Rattle.linked_queue.specs.Pushes.{SeesTail}
 use Rattle.linked_queue.specs.Queues.{ends_of}
-use Rattle.linked_queue.proofs.Leavings.{leaves_all}
 use Rattle.linked_queue.proofs.Looks.{looked}
 use Rattle.linked_queue.proofs.Owning.{has_owned, own_life}
 use Rattle.double_link_queue.specs.Before.{BeforeTells, HeldSetReady}
@@ -77,16 +75,6 @@ module _ (fits : List ℕ → Type 0) (d : DomainState QueueLaw) (last before : 
     set_knows : KnowsStill old.view.core old new
     set_knows s has = step.told.objects s has
 
-    pub set_leaves : Leaves old.view.core.owned old new
-    set_leaves = leaves_all old new _ by.core set_knows
-
-    pub set_adds : (new.view.core.adds ≡ old.view.core.adds)
-        × (new.view.core.quota.adds ≡ old.view.core.quota.adds)
-    set_adds = (
-      ap (λ (v : CoreView). v.adds) by.core,
-      ap (λ (v : CoreView). v.quota.adds) by.core,
-    )
-
     pub set_before : SeesNodeBefore last before new
     set_before =
         let owned = ap (λ (v : CoreView). v.owned) by.core in
@@ -107,14 +95,6 @@ module _ (fits : List ℕ → Type 0) (d : DomainState QueueLaw) (last before : 
               owns))
               ∙ step.told.happened.fact.2 before.0 sees.is_before;
         }
-
-    pub set_helped : (s : SlotId) → o ≡ outcome.Found (Some s) → new.view.client.eyes.helped ≡ true
-    set_helped s is = go (step.word == 0) refl
-      where
-        go : (b : Bool) → (step.word == 0) ≡ b → new.view.client.eyes.helped ≡ true
-        go false test = ap (λ (v : View). v.eyes.helped)
-            (client ∙ ap (λ c. cond c old.view.client (helped_view old.view.client)) test)
-        go true test = absurd (cc (is, step.answers, test))
 
 -- HELP
 pub help_ready : (d : DomainState QueueLaw) (last before : SlotId) (seat : SeatState View)

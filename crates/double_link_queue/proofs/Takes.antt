@@ -25,9 +25,6 @@ attached_back last v w is attached = record {
   attached = ap (λ (u : View). u.attached) is ∙ attached.attached;
 }
 
-pub carried_on : (v w : View) → beside_eyes w ≡ beside_eyes v → carried_item w ≡ carried_item v
-carried_on v w same = ap carried_item same
-
 module _ (last node : SlotId) (old mid : SeatState View) (sees : SeesTail last old)
     (load : HasLoad node old)
     (links : LeavesBoth old.view.core.owned old.view.core.weaks old mid)

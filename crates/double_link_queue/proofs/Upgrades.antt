@@ -1,14 +1,12 @@
 -- An upgrade of the node before one that a seat saw in the tail cell.
-use Rattle.std.proofs.Common.{◌≡◌, ℕ, ◌<◌, ◌≤◌, Bool, true, false, [], ◌∷◌, ◌++◌, refl, ap, sym, ◌∙◌, subst, arith, List}
-use Rattle.std.specs.Prelude.{cond, nat_lt, ◌==◌, if◌then◌else◌}
-use Rattle.std.proofs.lemmas.Bool.Decides.{nat_tests}
+use Rattle.std.proofs.Common.{◌≡◌, ℕ, ◌<◌, Bool, true, false, [], ◌∷◌, ◌++◌, refl, ap, sym, ◌∙◌, subst, arith, List}
+use Rattle.std.specs.Prelude.{cond, ◌==◌}
 use Rattle.plain_state.specs.declared.slot.SlotId.{SlotId}
 use Rattle.plain_state.specs.Lists.{times}
 use Rattle.core_events.specs.declared.act.Act.TheVariants as act
 use Rattle.core_events.specs.declared.outcome.Outcome.{Outcome}
 use Rattle.core_events.specs.declared.view.CoreView.{CoreView}
 use Rattle.core_events.specs.ShownSteps.{shown_number}
-use Rattle.counter_word.specs.Words.{ZERO}
 use Rattle.acquire_retire.specs.Calls.{IsReady}
 use Rattle.acquire_retire.specs.Collecting.{move}
 use Rattle.acquire_retire.specs.Domains.{DomainState}
@@ -47,11 +45,6 @@ notes_help false v w is = record {
 
 pub notes_none : (v w : View) → w ≡ v → NotesHelp v w
 notes_none v w is = notes_help false v w is
-
-pub helped_by : (b : Bool) (v w : View) → b ≡ true → w ≡ cond b (helped_view v) v
-    → w.eyes.helped ≡ true
-helped_by b v w set is = ap (λ (u : View). u.eyes.helped) (is ∙ ap (λ c. cond c (helped_view v) v)
-    set)
 
 module _ (fits : List ℕ → Type 0) (d : DomainState QueueLaw) (last back : SlotId)
     (old : SeatState View) (sees : SeesBack last back old) where
@@ -129,17 +122,6 @@ module _ (fits : List ℕ → Type 0) (d : DomainState QueueLaw) (last back : Sl
           sees.tail.owns)
           (ap (λ (v : CoreView). v.weaks) found.becomes.core)
           (ap (λ (v : CoreView). v.shape) found.becomes.core)
-
-      is_one : (w : ℕ) → ZERO ≤ w → (shown_number (act.Add back) w == 1) ≡ true
-      is_one w zero = go (nat_lt w ZERO) refl
-        where
-          go : (b : Bool) → nat_lt w ZERO ≡ b → ((if b then 0 else 1) == 1) ≡ true
-          go true low = grind (arith, nat_tests)
-          go false high = refl
-
-      pub ended_helped : new.view.client.eyes.helped ≡ true
-      ended_helped = helped_by _ old.view.client new.view.client
-          (is_one found.becomes.walks.1.word found.zero) (client _ _ found.becomes)
 
       pub ended_leaves : LeavesBoth old.view.core.owned old.view.core.weaks old new
       ended_leaves = both_as old new (with_add old.view.core) old.view.core _ found.becomes.core
