@@ -1,0 +1,88 @@
+-- What single calls leave of a seat that counts weak references.
+use Rattle.std.proofs.Common.{◌≡◌, ℕ, List, [], ◌∷◌, ◌++◌, refl, ap, sym, ◌∙◌, subst, arith}
+use Rattle.std.specs.Prelude.{Option, Some}
+use Rattle.plain_state.specs.declared.act.EventPlace.{EventPlace}
+use Rattle.plain_state.specs.declared.act.PlainAct.{PlainAct}
+use Rattle.plain_state.specs.declared.slot.Kind.TheVariants.{Weak}
+use Rattle.plain_state.specs.declared.slot.SlotId.{SlotId}
+use Rattle.plain_state.specs.Lists.{times}
+use Rattle.plain_state.specs.Places.{place_kind}
+use Rattle.plain_state.specs.State.{Plain}
+use Rattle.plain_protocol.specs.Owns.{OwnPart}
+use Rattle.core_events.specs.declared.view.CoreView.{CoreView}
+use Rattle.core_events.specs.declared.view.Move.{Move}
+use Rattle.core_events.specs.Steps.{without_given}
+use Rattle.core_events.specs.Views.{Holds, without}
+use Rattle.acquire_retire.specs.Collecting.{rest_of}
+use Rattle.acquire_retire.specs.Domains.{DomainState}
+use Rattle.acquire_retire.specs.Seats.{SeatState}
+use Rattle.control_word.specs.Calls.{DropsWeak, GainsWeak, with_weak, without_weak}
+use Rattle.control_word.specs.Moves.{KnowsStill}
+use Rattle.protected_loads.proofs.Telling.{holds_has}
+use Rattle.retiring_stores.specs.Exchanging.{Exchanges}
+use Rattle.double_link_queue.specs.Leaving.{LeavesBoth, apart}
+use Rattle.double_link_queue.proofs.Owning.{holds_both}
+
+module _ {V : Type 0} (old new : SeatState V) where
+  -- the seat has come to have v, but for its trail, and knows what it knew by `kept`
+  pub both_as : (v kept : CoreView) (ms : List Move) → new.view.core ≡ record v { trail = ms }
+      → apart v ≡ apart old.view.core → KnowsStill kept old new
+      → ((x : SlotId) → Holds old.view.core x → Holds v x → Holds kept x)
+      → LeavesBoth v.owned v.weaks old new
+  both_as v kept ms core same knows holds = record {
+    owns = λ x. ap (λ (u : CoreView). times x u.owned) core;
+    weakly = λ x. ap (λ (u : CoreView). times x u.weaks) core;
+    same = ap apart core ∙ same;
+    knows = λ x was is.
+        knows x (holds_has kept x (holds x was (subst (λ (u : CoreView). Holds u x) core is)));
+  }
+
+  pub both_same : new ≡ old → LeavesBoth old.view.core.owned old.view.core.weaks old new
+  both_same is = subst (λ (z : SeatState V). LeavesBoth old.view.core.owned old.view.core.weaks old
+      z)
+      (sym is)
+      (record { owns = λ x. refl; weakly = λ x. refl; same = refl; knows = λ x was is. refl })
+
+module _ {P V : Type 0} (fits : List ℕ → Type 0) (d : DomainState P) (s : SlotId)
+    (old new : SeatState V) where
+  -- a weak reference more
+  pub weaken_leaves : GainsWeak fits d s old new → KnowsStill old.view.core old new
+      → LeavesBoth old.view.core.owned (old.view.core.weaks ++ s ∷ []) old new
+  weaken_leaves gains knows =
+      both_as old new (with_weak s old.view.core) old.view.core _ gains.core refl knows
+      (λ x was is. was)
+
+  -- one fewer
+  pub drop_weak_leaves : DropsWeak fits d s old new
+      → KnowsStill (without_weak s old.view.core) old new
+      → LeavesBoth old.view.core.owned (without s old.view.core.weaks) old new
+  drop_weak_leaves drops knows =
+      both_as old new (without_weak s old.view.core) (without_weak s old.view.core) _ drops.1.core
+      refl knows (λ x was is. is)
+
+module _ {P V : Type 0} {fits : List ℕ → Type 0} {d : DomainState P}
+    {next : OwnPart → OwnPart → V → PlainAct → ℕ → V}
+    {allows : Plain → Plain → ℕ → V → V → Type 0} (place : EventPlace) (m : Move)
+    (s : SlotId) (held : Option SlotId) (old new : SeatState V) where
+  -- an exchange that gave a weak reference
+  pub weak_exchange_leaves : place_kind place ≡ Weak
+      → Exchanges fits d next allows place m (Some s) held old new
+      → KnowsStill (without_given Weak (Some s) old.view.core) old new
+      → LeavesBoth old.view.core.owned (without s old.view.core.weaks) old new
+  weak_exchange_leaves kind puts knows =
+      let v = without_given Weak (Some s) old.view.core in
+      let rest : rest_of new.view.core ≡ rest_of v =
+      puts.same ∙ ap (λ k. rest_of (without_given k (Some s) old.view.core)) kind in
+      let same : apart new.view.core ≡ apart v =
+      ap (λ (u : CoreView). record u { owned = []; weaks = []; made = []; adds = 0; makes = 0 })
+      rest in
+      record {
+        owns = λ x. ap (λ (u : CoreView). times x u.owned) rest;
+        weakly = λ x. ap (λ (u : CoreView). times x u.weaks) rest;
+        same = same;
+        knows = λ x was is.
+            let strong = ap (λ (u : CoreView). times x u.owned) rest in
+            let weak = ap (λ (u : CoreView). times x u.weaks) rest in
+            knows x (holds_has v x (holds_both x new.view.core v same (omega arith) (omega arith)
+            is));
+      }

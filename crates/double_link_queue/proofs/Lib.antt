@@ -1,0 +1,12 @@
+pub mod Owning
+pub mod Leavings
+pub mod Backs
+pub mod LooksBack
+pub mod Upgrades
+pub mod Helps
+pub mod Exchanges
+pub mod Accepting
+pub mod Pushings
+pub mod Whys
+pub mod Takes
+pub mod Making

@@ -1,0 +1,44 @@
+use Rattle.std.proofs.Common.{ap, ◌∙◌, subst, [], ◌∷◌, ◌++◌}
+use Rattle.std.specs.Prelude.{None}
+use Rattle.plain_state.specs.declared.slot.SlotId.{SlotId}
+use Rattle.core_events.specs.Views.{without}
+use Rattle.queue_law.specs.declared.view.View.{View}
+use Rattle.part_calls.specs.Parts.{as_part, seen_by}
+use Rattle.double_link_queue.specs.Leaving.{LeavesBoth}
+use Rattle.double_link_queue.specs.Pushes.{backed_in}
+use Rattle.double_link_queue.proofs.Backs.{load_kept}
+use Rattle.double_link_queue.proofs.Leavings.{weaken_leaves}
+use Rattle.double_link_queue.proofs.Owning.{weak_through}
+use Rattle.double_link_queue.proofs.backing.link_back.Goals as goal
+
+pub set_back-requires-clause-load : goal.set_back-requires-clause-load
+set_back-requires-clause-load g c =
+    let old = seen_by g.P.Part.seen c.args.seat.now in
+    let mid = seen_by g.P.Part.seen c.weaken.new.seat in
+    let last = c.args.last.now.slot in
+    load_kept old.view.core.owned (old.view.core.weaks ++ last ∷ []) c.args.node old mid
+    c.requires.load
+    (weaken_leaves g.P.Kind.PayloadKind.fits (as_part g.P.Part.part c.args.domain.now) last old mid
+    c.in_ok-back.ensures.gained.1 c.weaken.ensures.objects)
+    c.requires.load.owns (ap (λ (v : View). v.load.node) c.weaken.ensures.seen)
+    (ap (λ (v : View). v.load.life) c.weaken.ensures.seen)
+    (ap (λ (v : View). v.load.item) c.weaken.ensures.seen)
+
+pub returns-clause-backed : goal.returns-clause-backed
+returns-clause-backed g c =
+    c.set_back.ensures.backed
+    ∙ ap (λ (s : SlotId). backed_in s (g.P.Part.seen c.weaken.new.seat.view.client))
+    c.in_ok-back.ensures.gained.0
+    ∙ ap (backed_in c.args.last.now.slot) c.weaken.ensures.seen
+
+pub returns-clause-leaves : goal.returns-clause-leaves
+returns-clause-leaves g c =
+    let old = seen_by g.P.Part.seen c.args.seat.now in
+    let mid = seen_by g.P.Part.seen c.weaken.new.seat in
+    let new = seen_by g.P.Part.seen c.set_back.new.seat in
+    let last = c.args.last.now.slot in
+    weak_through last None old mid new
+    (weaken_leaves g.P.Kind.PayloadKind.fits (as_part g.P.Part.part c.args.domain.now) last old mid
+    c.in_ok-back.ensures.gained.1 c.weaken.ensures.objects)
+    (subst (λ (s : SlotId). LeavesBoth mid.view.core.owned (without s mid.view.core.weaks) mid new)
+    c.in_ok-back.ensures.gained.0 c.set_back.ensures.leaves)

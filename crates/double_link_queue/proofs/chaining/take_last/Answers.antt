@@ -1,0 +1,65 @@
+use Rattle.std.proofs.Common.{ap, sym, ◌∙◌, subst, [], ◌∷◌, ◌++◌, arith}
+use Rattle.std.specs.Prelude.{None, Option}
+use Rattle.atomic_shared.specs.Places.{named}
+use Rattle.core_events.specs.Views.{without}
+use Rattle.core_invariant.proofs.Kit.{times_push}
+use Rattle.counted_handles.specs.Handles.{Handle}
+use Rattle.queue_law.specs.declared.view.View.{View}
+use Rattle.queue_law.specs.Pushes.{carried_item}
+use Rattle.part_calls.specs.Parts.{seen_by}
+use Rattle.linked_queue.specs.Leaving.{Leaves, with_found}
+use Rattle.linked_queue.proofs.Accepting.{may_still}
+use Rattle.linked_queue.proofs.Leavings.{drop_leaves}
+use Rattle.double_link_queue.specs.Pushes.{beside_back}
+use Rattle.double_link_queue.proofs.Backs.{load_kept}
+use Rattle.double_link_queue.proofs.Owning.{both_of, through_both}
+use Rattle.double_link_queue.proofs.Takes.{load_on}
+use Rattle.double_link_queue.proofs.chaining.take_last.Goals as goal
+
+pub take_tail-requires-clause-load : goal.take_tail-requires-clause-load
+take_tail-requires-clause-load g c =
+    let old = seen_by g.P.Part.seen c.args.seat.now in
+    let mid = seen_by g.P.Part.seen c.load_tail.new.seat in
+    let last = c.in-Ok-Some.last.slot in
+    let owned = old.view.core.owned ++ last ∷ [] in
+    let gains = subst (λ (o : Option Handle). Leaves (with_found (named o) old.view.core.owned) old
+    mid)
+    c.in-Ok-Some.field-0-is c.in-Ok-Some.ensures.leaves in
+    let push = times_push c.args.node last old.view.core.owned in
+    let owns = c.requires.load.owns in
+    let same = c.load_tail.ensures.beside in
+    load_kept owned old.view.core.weaks c.args.node old mid c.requires.load
+    (both_of owned old mid gains) (omega arith) (ap (λ (v : View). v.load.node) same)
+    (ap (λ (v : View). v.load.life) same) (ap (λ (v : View). v.load.item) same)
+
+pub take_tail-requires-clause-may : goal.take_tail-requires-clause-may
+take_tail-requires-clause-may g c =
+    may_still g.P.Part.seen g.P.Part.with_seen g.P.Part.puts_back g.P.Part.puts_over
+    g.P.HasQueue.may_push g.met.P.HasQueue.stays c.args.domain.now.protocol c.args.seat.now
+    c.load_tail.new.seat (carried_item (g.P.Part.seen c.args.seat.now.view.client))
+    (carried_item (g.P.Part.seen c.load_tail.new.seat.view.client))
+    c.load_tail.ensures.beside_part (ap carried_item (sym c.load_tail.ensures.beside))
+    c.requires.may
+
+pub returns-in-Err-take_tail-clause-leaves : goal.returns-in-Err-take_tail-clause-leaves
+returns-in-Err-take_tail-clause-leaves g c =
+    let old = seen_by g.P.Part.seen c.args.seat.now in
+    let mid = seen_by g.P.Part.seen c.load_tail.new.seat in
+    let late = seen_by g.P.Part.seen c.take_tail.new.seat in
+    let new = seen_by g.P.Part.seen c.drop_strong.new.seat in
+    let last = c.in-Ok-Some.last.slot in
+    let gains = subst (λ (o : Option Handle). Leaves (with_found (named o) old.view.core.owned) old
+    mid)
+    c.in-Ok-Some.field-0-is c.in-Ok-Some.ensures.leaves in
+    through_both last None old mid late new
+    (both_of (old.view.core.owned ++ last ∷ []) old mid gains) c.take_tail.ensures.leaves
+    (both_of (without last late.view.core.owned) late new
+    (drop_leaves last late new c.drop_strong.ensures.dropped c.drop_strong.ensures.objects))
+
+pub returns-in-Err-take_tail-clause-load : goal.returns-in-Err-take_tail-clause-load
+returns-in-Err-take_tail-clause-load g c =
+    load_on c.args.node (seen_by g.P.Part.seen c.args.seat.now)
+    (seen_by g.P.Part.seen c.drop_strong.new.seat) c.requires.load
+    (returns-in-Err-take_tail-clause-leaves g c)
+    (ap beside_back c.drop_strong.ensures.seen ∙ c.in-Err-take_tail.ensures.refused
+    ∙ ap beside_back c.load_tail.ensures.beside)

@@ -1,0 +1,69 @@
+use Rattle.std.proofs.Common.{◌≡◌, refl, ap, sym, ◌∙◌, subst}
+use Rattle.std.specs.Prelude.{None, Some}
+use Rattle.plain_state.specs.declared.act.EventPlace.TheVariants.{Field}
+use Rattle.counted_handles.specs.Handles.{Handle}
+use Rattle.acquire_retire.specs.Seats.{SeatState}
+use Rattle.control_word.specs.Calls.{DropsStrong, without_strong}
+use Rattle.control_word.specs.Moves.{KnowsStill}
+use Rattle.queue_law.specs.declared.view.View.{View}
+use Rattle.queue_law.specs.Pushes.{help_next}
+use Rattle.part_calls.specs.Parts.{as_part, seen_by}
+use Rattle.linked_queue.proofs.Accepting.{kept_all}
+use Rattle.linked_queue.proofs.Leavings.{drop_leaves, exchange_leaves}
+use Rattle.linked_queue.proofs.Linkings.{lost_keeps, then_gives}
+use Rattle.linked_queue.proofs.Owning.{owned_node}
+use Rattle.double_link_queue.proofs.Helps.{help_ready}
+use Rattle.double_link_queue.proofs.helping.set_link.Goals as goal
+
+pub try_replace-requires-clause-deed : goal.try_replace-requires-clause-deed
+try_replace-requires-clause-deed g c =
+    help_ready (as_part g.P.Part.part c.args.domain.now) c.args.last.slot c.args.before
+    (seen_by g.P.Part.seen c.args.seat.now) c.requires.queue c.requires.before.sees
+
+pub try_replace-requires-clause-accepted : goal.try_replace-requires-clause-accepted
+try_replace-requires-clause-accepted g c =
+    kept_all g.P.Part.seen g.P.Part.suits g.met.P.HasQueue.accepts
+    c.args.domain.now.protocol c.args.seat.now.view.client help_next
+    (λ own after v a w. refl)
+
+pub try_replace-requires-clause-within : goal.try_replace-requires-clause-within
+try_replace-requires-clause-within g c =
+    owned_node c.args.before c.args.seat.now c.requires.before.sees.owns c.requires.before.is_node
+
+pub returns-in-Some-clause-client : goal.returns-in-Some-clause-client
+returns-in-Some-clause-client g c =
+    let by = c.in-Err.ensures.lost.loses.becomes in
+    c.drop_strong.ensures.seen
+    ∙ ap (λ (z : SeatState View). z.view.client) by.walks.2 ∙ by.walks.1.told.client
+
+pub returns-in-Some-clause-leaves : goal.returns-in-Some-clause-leaves
+returns-in-Some-clause-leaves g c =
+    let fits' = g.P.Kind.PayloadKind.fits in
+    let old = seen_by g.P.Part.seen c.args.seat.now in
+    let mid = seen_by g.P.Part.seen c.try_replace.new.seat in
+    let new = seen_by g.P.Part.seen c.drop_strong.new.seat in
+    let fits = fits' in
+    let d = as_part g.P.Part.part c.args.domain.now in
+    let both : Some c.in-Some.last ≡ Some c.args.last =
+    sym c.in-Some.is ∙ c.in-Err.ensures.back in
+    let handles : c.in-Some.last ≡ c.args.last = cc (both) in
+    let drops = subst (λ (h : Handle). DropsStrong fits d h.slot mid new) handles
+    c.drop_strong.ensures.dropped in
+    let still = subst (λ (h : Handle). KnowsStill (without_strong h.slot mid.view.core) mid new)
+    handles c.drop_strong.ensures.objects in
+    then_gives c.args.last.slot old mid new c.requires.before.sees.tail.owns
+    (lost_keeps fits d (Field c.args.before 0) (Some c.args.last.slot) None c.in-Err.lost.now old
+    mid
+    c.in-Err.ensures.lost)
+    (drop_leaves c.args.last.slot mid new drops still)
+
+pub returns-in_default-clause-client : goal.returns-in_default-clause-client
+returns-in_default-clause-client g c =
+    let replaces = c.in_default.ensures.replaced.0 in
+    replaces.client ∙ replaces.puts.step.told.client
+
+pub returns-in_default-clause-leaves : goal.returns-in_default-clause-leaves
+returns-in_default-clause-leaves g c =
+    exchange_leaves (Field c.args.before 0) _ (Some c.args.last.slot) _
+    (seen_by g.P.Part.seen c.args.seat.now) (seen_by g.P.Part.seen c.try_replace.new.seat) refl
+    c.in_default.ensures.replaced.0 c.try_replace.ensures.objects

@@ -1,0 +1,14 @@
+use Rattle.std.proofs.Common.{refl, inl}
+use Rattle.queue_law.specs.Opening.{lay_head_next}
+use Rattle.linked_queue.proofs.Accepting.{kept_all}
+use Rattle.double_link_queue.proofs.laying.lay_head.Goals as goal
+
+pub store-requires-clause-accepted : goal.store-requires-clause-accepted
+store-requires-clause-accepted g c =
+    kept_all g.P.Part.seen g.P.Part.suits g.met.P.HasQueue.accepts
+    c.args.domain.now.protocol c.args.seat.now.view.client lay_head_next
+    (λ own after v a w. refl)
+
+pub store-requires-clause-within : goal.store-requires-clause-within
+store-requires-clause-within g c =
+    inl c.requires.head

@@ -1,0 +1,94 @@
+use Rattle.part_calls.specs.Parts.{as_part, seen_by}
+use Rattle.std.proofs.Common.{ap, sym, subst}
+use Rattle.std.specs.Prelude.{None, Option, Some}
+use Rattle.plain_state.specs.declared.act.EventPlace.TheVariants.{Field}
+use Rattle.plain_state.specs.declared.slot.SlotId.{SlotId}
+use Rattle.counted_handles.specs.Handles.{Handle}
+use Rattle.atomic_shared.specs.Places.{named}
+use Rattle.protected_loads.specs.References.{Loads}
+use Rattle.queue_law.specs.Lessons.{NextTells, next_next}
+use Rattle.linked_queue.specs.declared.queue.PopError.{PopError}
+use Rattle.linked_queue.specs.Leaving.{Leaves, handle_by, with_found}
+use Rattle.linked_queue.specs.Pops.{IsWhyUnpopped, TakesItem}
+use Rattle.linked_queue.specs.Queues.{deeds_in, ends_of}
+use Rattle.linked_queue.proofs.Leavings.{drop_leaves}
+use Rattle.linked_queue.proofs.Poppings.{owns_found, pops_through, why_of}
+use Rattle.double_link_queue.proofs.popping.pop_behind.Goals as goal
+
+pub returns-in-Err-clause-why : goal.returns-in-Err-clause-why
+returns-in-Err-clause-why g c =
+    let d = as_part g.P.Part.part c.args.domain.now in
+    let fits = g.P.Kind.PayloadKind.fits in
+    let before = seen_by g.P.Part.seen c.args.seat.now in
+    subst (λ (e : PopError). IsWhyUnpopped fits d 2 e before)
+    (sym c.refusal_of.ensures)
+    (why_of fits d 2 c.in-Err.error before c.in-Err.ensures.why)
+
+pub returns-in-Ok-None-clause-events : goal.returns-in-Ok-None-clause-events
+returns-in-Ok-None-clause-events g c =
+    c.in-Ok-None.ensures.none (ap named c.in-Ok-None.field-0-is)
+
+pub drop_strong-requires-clause-owned : goal.drop_strong-requires-clause-owned
+drop_strong-requires-clause-owned g c =
+    let before = seen_by g.P.Part.seen c.args.seat.now in
+    let after_see_next = seen_by g.P.Part.seen c.see_next.new.seat in
+    let gains = subst (λ (o : Option Handle). Leaves
+    (with_found (named o) c.args.seat.now.view.core.owned) before after_see_next)
+    c.in-Ok-Some.field-0-is c.in-Ok-Some.ensures.leaves in
+    owns_found c.in-Ok-Some.next.slot (handle_by c.pop_node-popped.result)
+    c.args.seat.now.view.core.owned c.see_next.new.seat.view.core.owned
+    c.pop_node-popped.new.seat.view.core.owned gains.owns
+    c.pop_node-popped.ensures.popped.leaves.owns
+
+pub returns-in-Ok-clause-events : goal.returns-in-Ok-clause-events
+returns-in-Ok-clause-events g c =
+    let d = as_part g.P.Part.part c.args.domain.now in
+    let fits = g.P.Kind.PayloadKind.fits in
+    let before = seen_by g.P.Part.seen c.args.seat.now in
+    let after_pop_node_popped = seen_by g.P.Part.seen c.pop_node-popped.new.seat in
+    let after_see_next = seen_by g.P.Part.seen c.see_next.new.seat in
+    record {
+      next = c.in-Ok-Some.next.slot;
+      seen = after_see_next;
+      popped = after_pop_node_popped;
+      loads = subst (λ (o : Option Handle). Loads fits d
+          (Field c.args.front 0) next_next (NextTells (ends_of d)) (named o)
+          before after_see_next)
+          c.in-Ok-Some.field-0-is c.in-Ok-Some.ensures.loads;
+      takes = subst (λ (s : SlotId). TakesItem fits d c.args.front s c.in-Ok.item.slot
+          after_see_next after_pop_node_popped)
+          c.slot.ensures c.in-Ok.ensures.events;
+      drops = c.drop_strong.ensures.dropped;
+    }
+
+pub returns-in-Ok-clause-popped : goal.returns-in-Ok-clause-popped
+returns-in-Ok-clause-popped g c =
+    let before = seen_by g.P.Part.seen c.args.seat.now in
+    let after_drop_strong = seen_by g.P.Part.seen c.drop_strong.new.seat in
+    let after_pop_node_popped = seen_by g.P.Part.seen c.pop_node-popped.new.seat in
+    let after_see_next = seen_by g.P.Part.seen c.see_next.new.seat in
+    let gains = subst (λ (o : Option Handle). Leaves
+    (with_found (named o) c.args.seat.now.view.core.owned) before after_see_next)
+    c.in-Ok-Some.field-0-is c.in-Ok-Some.ensures.leaves in
+    pops_through c.in-Ok-Some.next.slot before after_see_next
+    after_pop_node_popped after_drop_strong (Some c.in-Ok.item.slot) gains
+    (ap deeds_in c.see_next.ensures.beside) c.in-Ok.ensures.popped
+    (drop_leaves c.in-Ok-Some.next.slot after_pop_node_popped after_drop_strong
+    c.drop_strong.ensures.dropped c.drop_strong.ensures.objects)
+    c.drop_strong.ensures.seen
+
+pub returns-in-Err-popped-clause-popped : goal.returns-in-Err-popped-clause-popped
+returns-in-Err-popped-clause-popped g c =
+    let before = seen_by g.P.Part.seen c.args.seat.now in
+    let after_drop_strong = seen_by g.P.Part.seen c.drop_strong.new.seat in
+    let after_pop_node_popped = seen_by g.P.Part.seen c.pop_node-popped.new.seat in
+    let after_see_next = seen_by g.P.Part.seen c.see_next.new.seat in
+    let gains = subst (λ (o : Option Handle). Leaves
+    (with_found (named o) c.args.seat.now.view.core.owned) before after_see_next)
+    c.in-Ok-Some.field-0-is c.in-Ok-Some.ensures.leaves in
+    pops_through c.in-Ok-Some.next.slot before after_see_next
+    after_pop_node_popped after_drop_strong None gains (ap deeds_in c.see_next.ensures.beside)
+    c.in-Err-popped.ensures.popped
+    (drop_leaves c.in-Ok-Some.next.slot after_pop_node_popped after_drop_strong
+    c.drop_strong.ensures.dropped c.drop_strong.ensures.objects)
+    c.drop_strong.ensures.seen

@@ -1,0 +1,44 @@
+use Rattle.std.proofs.Common.{refl, sym, ◌++◌, ◌∷◌, []}
+use Rattle.std.specs.Prelude.{None}
+use Rattle.queue_law.specs.Pushes.{carried_item}
+use Rattle.part_calls.specs.Parts.{seen_by}
+use Rattle.linked_queue.specs.Pops.{item_in}
+use Rattle.linked_queue.proofs.Accepting.{may_still}
+use Rattle.double_link_queue.proofs.Leavings.{both_same}
+use Rattle.double_link_queue.proofs.Owning.{both_of, through_both}
+use Rattle.double_link_queue.proofs.pushing.push_copy.Goals as goal
+
+pub push_node-requires-clause-may : goal.push_node-requires-clause-may
+push_node-requires-clause-may g c =
+    may_still g.P.Part.seen g.P.Part.with_seen g.P.Part.puts_back g.P.Part.puts_over
+    g.P.HasQueue.may_push g.met.P.HasQueue.stays c.args.domain.now.protocol c.args.seat.now
+    c.load_node.new.seat (item_in (seen_by g.P.Part.seen c.args.seat.now) c.args.item.now.slot)
+    (carried_item (g.P.Part.seen c.load_node.new.seat.view.client)) c.load_node.ensures.beside_part
+    (sym c.in-Ok.ensures.carried) c.requires.may
+
+pub returns-in-Ok-push_node-clause-leaves : goal.returns-in-Ok-push_node-clause-leaves
+returns-in-Ok-push_node-clause-leaves g c =
+    let old = seen_by g.P.Part.seen c.args.seat.now in
+    let mid = seen_by g.P.Part.seen c.load_node.new.seat in
+    let new = seen_by g.P.Part.seen c.push_node.new.seat in
+    through_both c.in-Ok.node.slot None old mid mid new
+    (both_of (old.view.core.owned ++ c.in-Ok.node.slot ∷ []) old mid c.in-Ok.ensures.leaves)
+    (both_same mid mid refl) c.push_node.ensures.leaves
+
+pub returns-in-Err-Moved-clause-leaves : goal.returns-in-Err-Moved-clause-leaves
+returns-in-Err-Moved-clause-leaves g c =
+    let old = seen_by g.P.Part.seen c.args.seat.now in
+    let mid = seen_by g.P.Part.seen c.load_node.new.seat in
+    let new = seen_by g.P.Part.seen c.push_node.new.seat in
+    through_both c.in-Ok.node.slot None old mid mid new
+    (both_of (old.view.core.owned ++ c.in-Ok.node.slot ∷ []) old mid c.in-Ok.ensures.leaves)
+    (both_same mid mid refl) c.push_node.ensures.leaves
+
+pub returns-in-Err-Spent-clause-leaves : goal.returns-in-Err-Spent-clause-leaves
+returns-in-Err-Spent-clause-leaves g c =
+    let old = seen_by g.P.Part.seen c.args.seat.now in
+    let mid = seen_by g.P.Part.seen c.load_node.new.seat in
+    let new = seen_by g.P.Part.seen c.push_node.new.seat in
+    through_both c.in-Ok.node.slot None old mid mid new
+    (both_of (old.view.core.owned ++ c.in-Ok.node.slot ∷ []) old mid c.in-Ok.ensures.leaves)
+    (both_same mid mid refl) c.push_node.ensures.leaves

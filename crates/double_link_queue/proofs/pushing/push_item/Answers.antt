@@ -1,0 +1,20 @@
+use Rattle.std.proofs.Common.{ap, ◌∙◌}
+use Rattle.part_calls.specs.Parts.{seen_by}
+use Rattle.core_events.specs.Views.{without}
+use Rattle.linked_queue.specs.Queues.{deeds_in}
+use Rattle.linked_queue.proofs.Leavings.{drop_leaves}
+use Rattle.double_link_queue.proofs.Owning.{both_of, nothing_gives}
+use Rattle.double_link_queue.proofs.pushing.push_item.Goals as goal
+
+pub returns-in-Ok-clause-pushed : goal.returns-in-Ok-clause-pushed
+returns-in-Ok-clause-pushed g c =
+    let old = seen_by g.P.Part.seen c.args.seat.now in
+    let mid = seen_by g.P.Part.seen c.push_copy.new.seat in
+    let new = seen_by g.P.Part.seen c.drop_strong.new.seat in
+    let item = c.args.item.slot in
+    record {
+      leaves = nothing_gives item old mid new c.requires.item c.push_copy.ensures.leaves
+          (both_of (without item mid.view.core.owned) mid new
+          (drop_leaves item mid new c.drop_strong.ensures.dropped c.drop_strong.ensures.objects));
+      deeds = ap deeds_in c.drop_strong.ensures.seen ∙ c.in-Ok.ensures.pushed;
+    }

@@ -1,0 +1,14 @@
+use Rattle.std.specs.Prelude.{None}
+use Rattle.core_events.specs.Steps.{HasRoom}
+use Rattle.control_word.specs.Resting.{IsAtRest}
+use Rattle.part_calls.specs.Parts.{StaysBeside, seen_by}
+use Rattle.linked_queue.specs.Pops.{Pops}
+use Rattle.linked_queue.specs.Queues.{IsAttached}
+use Rattle.double_link_queue.proofs.queue.DoubleQueue.pop.Given as goal
+
+abbrev pub invariant-loop-try : goal.invariant-loop-try
+invariant-loop-try g l =
+    IsAtRest l.domain l.seat × HasRoom l.seat.view.core
+    × IsAttached (g.P.Part.seen l.seat.view.client)
+    × Pops None (seen_by g.P.Part.seen l.fn.seat) (seen_by g.P.Part.seen l.seat)
+    × StaysBeside g.P.Part.seen g.P.Part.with_seen l.fn.seat l.seat

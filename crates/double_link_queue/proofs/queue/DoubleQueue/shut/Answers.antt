@@ -1,0 +1,10 @@
+use Rattle.std.proofs.Common.{◌∙◌}
+use Rattle.queue_law.specs.Views.{first_view}
+use Rattle.part_calls.proofs.Beside.{stays_beside}
+use Rattle.double_link_queue.proofs.queue.DoubleQueue.shut.Goals as goal
+
+pub returns-clause-beside : goal.returns-clause-beside
+returns-clause-beside g c =
+    stays_beside g.P.Part.seen g.P.Part.with_seen first_view g.P.Part.puts_back
+    g.P.Part.puts_over c.args.root.now c.shut_tail.new.seat
+    (c.shut_tail.ensures.beside_part ∙ c.shut_head.ensures.beside_part)

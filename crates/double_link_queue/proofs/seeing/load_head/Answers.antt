@@ -1,0 +1,61 @@
+use Rattle.queue_law.specs.Lessons.{learn_next}
+use Rattle.linked_queue.proofs.Accepting.{kept_all, learn_kept}
+use Rattle.part_calls.proofs.Seen.{rest_seen}
+use Rattle.part_calls.specs.Parts.{as_part, seen_by}
+use Rattle.std.proofs.Common.{rules, inl, true, ap}
+use Rattle.linked_queue.specs.Cells.{HeadTells}
+use Rattle.linked_queue.specs.Queues.{ends_of}
+use Rattle.linked_queue.specs.Seeing.{Differs, SeesHead}
+use Rattle.linked_queue.proofs.CellLoads.{cell_seen, cell_sights, cell_there, not_null}
+use Rattle.linked_queue.proofs.Nodes.{sees_head}
+use Rattle.double_link_queue.proofs.seeing.load_head.Goals as goal
+
+pub returns : goal.returns
+returns g c =
+    let d = as_part g.P.Part.part c.args.domain.now in
+    let fits = g.P.Kind.PayloadKind.fits in
+    let before = seen_by g.P.Part.seen c.args.seat.now in
+    let after_try_load = seen_by g.P.Part.seen c.try_load.new.seat in
+    let all = cell_sights fits d true (HeadTells (ends_of d))
+    d.protocol.head c.args.head c.requires.head before after_try_load
+    (rest_seen g.P.Part.part g.P.Part.seen c.args.domain.now c.args.seat.now c.requires.rest)
+    c.try_load.ensures.objects c.try_load.result (λ e. ap (seen_by g.P.Part.seen)
+    (c.try_load.ensures.refused e))
+    c.try_load.ensures.spent.0 c.try_load.ensures.loaded c.try_load.ensures.moved (Differs fits d)
+    (λ seen now m. inl m) in
+    record {
+      loads = search rules;
+      there =
+          cell_there fits d true (HeadTells (ends_of d))
+          d.protocol.head c.args.head c.requires.head before after_try_load
+          (rest_seen g.P.Part.part g.P.Part.seen c.args.domain.now c.args.seat.now c.requires.rest)
+          c.try_load.ensures.objects c.try_load.result (λ e. ap (seen_by g.P.Part.seen)
+          (c.try_load.ensures.refused e))
+          c.try_load.ensures.spent.0 c.try_load.ensures.loaded c.try_load.ensures.moved
+          (not_null fits d d.protocol.head true before
+          after_try_load c.requires.attached);
+      sees =
+          cell_seen fits d true (HeadTells (ends_of d))
+          d.protocol.head c.args.head c.requires.head before after_try_load
+          (rest_seen g.P.Part.part g.P.Part.seen c.args.domain.now c.args.seat.now c.requires.rest)
+          c.try_load.ensures.objects c.try_load.result (λ e. ap (seen_by g.P.Part.seen)
+          (c.try_load.ensures.refused e))
+          c.try_load.ensures.spent.0 c.try_load.ensures.loaded c.try_load.ensures.moved (λ s.
+          SeesHead s after_try_load)
+          (sees_head fits d before after_try_load (rest_seen g.P.Part.part g.P.Part.seen
+          c.args.domain.now c.args.seat.now c.requires.rest)
+          d.protocol.head);
+      adds = all.0.0;
+      beside = all.0.1;
+      leaves = all.0.2;
+      why = all.1;
+      room = c.try_load.ensures.room c.requires.room;
+      beside_part = c.try_load.ensures.beside;
+      rest = c.try_load.ensures.rest;
+    }
+
+pub try_load-requires-clause-accepted : goal.try_load-requires-clause-accepted
+try_load-requires-clause-accepted g c =
+    kept_all g.P.Part.seen g.P.Part.suits g.met.P.HasQueue.accepts
+    c.args.domain.now.protocol c.args.seat.now.view.client (learn_next true)
+    (learn_kept true)

@@ -1,0 +1,139 @@
+use Rattle.linked_queue.proofs.Accepting.{kept_all, take_kept}
+use Rattle.part_calls.specs.Parts.{as_part, seen_by}
+use Rattle.std.proofs.Common.{rules, ◌≡◌, ℕ, inl, inr, refl, ap, sym, ◌∙◌, subst}
+use Rattle.std.specs.Prelude.{Some}
+use Rattle.plain_state.specs.declared.act.EventPlace.TheVariants.{Cell}
+use Rattle.plain_state.specs.declared.slot.SlotId.{SlotId}
+use Rattle.core_events.specs.Views.{without}
+use Rattle.counted_handles.specs.Handles.{Handle}
+use Rattle.acquire_retire.specs.Calls.{IsSameView, same_view}
+use Rattle.control_word.specs.Calls.{DropsStrong, GainsStrong, without_strong}
+use Rattle.control_word.specs.Moves.{KnowsStill}
+use Rattle.retiring_stores.specs.Exchanging.{LosesTo, Replaces}
+use Rattle.queue_law.specs.Lessons.{TellsNothing}
+use Rattle.queue_law.specs.Pops.{take_next}
+use Rattle.linked_queue.specs.Leaving.{Leaves}
+use Rattle.linked_queue.proofs.Leavings.{exchange_leaves}
+use Rattle.linked_queue.proofs.Takings.{front_there, lost_to, take_ready, taken_deeds, taken_dummy, taken_leaves, unchanged}
+use Rattle.double_link_queue.proofs.taking.take.Goals as goal
+
+pub try_replace-requires-clause-expected : goal.try_replace-requires-clause-expected
+try_replace-requires-clause-expected g c =
+    let d = as_part g.P.Part.part c.args.domain.now in
+    let fits = g.P.Kind.PayloadKind.fits in
+    let before = seen_by g.P.Part.seen c.args.seat.now in
+    let after_copy_strong = seen_by g.P.Part.seen c.copy_strong.new.seat in
+    let copies = subst (λ (s : SlotId). GainsStrong fits d same_view
+    IsSameView s before after_copy_strong)
+    c.of.ensures c.in-Ok.ensures.copied.1 in
+    front_there fits d c.args.sight.front c.args.sight.next c.args.sight.item before
+    after_copy_strong c.requires.sees copies c.copy_strong.ensures.seen
+    c.copy_strong.ensures.objects
+
+pub try_replace-requires-clause-deed : goal.try_replace-requires-clause-deed
+try_replace-requires-clause-deed g c =
+    let d = as_part g.P.Part.part c.args.domain.now in
+    let fits = g.P.Kind.PayloadKind.fits in
+    let before = seen_by g.P.Part.seen c.args.seat.now in
+    let after_copy_strong = seen_by g.P.Part.seen c.copy_strong.new.seat in
+    let copies = subst (λ (s : SlotId). GainsStrong fits d same_view
+    IsSameView s before after_copy_strong)
+    c.of.ensures c.in-Ok.ensures.copied.1 in
+    take_ready fits d c.args.sight.front c.args.sight.next c.args.sight.item before
+    after_copy_strong c.requires.sees copies c.copy_strong.ensures.seen
+    c.copy_strong.ensures.objects c.args.head c.in-Ok.given.slot c.requires.head
+    (c.in-Ok.ensures.copied.0 ∙ c.of.ensures) c.requires.attached
+
+pub returns-in-Ok-try_replace : goal.returns-in-Ok-try_replace
+returns-in-Ok-try_replace g c =
+    let d = as_part g.P.Part.part c.args.domain.now in
+    let fits = g.P.Kind.PayloadKind.fits in
+    let before = seen_by g.P.Part.seen c.args.seat.now in
+    let after_copy_strong = seen_by g.P.Part.seen c.copy_strong.new.seat in
+    let after_try_replace = seen_by g.P.Part.seen c.try_replace.new.seat in
+    let copies = subst (λ (s : SlotId). GainsStrong fits d same_view
+    IsSameView s before after_copy_strong)
+    c.of.ensures c.in-Ok.ensures.copied.1 in
+    let same = c.in-Ok.ensures.copied.0 ∙ c.of.ensures in
+    let replaces = subst (λ (x : ℕ × SlotId). Replaces fits d take_next
+    TellsNothing (Cell x.0) (Some x.1) (Some c.args.sight.front) after_copy_strong
+    after_try_replace)
+    (λ i. (c.requires.head i, same i)) c.in-Ok-try_replace.ensures.replaced.0 in
+    let still = subst (λ (s : SlotId). Leaves (without s c.copy_strong.new.seat.view.core.owned)
+    after_copy_strong after_try_replace) same
+    (exchange_leaves (Cell c.args.head) _ (Some c.in-Ok.given.slot) _ after_copy_strong
+    after_try_replace refl c.in-Ok-try_replace.ensures.replaced.0
+    c.try_replace.ensures.objects) in
+    record {
+      takes = record { copied = after_copy_strong; copies = copies; replaces = replaces };
+      popped = taken_deeds fits d c.args.sight.front c.args.sight.next
+          c.args.sight.item before after_copy_strong c.requires.sees copies
+          c.copy_strong.ensures.seen c.copy_strong.ensures.objects after_try_replace
+          replaces still;
+      dummy = taken_dummy fits d c.args.sight.front c.args.sight.next
+          c.args.sight.item before after_copy_strong c.requires.sees copies
+          c.copy_strong.ensures.seen c.copy_strong.ensures.objects after_try_replace
+          replaces still;
+      refused = tt;
+      why = tt;
+      leaves = taken_leaves fits d c.args.sight.front c.args.sight.next
+          c.args.sight.item before after_copy_strong c.requires.sees copies
+          c.copy_strong.ensures.seen c.copy_strong.ensures.objects after_try_replace
+          replaces still;
+      room = c.try_replace.ensures.room;
+      beside_part = c.try_replace.ensures.beside ∙ c.copy_strong.ensures.beside;
+      rest = c.try_replace.ensures.rest;
+    }
+
+pub returns : goal.returns
+returns g c =
+    let d = as_part g.P.Part.part c.args.domain.now in
+    let fits = g.P.Kind.PayloadKind.fits in
+    let before = seen_by g.P.Part.seen c.args.seat.now in
+    let after_copy_strong = seen_by g.P.Part.seen c.copy_strong.new.seat in
+    let after_drop_strong = seen_by g.P.Part.seen c.drop_strong.new.seat in
+    let after_try_replace = seen_by g.P.Part.seen c.try_replace.new.seat in
+    let copies = subst (λ (s : SlotId). GainsStrong fits d same_view
+    IsSameView s before after_copy_strong)
+    c.of.ensures c.in-Ok.ensures.copied.1 in
+    let same = c.in-Ok.ensures.copied.0 ∙ c.of.ensures in
+    let loses = subst (λ (x : ℕ × SlotId). LosesTo fits d take_next
+    TellsNothing (Cell x.0) (Some x.1) (Some c.args.sight.front) c.in-Err.lost.now
+    after_copy_strong after_try_replace)
+    (λ i. (c.requires.head i, same i)) c.in-Err.ensures.lost in
+    let both : Some c.in-Some.given ≡ Some c.in-Ok.given =
+    sym c.in-Some.is ∙ c.in-Err.ensures.back in
+    let handles : c.in-Some.given ≡ c.in-Ok.given = cc (both) in
+    let back = ap (λ (h : Handle). h.slot) handles ∙ same in
+    record {
+      takes = tt;
+      popped = tt;
+      dummy = tt;
+      refused = search rules;
+      why = inl (inr (inr (inr (lost_to fits d c.args.sight.front c.args.sight.next
+          c.args.sight.item before
+          after_copy_strong c.requires.sees copies c.copy_strong.ensures.seen
+          c.copy_strong.ensures.objects after_try_replace after_drop_strong
+          c.in-Err.lost.now loses c.held_as.result c.held_as.ensures))));
+      leaves = unchanged fits d c.args.sight.front c.args.sight.next c.args.sight.item before
+          after_copy_strong c.requires.sees copies c.copy_strong.ensures.seen
+          c.copy_strong.ensures.objects after_try_replace after_drop_strong c.in-Err.lost.now loses
+          (subst (λ (s : SlotId). DropsStrong fits d s after_try_replace
+          after_drop_strong) back c.drop_strong.ensures.dropped)
+          (subst (λ (s : SlotId). KnowsStill (without_strong s c.try_replace.new.seat.view.core)
+          after_try_replace after_drop_strong) back c.drop_strong.ensures.objects);
+      room = c.drop_strong.ensures.room c.try_replace.ensures.room;
+      beside_part = c.drop_strong.ensures.beside ∙ c.try_replace.ensures.beside
+          ∙ c.copy_strong.ensures.beside;
+      rest = c.drop_strong.ensures.rest;
+    }
+
+pub try_replace-requires-clause-accepted : goal.try_replace-requires-clause-accepted
+try_replace-requires-clause-accepted g c =
+    kept_all g.P.Part.seen g.P.Part.suits g.met.P.HasQueue.accepts
+    c.args.domain.now.protocol c.copy_strong.new.seat.view.client take_next
+    take_kept
+
+pub try_replace-requires-clause-within : goal.try_replace-requires-clause-within
+try_replace-requires-clause-within g c =
+    inl c.requires.head

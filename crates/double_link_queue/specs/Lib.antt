@@ -1,0 +1,6 @@
+pub mod Queues
+pub mod Leaving
+pub mod Before
+pub mod Pushes
+pub mod NotPushed
+pub mod Waits

@@ -1,0 +1,151 @@
+//! The link behind the node before the last one: an earlier push that is still in flight may have left it null. It is
+//! set by whoever comes first.
+ghost use Rattle.std.specs.Prelude.{◌≡◌, ◌<◌, ◌≤◌, ◌+◌, true, false, IfErr, IfOk};
+ghost use Rattle.plain_state.specs.Lists.{times};
+ghost use Rattle.core_events.specs.Steps.{HasRoom};
+ghost use Rattle.core_events.specs.Views.{without};
+ghost use Rattle.control_word.specs.Resting.{IsAtRest, IsSpent};
+ghost use Rattle.part_calls.specs.Parts.{HasBeside, as_part, seen_by};
+ghost use Rattle.queue_law.specs.declared.view.Form.TheVariants.{Double};
+ghost use Rattle.queue_law.specs.Pushes.{helped_view};
+ghost use Rattle.queue_law.specs.Views.{first_view};
+ghost use Rattle.linked_queue.specs.Leaving.{Leaves};
+ghost use Rattle.linked_queue.specs.Pushes.{SeesTail};
+ghost use Rattle.linked_queue.specs.Queues.{IsAttached, beside_eyes};
+ghost use Rattle.double_link_queue.specs.Leaving.{LeavesBoth};
+ghost use Rattle.double_link_queue.specs.Pushes.{IsWhyUnlinked, NotesHelp, SeesBefore, SeesNodeBefore};
+
+use crate::deeds::SeeSet;
+use crate::looking_back::find_before;
+use acquire_retire::{Domain, EventPlace, Outcome, Seat, SlotId};
+use counted_handles::{LoadError, Spent, Strong};
+use part_calls::{Place, copy_strong, drop_strong, look, try_replace};
+use queue_protocol::{HasQueue, HelpLink, QueueLaw};
+
+/// Sees to it that the link behind the node before isn't missing.
+pub(crate) fn help<S, P: HasQueue<S>>(
+    domain: &Domain<P>,
+    seat: &mut Seat<P>,
+    last: &Strong,
+) -> Result<(), LoadError>
+    requires rest { IsAtRest domain.now seat.old }
+    requires room { HasRoom seat.old.view.core }
+    requires queue { (P.part domain.now.protocol).form ≡ Double }
+    requires attached { IsAttached (P.seen seat.old.view.client) }
+    requires tail { SeesTail last.now.slot (seen_by P.seen seat.old) }
+    ensures helped { IfOk result (λ done. (P.seen seat.new.view.client).eyes.helped ≡ true) }
+    ensures tail { SeesTail last.now.slot (seen_by P.seen seat.new) }
+    ensures adds { seat.new.view.core.adds ≤ seat.old.view.core.adds + 3 }
+    ensures beside { beside_eyes (P.seen seat.new.view.client)
+        ≡ beside_eyes (P.seen seat.old.view.client) }
+    ensures makes { seat.new.view.core.makes ≡ seat.old.view.core.makes }
+    ensures leaves { LeavesBoth seat.old.view.core.owned seat.old.view.core.weaks
+        (seen_by P.seen seat.old) (seen_by P.seen seat.new) }
+    ensures why { IfErr result
+        (λ error. IsWhyUnlinked P.Kind.fits (as_part P.part domain.now) 2 error
+        (seen_by P.seen seat.old)) }
+    ensures beside_part { HasBeside P.with_seen first_view seat.old seat.new }
+    ensures room { HasRoom seat.new.view.core }
+    ensures rest { IsAtRest domain.now seat.new }
+{
+    let before = match find_before(domain, seat, last.slot()) {
+        Ok(Some(before)) => before,
+        Ok(None) => return Ok(()),
+        Err(error) => return Err(error),
+    };
+    let helped = help_at(domain, seat, last, before.slot());
+    drop_strong::<QueueLaw, S, P>(domain, seat, before);
+    match helped {
+        Ok(()) => Ok(()),
+        Err(Spent) => Err(LoadError::Spent),
+    }
+}
+
+/// The same, of the node before, which the seat holds.
+fn help_at<S, P: HasQueue<S>>(
+    domain: &Domain<P>,
+    seat: &mut Seat<P>,
+    last: &Strong,
+    before: SlotId,
+) -> Result<(), Spent>
+    requires rest { IsAtRest domain.now seat.old }
+    requires room { HasRoom seat.old.view.core }
+    requires queue { (P.part domain.now.protocol).form ≡ Double }
+    requires before { SeesBefore last.now.slot before (seen_by P.seen seat.old) }
+    ensures helped { IfOk result (λ done. (P.seen seat.new.view.client).eyes.helped ≡ true) }
+    ensures tail { SeesTail last.now.slot (seen_by P.seen seat.new) }
+    ensures adds { seat.new.view.core.adds ≤ seat.old.view.core.adds + 1 }
+    ensures notes { NotesHelp (P.seen seat.old.view.client) (P.seen seat.new.view.client) }
+    ensures makes { seat.new.view.core.makes ≡ seat.old.view.core.makes }
+    ensures leaves { Leaves seat.old.view.core.owned (seen_by P.seen seat.old)
+        (seen_by P.seen seat.new) }
+    ensures spent { IfErr result (λ spent. IsSpent seat.old.view.core) }
+    ensures beside_part { HasBeside P.with_seen first_view seat.old seat.new }
+    ensures room { HasRoom seat.new.view.core }
+    ensures rest { IsAtRest domain.now seat.new }
+{
+    if is_set(domain, seat, last.slot(), before) {
+        return Ok(());
+    }
+    let given = copy_strong::<QueueLaw, S, P>(domain, seat, last)?;
+    set_link(domain, seat, before, given);
+    Ok(())
+}
+
+/// Whether field 0 of the node before is set.
+fn is_set<S, P: HasQueue<S>>(
+    domain: &Domain<P>,
+    seat: &mut Seat<P>,
+    last: SlotId,
+    before: SlotId,
+) -> bool
+    requires rest { IsAtRest domain.now seat.old }
+    requires room { HasRoom seat.old.view.core }
+    requires queue { (P.part domain.now.protocol).form ≡ Double }
+    requires before { SeesBefore last before (seen_by P.seen seat.old) }
+    ensures set { result ≡ true → (P.seen seat.new.view.client).eyes.helped ≡ true }
+    ensures before { SeesNodeBefore last before (seen_by P.seen seat.new) }
+    ensures adds { seat.new.view.core.adds ≡ seat.old.view.core.adds }
+    ensures spent { seat.new.view.core.quota.adds ≡ seat.old.view.core.quota.adds }
+    ensures notes { NotesHelp (P.seen seat.old.view.client) (P.seen seat.new.view.client) }
+    ensures makes { seat.new.view.core.makes ≡ seat.old.view.core.makes }
+    ensures leaves { Leaves seat.old.view.core.owned (seen_by P.seen seat.old)
+        (seen_by P.seen seat.new) }
+    ensures beside_part { HasBeside P.with_seen first_view seat.old seat.new }
+    ensures room { HasRoom seat.new.view.core }
+    ensures rest { IsAtRest domain.now seat.new }
+{
+    match look::<QueueLaw, S, P, _>(domain, seat, EventPlace::Field(before, 0), SeeSet) {
+        Outcome::Found(found) => found.is_some(),
+        _ => false,
+    }
+}
+
+/// Field 0 of the node before gets the last node, unless it is set already.
+fn set_link<S, P: HasQueue<S>>(domain: &Domain<P>, seat: &mut Seat<P>, before: SlotId, last: Strong)
+    requires rest { IsAtRest domain.now seat.old }
+    requires room { HasRoom seat.old.view.core }
+    requires queue { (P.part domain.now.protocol).form ≡ Double }
+    requires before { SeesNodeBefore last.slot before (seen_by P.seen seat.old) }
+    ensures client { (P.seen seat.new.view.client) ≡ helped_view (P.seen seat.old.view.client) }
+    ensures adds { seat.new.view.core.adds ≡ seat.old.view.core.adds }
+    ensures makes { seat.new.view.core.makes ≡ seat.old.view.core.makes }
+    ensures leaves { Leaves (without last.slot seat.old.view.core.owned) (seen_by P.seen seat.old)
+        (seen_by P.seen seat.new) }
+    ensures beside_part { HasBeside P.with_seen first_view seat.old seat.new }
+    ensures room { HasRoom seat.new.view.core }
+    ensures rest { IsAtRest domain.now seat.new }
+{
+    if let Err(lost) = try_replace::<QueueLaw, S, P, _>(
+        domain,
+        seat,
+        Place::Field(before, 0),
+        None,
+        Some(last),
+        HelpLink,
+    ) {
+        let back = lost.back;
+        let Some(last) = back else { unreachable!() };
+        drop_strong::<QueueLaw, S, P>(domain, seat, last);
+    }
+}

@@ -1,0 +1,200 @@
+//! A push, in one try.
+//!
+//! The seat makes a node and leaves a counted reference to the item in it. It takes a reference to the node in the tail
+//! cell, links its own back to that one, helps the link of the node before, and exchanges the tail cell. Then it links
+//! the node before to its own. It gives up in the end what it walked over.
+
+ghost use Rattle.std.specs.Prelude.{◌≡◌, ◌<◌, ◌≤◌, ◌+◌, IfErr, IfOk, OnErr};
+ghost use Rattle.plain_state.specs.Lists.{times};
+ghost use Rattle.core_events.specs.Steps.{HasRoom};
+ghost use Rattle.control_word.specs.Resting.{IsAtRest};
+ghost use Rattle.queue_law.specs.declared.view.Form.TheVariants.{Double};
+ghost use Rattle.queue_law.specs.Pushes.{carried_item};
+ghost use Rattle.part_calls.specs.Parts.{HasBeside, StaysBeside, as_part, seen_by};
+ghost use Rattle.queue_law.specs.Views.{first_view};
+ghost use Rattle.linked_queue.specs.Leaving.{Leaves, handle_by, with_found};
+ghost use Rattle.linked_queue.specs.Pops.{item_in};
+ghost use Rattle.linked_queue.specs.Pushes.{HasLoad, IsWhyRefused, LoadsNode, back_of, pushed_too};
+ghost use Rattle.linked_queue.specs.Queues.{IsAttached, deeds_in};
+ghost use Rattle.double_link_queue.specs.Leaving.{LeavesBoth};
+ghost use Rattle.double_link_queue.specs.NotPushed.{IsWhyNotPushed};
+ghost use Rattle.double_link_queue.specs.Pushes.{IsWhyUnpushed, Pushes, PushesNothing, landed_in};
+ghost use Rattle.double_link_queue.specs.Queues.{IsDoubleOf};
+
+use crate::carrying::carry;
+use crate::chaining::push_node;
+use crate::laying::make_node;
+use crate::queue::DoubleQueue;
+use acquire_retire::{Domain, Seat};
+use atomic_shared::LoadError;
+use counted_handles::Strong;
+use linked_queue::{PushError, PushRefused};
+use part_calls::{copy_strong, drop_strong};
+use queue_protocol::{HasQueue, QueueLaw};
+use slot_store::MakeError;
+
+impl DoubleQueue {
+    /// Appends an item to the queue, in one try, and gives the seat's reference to it. `Again` where another seat was
+    /// quicker, and `Refused` with the causes of `make`; `AddsSpent` may come of a later increment of the call, and at
+    /// most seven adds were left. Then nothing is pushed, and the item is handed back; a node that was made is given
+    /// up. It makes one node at most, and may have set the link of another seat's push.
+    pub fn try_push<S, P: HasQueue<S>>(
+        &self,
+        domain: &Domain<P>,
+        seat: &mut Seat<P>,
+        item: Strong,
+    ) -> Result<(), PushError>
+        requires rest { IsAtRest domain.now seat.old }
+        requires room { HasRoom seat.old.view.core }
+        requires queue { IsDoubleOf self.now.head self.now.tail (as_part P.part domain.now) }
+        requires attached { IsAttached (P.seen seat.old.view.client) }
+        requires item { 0 < times item.slot seat.old.view.core.owned }
+        requires may { P.may_push domain.now.protocol seat.old.view.client
+            (item_in (seen_by P.seen seat.old) item.slot) }
+        ensures pushed { IfOk result
+            (λ done. Pushes item.slot (seen_by P.seen seat.old) (seen_by P.seen seat.new)) }
+        ensures refused { OnErr result
+            (PushesNothing (seen_by P.seen seat.old) (seen_by P.seen seat.new)) }
+        ensures makes { seat.new.view.core.makes ≤ seat.old.view.core.makes + 1 }
+        ensures back { IfErr result (λ error. back_of error ≡ item) }
+        ensures owned { IfErr result (λ error.
+            0 < times (back_of error).slot seat.new.view.core.owned) }
+        ensures why { IfErr result
+            (λ error. IsWhyUnpushed P.Kind.fits (as_part P.part domain.now) error
+            (seen_by P.seen seat.old)) }
+        ensures attached { IsAttached (P.seen seat.new.view.client) }
+        ensures beside { StaysBeside P.seen P.with_seen seat.old seat.new }
+        ensures room { HasRoom seat.new.view.core }
+        ensures rest { IsAtRest domain.now seat.new }
+    {
+        push_item(domain, seat, self.tail, item)
+    }
+}
+
+/// Appends an item to the queue whose tail cell this is.
+fn push_item<S, P: HasQueue<S>>(
+    domain: &Domain<P>,
+    seat: &mut Seat<P>,
+    tail: u32,
+    item: Strong,
+) -> Result<(), PushError>
+    requires rest { IsAtRest domain.now seat.old }
+    requires room { HasRoom seat.old.view.core }
+    requires queue { (P.part domain.now.protocol).form ≡ Double }
+    requires tail { tail ≡ (P.part domain.now.protocol).tail }
+    requires there { tail < domain.now.shape.cells }
+    requires attached { IsAttached (P.seen seat.old.view.client) }
+    requires item { 0 < times item.slot seat.old.view.core.owned }
+    requires may { P.may_push domain.now.protocol seat.old.view.client
+        (item_in (seen_by P.seen seat.old) item.slot) }
+    ensures pushed { IfOk result
+        (λ done. Pushes item.slot (seen_by P.seen seat.old) (seen_by P.seen seat.new)) }
+    ensures refused { OnErr result
+        (PushesNothing (seen_by P.seen seat.old) (seen_by P.seen seat.new)) }
+    ensures makes { seat.new.view.core.makes ≤ seat.old.view.core.makes + 1 }
+    ensures back { IfErr result (λ error. back_of error ≡ item) }
+    ensures why { IfErr result
+        (λ error. IsWhyUnpushed P.Kind.fits (as_part P.part domain.now) error
+        (seen_by P.seen seat.old)) }
+    ensures beside_part { HasBeside P.with_seen first_view seat.old seat.new }
+    ensures room { HasRoom seat.new.view.core }
+    ensures rest { IsAtRest domain.now seat.new }
+{
+    match push_copy(domain, seat, tail, &item) {
+        Ok(()) => {
+            drop_strong::<QueueLaw, S, P>(domain, seat, item);
+            Ok(())
+        }
+        Err(NotPushed::Again { seen, now }) => Err(PushError::Again {
+            seen,
+            now,
+            back: item,
+        }),
+        Err(NotPushed::Refused(why)) => Err(PushError::Refused(PushRefused { why, back: item })),
+    }
+}
+
+/// Why a node wasn't pushed.
+enum NotPushed {
+    Again { seen: u64, now: u64 },
+    Refused(MakeError),
+}
+
+/// Pushes a reference of its own to the item.
+fn push_copy<S, P: HasQueue<S>>(
+    domain: &Domain<P>,
+    seat: &mut Seat<P>,
+    tail: u32,
+    item: &Strong,
+) -> Result<(), NotPushed>
+    requires rest { IsAtRest domain.now seat.old }
+    requires room { HasRoom seat.old.view.core }
+    requires queue { (P.part domain.now.protocol).form ≡ Double }
+    requires tail { tail ≡ (P.part domain.now.protocol).tail }
+    requires there { tail < domain.now.shape.cells }
+    requires attached { IsAttached (P.seen seat.old.view.client) }
+    requires item { 0 < times item.now.slot seat.old.view.core.owned }
+    requires may { P.may_push domain.now.protocol seat.old.view.client
+        (item_in (seen_by P.seen seat.old) item.now.slot) }
+    ensures pushed { IfOk result (λ done. deeds_in (P.seen seat.new.view.client)
+        ≡ pushed_too (item_in (seen_by P.seen seat.old) item.now.slot)
+        (landed_in (deeds_in (P.seen seat.old.view.client)))) }
+    ensures refused { OnErr result (deeds_in (P.seen seat.new.view.client)
+        ≡ deeds_in (P.seen seat.old.view.client)) }
+    ensures makes { seat.new.view.core.makes ≤ seat.old.view.core.makes + 1 }
+    ensures leaves { LeavesBoth seat.old.view.core.owned seat.old.view.core.weaks
+        (seen_by P.seen seat.old) (seen_by P.seen seat.new) }
+    ensures why { IfErr result
+        (λ not. IsWhyNotPushed P.Kind.fits (as_part P.part domain.now) not
+        (seen_by P.seen seat.old)) }
+    ensures beside_part { HasBeside P.with_seen first_view seat.old seat.new }
+    ensures room { HasRoom seat.new.view.core }
+    ensures rest { IsAtRest domain.now seat.new }
+{
+    let node = match load_node(domain, seat, item) {
+        Ok(node) => node,
+        Err(error) => return Err(NotPushed::Refused(error)),
+    };
+    match push_node(domain, seat, tail, node) {
+        Ok(()) => Ok(()),
+        Err(LoadError::Moved { seen, now }) => Err(NotPushed::Again { seen, now }),
+        Err(LoadError::Spent) => Err(NotPushed::Refused(MakeError::AddsSpent)),
+    }
+}
+
+/// Makes a node with a reference of its own to the item.
+pub(crate) fn load_node<S, P: HasQueue<S>>(
+    domain: &Domain<P>,
+    seat: &mut Seat<P>,
+    item: &Strong,
+) -> Result<Strong, MakeError>
+    requires rest { IsAtRest domain.now seat.old }
+    requires room { HasRoom seat.old.view.core }
+    requires item { 0 < times item.now.slot seat.old.view.core.owned }
+    ensures events { IfOk result
+        (λ node. LoadsNode P.Kind.fits (as_part P.part domain.now) item.now.slot node.slot
+        (seen_by P.seen seat.old) (seen_by P.seen seat.new)) }
+    ensures load { IfOk result (λ node. HasLoad node.slot (seen_by P.seen seat.new)) }
+    ensures carried { IfOk result (λ node. carried_item (P.seen seat.new.view.client)
+        ≡ item_in (seen_by P.seen seat.old) item.now.slot) }
+    ensures adds { seat.new.view.core.adds ≤ seat.old.view.core.adds + 2 }
+    ensures deeds { deeds_in (P.seen seat.new.view.client)
+        ≡ deeds_in (P.seen seat.old.view.client) }
+    ensures makes { seat.new.view.core.makes ≤ seat.old.view.core.makes + 1 }
+    ensures leaves { Leaves (with_found (handle_by result) seat.old.view.core.owned)
+        (seen_by P.seen seat.old) (seen_by P.seen seat.new) }
+    ensures why { IfErr result
+        (λ error. IsWhyRefused P.Kind.fits (as_part P.part domain.now) 1 error
+        (seen_by P.seen seat.old)) }
+    ensures beside_part { HasBeside P.with_seen first_view seat.old seat.new }
+    ensures room { HasRoom seat.new.view.core }
+    ensures rest { IsAtRest domain.now seat.new }
+{
+    let node = make_node(domain, seat)?;
+    let Ok(copy) = copy_strong::<QueueLaw, S, P>(domain, seat, item) else {
+        drop_strong::<QueueLaw, S, P>(domain, seat, node);
+        return Err(MakeError::AddsSpent);
+    };
+    carry(domain, seat, node.slot(), copy);
+    Ok(node)
+}

@@ -1,0 +1,22 @@
+use Rattle.std.proofs.Common.{ap}
+use Rattle.acquire_retire.proofs.Wholes.{then_ok}
+use Rattle.weak_part_calls.proofs.WeakCalls.{gains_weak_seen}
+use Rattle.weak_part_calls.proofs.handles.copy_weak.Goals as goal
+
+pub returns-clause-gained : goal.returns-clause-gained
+returns-clause-gained g c =
+    then_ok _ _ c.copy_weak.result
+    (λ more is. (
+      is.0,
+      gains_weak_seen g.P.Kind.PayloadKind.fits g.P.Part.part g.P.Part.seen c.args.domain.now
+          c.args.weak.now.slot c.args.seat.now c.copy_weak.new.seat is.1,
+    ))
+    c.copy_weak.ensures.gained
+
+pub returns-clause-seen : goal.returns-clause-seen
+returns-clause-seen g c = ap g.P.Part.seen c.copy_weak.ensures.client
+
+pub returns-clause-beside : goal.returns-clause-beside
+returns-clause-beside g c =
+    ap (λ v. g.P.Part.with_seen v g.Q.Protocol.gone) c.copy_weak.ensures.client
+

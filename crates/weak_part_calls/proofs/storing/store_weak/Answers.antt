@@ -1,0 +1,58 @@
+use Rattle.std.proofs.Common.{sym, subst}
+use Rattle.protocol_pairs.specs.Parts.{Accepts}
+use Rattle.protocol_pairs.specs.Shares.{owned_of}
+use Rattle.part_calls.specs.Parts.{as_part, seen_by}
+use Rattle.part_calls.proofs.Seen.{lifted_allows, part_seen}
+use Rattle.core_events.specs.declared.act.Act.TheVariants as act
+use Rattle.acquire_retire.specs.Calls.{IsReady}
+use Rattle.atomic_weak.specs.Places.{named, weak_place}
+use Rattle.retiring_stores.specs.Exchanging.{Stores}
+use Rattle.part_calls.proofs.Beside.{exchanges_beside}
+use Rattle.part_calls.proofs.Readiness.{swap_ready}
+use Rattle.part_calls.proofs.SeenCalls.{stores_seen}
+use Rattle.weak_part_calls.proofs.storing.store_weak.Goals as goal
+
+pub store_weak-requires-clause-deed : goal.store_weak-requires-clause-deed
+store_weak-requires-clause-deed g c =
+    subst (λ e. IsReady (λ own v step. (g.D.Deed.ready e (g.P.Part.part c.args.domain.now.protocol))
+    own (g.P.Part.seen v) step × g.P.Part.free c.args.domain.now.protocol own step
+    × Accepts (g.P.Part.suits c.args.domain.now.protocol)
+    (g.D.Deed.next e (g.P.Part.part c.args.domain.now.protocol)) g.P.Part.seen own v step)
+    c.args.domain.now.shape
+    (act.Swap (weak_place c.args.place) (named c.args.new)) c.args.seat.now.view)
+    (sym c.new.ensures)
+    (swap_ready g.P.Kind.PayloadKind.fits g.P.Part.part g.P.Part.seen c.args.domain.now
+    (owned_of (g.Q.Protocol.owns_cell (g.P.Part.part c.args.domain.now.protocol))
+    (g.Q.Protocol.owns_weak_cell (g.P.Part.part c.args.domain.now.protocol))
+    (g.Q.Protocol.owns_payload (g.P.Part.part c.args.domain.now.protocol))
+    (g.Q.Protocol.owns_tickets (g.P.Part.part c.args.domain.now.protocol)))
+    (g.P.Part.free c.args.domain.now.protocol) (g.met.P.Part.frees c.args.domain.now.protocol)
+    (g.P.Part.suits c.args.domain.now.protocol)
+    (g.D.Deed.ready c.args.deed (g.P.Part.part c.args.domain.now.protocol))
+    (g.D.Deed.next c.args.deed (g.P.Part.part c.args.domain.now.protocol))
+    (weak_place c.args.place) (named c.args.new) c.args.seat.now
+    c.requires.accepted c.requires.within c.requires.deed)
+
+pub returns-clause-stored : goal.returns-clause-stored
+returns-clause-stored g c =
+    subst (λ e. Stores g.P.Kind.PayloadKind.fits (as_part g.P.Part.part c.args.domain.now)
+    (g.D.Deed.next e (g.P.Part.part c.args.domain.now.protocol))
+    (g.D.Deed.allows e (g.P.Part.part c.args.domain.now.protocol))
+    (weak_place c.args.place) (named c.args.new) (seen_by g.P.Part.seen c.args.seat.now)
+    (seen_by g.P.Part.seen c.store_weak.new.seat)) c.new.ensures
+    (stores_seen g.P.Kind.PayloadKind.fits g.P.Part.part g.P.Part.seen c.args.domain.now
+    (part_seen g.P.Part.seen g.P.Part.with_seen g.P.Part.reads
+    (g.D.Deed.next c.new.result.deed (g.P.Part.part c.args.domain.now.protocol))
+    (g.D.Deed.allows c.new.result.deed (g.P.Part.part c.args.domain.now.protocol)))
+    (weak_place c.args.place) (named c.args.new) c.args.seat.now c.store_weak.new.seat
+    c.store_weak.ensures.stored)
+
+pub returns-clause-beside : goal.returns-clause-beside
+returns-clause-beside g c =
+    exchanges_beside g.P.Part.seen g.P.Part.with_seen g.Q.Protocol.gone g.P.Part.puts_over
+    g.P.Kind.PayloadKind.fits c.args.domain.now
+    (g.D.Deed.next c.new.result.deed (g.P.Part.part c.args.domain.now.protocol))
+    (lifted_allows g.P.Part.seen
+    (g.D.Deed.allows c.new.result.deed (g.P.Part.part c.args.domain.now.protocol)))
+    c.args.seat.now c.store_weak.new.seat (weak_place c.args.place) _ (named c.args.new)
+    c.store_weak.ensures.stored.held c.store_weak.ensures.stored.swaps
