@@ -1,8 +1,8 @@
 //! A doubly linked queue over a domain, in the manner of Ramalhete and Correia: seats push references to objects at one
 //! end, and pop them at the other.
 //!
-//! A head cell holds the dummy, the node before the first item, and a tail cell holds the last node. Field 0 of a node is
-//! the next node, field 1 its item, and its weak field leads back to the node before it. A push is decided by one
+//! A head cell holds the dummy, the node before the first item, and a tail cell holds the last node. Field 0 of a node
+//! is the next node, field 1 its item, and its weak field leads back to the node before it. A push is decided by one
 //! exchange of the tail cell; field 0 of the node before follows, by that push or by the help of the next one. The rule
 //! that is kept is the law of `queue_law` in its doubly linked form: each item that was pushed was popped or waits,
 //! once, and pops come in the order of pushes.
