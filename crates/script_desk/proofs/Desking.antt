@@ -28,8 +28,7 @@ module _ (p : Plain) (names : Names) (made : List Maker) (makes : ℕ) where
   pub settle_told : (d : Desk) → desk_of p names made makes ≡ d → (q : Plain) (freed : ℕ)
       → SettlesTo script_weight p freed q → IsSettled q → Settles d (desk_of q names made makes)
   settle_told d is q freed settles settled =
-      subst (λ (x : Desk). Settles x (desk_of q names made makes)) is
-      (
+      subst (λ (x : Desk). Settles x (desk_of q names made makes)) is (
         record {
           tidies = settles_so script_weight p q freed settles;
           names = refl;

@@ -93,8 +93,7 @@ pub open_place : (d : Desk) (place : TextPlace) (at : EventPlace)
 open_place d (text.Cell i) at has range met is = subst (IsOpen d.plain 0) (sym is) range
 open_place d (text.WeakCell i) at has range met is = subst (IsOpen d.plain 0) (sym is) range
 open_place d (text.Field name i) at has range met (h, e, is) =
-    subst (IsOpen d.plain 0) (sym is)
-    (
+    subst (IsOpen d.plain 0) (sym is) (
       range,
       holds_firmly d.plain h
           (kind_of (bound d.names name) is_firm h (first_met d.names name is_firm [] met) e)
