@@ -4,7 +4,7 @@ use Rattle.line_words.specs.declared.reason.Reason.{Reason}
 use Rattle.line_words.specs.declared.reason.Reason.TheVariants.{Syntax, Range, Name, Kind, NotEnabled}
 use Rattle.script_lines.specs.declared.command.Command.{Command}
 use Rattle.script_lines.specs.Spelling.{SpellsCommand}
-use Rattle.script_desk.specs.Desks.{Desk}
+use Rattle.script_desk.specs.Desks.{Desk, scope_of}
 use Rattle.script_desk.specs.Faults.{IsFault}
 use Rattle.cdrc_scripts.specs.Meaning.{Refuses, RunsTo, Takes}
 
@@ -14,7 +14,7 @@ pub command_taken : (d e : Desk) (words : List (List ℕ)) (before after : List 
 command_taken d e words before after c spells (out, written, ran) = (out, written, (c, e, spells, ran, refl))
 
 pub command_refused : (d : Desk) (words : List (List ℕ)) (c : Command) (reason : Reason)
-    → SpellsCommand c words → IsFault d c (Some reason) → Refuses (Some d) words reason
+    → SpellsCommand c words → IsFault (scope_of d) c (Some reason) → Refuses (Some d) words reason
 command_refused d words c Syntax spells fault = absurd fault
 command_refused d words c Range spells fault = (c, spells, fault)
 command_refused d words c Name spells fault = (c, spells, fault)

@@ -10,7 +10,7 @@ use Rattle.script_lines.specs.declared.command.Command.{Command}
 use Rattle.script_lines.specs.declared.command.ScriptLine.TheVariants.{Heap}
 use Rattle.script_lines.specs.Spelling.{Spells, SpellsCommand}
 use Rattle.script_desk.specs.declared.said.Said.{Said}
-use Rattle.script_desk.specs.Desks.{Desk, maker_of, nobody}
+use Rattle.script_desk.specs.Desks.{Desk, maker_of, nobody, scope_of}
 use Rattle.script_desk.specs.Faults.{IsFault, IsFaultless}
 use Rattle.script_desk.specs.Effects.{Runs}
 use Rattle.cdrc_scripts.specs.SaidLines.{said_line}
@@ -28,7 +28,7 @@ IsOpened slots cells weak_cells d =
 
 -- a command without a fault runs, writes its line and leaves e
 abbrev pub RunsTo : Desk → Command → List ℕ → Desk → Type 0
-RunsTo d c out e = (answer : Said) × IsFaultless d c × Runs d c answer e × (out ≡ said_line c answer)
+RunsTo d c out e = (answer : Said) × IsFaultless (scope_of d) c × Runs d c answer e × (out ≡ said_line c answer)
 
 -- the first line gives a heap its numbers and writes nothing; every later line is a command without a fault, which runs
 abbrev pub Takes : Option Desk → List (List ℕ) → List ℕ → Option Desk → Type 0
@@ -50,9 +50,9 @@ Refuses None words Name = ⊥
 Refuses None words Kind = ⊥
 Refuses None words NotEnabled = ⊥
 Refuses (Some d) words Syntax = (c : Command) → SpellsCommand c words → ⊥
-Refuses (Some d) words Range = (c : Command) × SpellsCommand c words × IsFault d c (Some Range)
-Refuses (Some d) words Name = (c : Command) × SpellsCommand c words × IsFault d c (Some Name)
-Refuses (Some d) words Kind = (c : Command) × SpellsCommand c words × IsFault d c (Some Kind)
+Refuses (Some d) words Range = (c : Command) × SpellsCommand c words × IsFault (scope_of d) c (Some Range)
+Refuses (Some d) words Name = (c : Command) × SpellsCommand c words × IsFault (scope_of d) c (Some Name)
+Refuses (Some d) words Kind = (c : Command) × SpellsCommand c words × IsFault (scope_of d) c (Some Kind)
 Refuses (Some d) words NotEnabled = ⊥
 
 -- a text without a heap is refused at its first line

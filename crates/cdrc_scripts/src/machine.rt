@@ -3,6 +3,7 @@ ghost use Rattle.std.specs.Prelude.{◌≡◌, ◌++◌, ℕ, Bool, List, [], Ok
 ghost use Rattle.line_words.specs.declared.reason.Reason.{Reason};
 ghost use Rattle.line_words.specs.Words.{texts_of};
 ghost use Rattle.plain_store.specs.Settling.{IsSettled};
+ghost use Rattle.script_desk.specs.Desks.{scope_of};
 ghost use Rattle.script_desk.specs.Faults.{IsFault};
 ghost use Rattle.cdrc_scripts.specs.Meaning.{Ends, Refuses, RunsTo, Takes};
 
@@ -27,7 +28,7 @@ fn run_command(
         × RunsTo desk.old command.now out desk.new }
     ensures settled { result ≡ Ok None → IsSettled desk.new.plain }
     ensures refused { (reason : Reason) → result ≡ Ok (Some reason) →
-        (text.new.items ≡ text.old.items) × IsFault desk.old command.now (Some reason) }
+        (text.new.items ≡ text.old.items) × IsFault (scope_of desk.old) command.now (Some reason) }
 {
     if let Some(reason) = desk.fault(command) {
         return Ok(Some(reason));

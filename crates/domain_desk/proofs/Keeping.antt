@@ -21,8 +21,8 @@ use Rattle.script_desk.specs.declared.handle.Handle.{Handle}
 use Rattle.script_desk.specs.declared.handle.Handle.TheVariants.{Strong, Weak}
 use Rattle.script_desk.specs.declared.said.Said.{Said}
 use Rattle.script_desk.specs.declared.said.Said.TheVariants as said
-use Rattle.script_desk.specs.Desks.{Binds, Desk, Maker, Names, bound}
-use Rattle.script_desk.specs.Effects.{Acts, MakesOne}
+use Rattle.script_desk.specs.Desks.{Binds, Desk, Maker, Names, Tidied, bound}
+use Rattle.script_desk.specs.Effects.{Acts, MakesOne, Runs}
 use Rattle.script_desk.specs.Holding.{CountsMore, HasMore, HasSame, Kept, giving}
 use Rattle.script_desk.specs.Kinds.{script_payload, script_weight}
 use Rattle.script_desk.proofs.Gaining.{gains_more, gives_fewer, makes_more, weakly_gains_more}
@@ -31,7 +31,7 @@ use Rattle.script_desk.proofs.Grows.{same_by}
 use Rattle.script_desk.proofs.Steps.{same_as, same_then, settles_same}
 use Rattle.script_desk.proofs.Sums.{has_bound, kept_fewer, kept_more, kept_same}
 use Rattle.domain_desk.specs.Desks.{DeskState, IsKept, desk_of, plain_of}
-use Rattle.domain_desk.specs.Runs.{Begins, Runs, Tidied}
+use Rattle.domain_desk.specs.Runs.{Begins}
 
 -- tidying leaves what the seat has
 one_settles : (p q : Plain) (a : PlainAct) (found : ℕ) → PlainSettles p a q → Does p 0 a found q
@@ -60,7 +60,7 @@ pub tidied_same : (p q : Plain) → TidiesTo p q → HasSame p q
 tidied_same p q by = tidied_by by.0 p q by.1
 
 module _ {P : Type 0} (i d : DeskState P) (is : i ≡ d) (kept : IsKept d) where
-  has_kept : IsKept i
+  pub has_kept : IsKept i
   has_kept = subst IsKept (sym is) kept
 
   pub owns_strong : (name : List ℕ) (s t : SlotId) → bound d.names name ≡ Some (Strong s) → t ≡ s
@@ -92,6 +92,10 @@ module _ {P : Type 0} (i d : DeskState P) (is : i ≡ d) (kept : IsKept d) where
       was ∙ ap (λ (x : DeskState P). bound x.names name) is ∙ named
       ∙ ap (λ (x : SlotId). Some (Weak x)) (sym same)
 
+  pub named_so : (name : List ℕ) (h : Handle) → bound i.names name ≡ Some h
+      → bound d.names name ≡ Some h
+  named_so name h e = ap (λ (x : DeskState P). bound x.names name) (sym is) ∙ e
+
   pub ready_here : IsReady i.domain i.seat
   ready_here = has_kept.ready
 
@@ -99,19 +103,16 @@ module _ {P : Type 0} (i d : DeskState P) (is : i ≡ d) (kept : IsKept d) where
     abbrev later : DeskState P
     later = record i { seat = seat; names = names }
 
-    of_kept : Kept (plain_of later) names i.makers (length (plain_of i).cells)
-        (length (plain_of i).weak_cells) → IsKept later
-    of_kept k = record {
-      ready = ready;
-      kept = record {
-        holds = k.holds;
-        makers = k.makers;
-        cells = refl;
-        weak_cells = refl;
-      };
-    }
+    pub of_kept : Kept (plain_of later) names i.makers i.cells i.weak_cells → IsKept later
+    of_kept k = record { ready = ready; kept = k }
 
-    kept_gained : (h : Handle) → HasMore (plain_of i) h (plain_of later)
+    pub kept_with : HasSame (plain_of i) (plain_of later) → names ≡ i.names → IsKept later
+    kept_with same names_are =
+        of_kept (subst (λ (ns : Names). Kept (plain_of later) ns i.makers i.cells i.weak_cells)
+        (sym names_are)
+        (kept_same (plain_of i) i.names i.makers _ _ has_kept.kept (plain_of later) same))
+
+    pub kept_gained : (h : Handle) → HasMore (plain_of i) h (plain_of later)
         → CountsMore (values_of i.names) h (values_of names) → IsKept later
     kept_gained h more counts =
         of_kept (kept_more (plain_of i) i.names i.makers _ _ has_kept.kept (plain_of later) h names more
@@ -191,17 +192,12 @@ module _ {P : Type 0} (i d : DeskState P) (is : i ≡ d) (kept : IsKept d) where
     made_kept counts =
         let more = subst (λ (x : SlotId). HasMore (plain_of i) (Strong x) (plain_of made)) (sym of_hand)
         (makes_more (plain_of i) (plain_of made) s payload makes) in
-        let k = kept_made (plain_of made) names i.makers _ _ at.0 maker
-        (kept_more (plain_of i) i.names i.makers _ _ has_kept.kept (plain_of made) (Strong v) names more
-        counts) in
         record {
           ready = ready;
-          kept = record {
-            holds = k.holds;
-            makers = k.makers;
-            cells = refl;
-            weak_cells = refl;
-          };
+          kept =
+              kept_made (plain_of made) names i.makers _ _ at.0 maker
+              (kept_more (plain_of i) i.names i.makers _ _ has_kept.kept (plain_of made) (Strong v)
+              names more counts);
         }
 
     pub made_told : (name : List ℕ) (weight : ℕ) → payload ≡ script_payload weight
@@ -245,14 +241,14 @@ pub begun_runs : (d : Desk) (c : Command) (answer : Said) (e f : Desk) → Begin
 begun_runs d c answer e f begins tidied settled =
     let m = begins.0 in
     let first = begins.2 in (
+      m,
+      begins.1,
       (
-        m,
-        begins.1,
         record {
           tidies = tidies_on m.plain e.plain f.plain first.tidies tidied.tidies;
           names = tidied.names ∙ first.names;
           makers = (tidied.makers.0 ∙ first.makers.0, tidied.makers.1 ∙ first.makers.1);
         },
+        settled,
       ),
-      settled,
     )

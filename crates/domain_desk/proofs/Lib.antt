@@ -1,2 +1,7 @@
 pub mod Keeping
 pub mod Opened
+pub mod Placing
+pub mod Replacing
+pub mod Told
+pub mod Loading
+pub mod Audited

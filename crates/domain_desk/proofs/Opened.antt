@@ -36,10 +36,8 @@ module _ (slots cells weak_cells : ℕ) (p : Plain) (is : p ≡ empty 1 slots ce
   opened_settled = subst IsSettled (sym is) (empty_settled slots cells weak_cells)
 
   pub opened_kept : (names : Names) (made : List Maker) → names ≡ [] → length made ≡ slots
-      → Kept p names made (length p.cells) (length p.weak_cells)
-  opened_kept names made none size =
-      let k = kept_open slots cells weak_cells p names made is none size in
-      record { holds = k.holds; makers = k.makers; cells = refl; weak_cells = refl }
+      → Kept p names made cells weak_cells
+  opened_kept names made none size = kept_open slots cells weak_cells p names made is none size
 
 -- no slot was made
 pub all_nobody : (made : List Maker) → All (λ maker. maker ≡ nobody) made → (s : SlotId)

@@ -1,20 +1,23 @@
 -- What a script has between two commands on a domain, and the desk that this is.
-use Rattle.std.specs.Prelude.{ℕ, List, length}
+use Rattle.std.specs.Prelude.{ℕ, List}
 use Rattle.plain_state.specs.State.{Plain}
 use Rattle.acquire_retire.specs.Domains.{DomainState}
 use Rattle.acquire_retire.specs.Seats.{SeatState}
 use Rattle.lone_heap.specs.Lone.{IsReady, known_plain}
-use Rattle.script_desk.specs.Desks.{Desk, Maker, Names}
+use Rattle.script_desk.specs.declared.sizes.Sizes.{Sizes}
+use Rattle.script_desk.specs.Desks.{Desk, Maker, Names, scope_of}
 use Rattle.script_desk.specs.Holding.{Kept}
 
--- a domain and its one seat, the names, for each slot the make that made it last, and how many makes
--- there were
+-- a domain and its one seat, the names, for each slot the make that made it last, how many makes there
+-- were, and how many cells there are
 pub record DeskState (P : Type 0) : Type 0 where
   pub domain : DomainState P
   pub seat : SeatState (Unit {0})
   pub names : Names
   pub makers : List Maker
   pub makes : ℕ
+  pub cells : ℕ
+  pub weak_cells : ℕ
 
 abbrev pub plain_of : {P : Type 0} → DeskState P → Plain
 plain_of d = known_plain d.domain d.seat
@@ -23,8 +26,11 @@ plain_of d = known_plain d.domain d.seat
 abbrev pub desk_of : {P : Type 0} → DeskState P → Desk
 desk_of d = record { plain = plain_of d; names = d.names; makers = d.makers; makes = d.makes }
 
+-- how many cells there are
+abbrev pub sizes_of : {P : Type 0} → DeskState P → Sizes
+sizes_of d = (scope_of (desk_of d)).sizes
+
 -- the seat is alone and in no call, and has just what the bound handles need
 pub record IsKept {P : Type 0} (d : DeskState P) : Type 0 where
   pub ready : IsReady d.domain d.seat
-  pub kept :
-      Kept (plain_of d) d.names d.makers (length (plain_of d).cells) (length (plain_of d).weak_cells)
+  pub kept : Kept (plain_of d) d.names d.makers d.cells d.weak_cells

@@ -19,6 +19,8 @@ pub struct DomainDesk {
     pub(crate) names: NameTable,
     pub(crate) makers: Vec<Make>,
     pub(crate) makes: u64,
+    pub(crate) cells: u32,
+    pub(crate) weak_cells: u32,
 }
 
 impl Model for DomainDesk {
@@ -30,5 +32,7 @@ impl Model for DomainDesk {
       names = d.names;
       makers = d.makers.items;
       makes = d.makes;
+      cells = d.cells;
+      weak_cells = d.weak_cells;
     } };
 }

@@ -40,6 +40,8 @@ impl DomainDesk {
             names: NameTable::new(alloc),
             makers,
             makes: 0,
+            cells,
+            weak_cells,
         })
     }
 }

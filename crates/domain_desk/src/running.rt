@@ -2,10 +2,12 @@
 ghost use Rattle.std.specs.Prelude.{IfOk, OnOk};
 ghost use Rattle.deleter.specs.Weighing.{Weighs};
 ghost use Rattle.plain_store.specs.Settling.{IsSettled};
+ghost use Rattle.script_desk.specs.Desks.{Tidied, scope_of};
+ghost use Rattle.script_desk.specs.Effects.{Runs};
 ghost use Rattle.script_desk.specs.Faults.{IsFaultless};
 ghost use Rattle.script_desk.specs.Kinds.{IsScriptPayload, script_weight};
 ghost use Rattle.domain_desk.specs.Desks.{IsKept, desk_of, plain_of};
-ghost use Rattle.domain_desk.specs.Runs.{Begins, IsHere, Runs, Tidied};
+ghost use Rattle.domain_desk.specs.Runs.{Begins, IsHere};
 
 use crate::desk::DomainDesk;
 use deleter::Deleter;
@@ -24,23 +26,28 @@ impl DomainDesk {
     ) -> Result<Said, OutOfMemory>
         requires kept { IsKept self.old }
         requires here { IsHere command.now }
-        requires faultless { IsFaultless (desk_of self.old) command.now }
+        requires faultless { IsFaultless (scope_of (desk_of self.old)) command.now }
         requires settled { IsSettled (plain_of self.old) }
         requires weighs { Weighs IsScriptPayload script_weight F.Fn weigh.now }
         ensures runs { IfOk result (λ answer.
             Runs (desk_of self.old) command.now answer (desk_of self.new)) }
         ensures kept { OnOk result (IsKept self.new) }
     {
-        let said = self.act(command)?;
+        let said = self.act(command, weigh)?;
         self.settle(weigh);
         Ok(said)
     }
 
-    fn act(&mut self, command: &Command) -> Result<Said, OutOfMemory>
+    fn act<F: Fn(&[u64; 16]) -> u64>(
+        &mut self,
+        command: &Command,
+        weigh: &Deleter<ScriptKind, F>,
+    ) -> Result<Said, OutOfMemory>
         requires kept { IsKept self.old }
         requires here { IsHere command.now }
-        requires faultless { IsFaultless (desk_of self.old) command.now }
+        requires faultless { IsFaultless (scope_of (desk_of self.old)) command.now }
         requires settled { IsSettled (plain_of self.old) }
+        requires weighs { Weighs IsScriptPayload script_weight F.Fn weigh.now }
         ensures begins { IfOk result (λ answer.
             Begins (desk_of self.old) command.now answer (desk_of self.new)) }
         ensures kept { OnOk result (IsKept self.new) }
@@ -50,6 +57,20 @@ impl DomainDesk {
             Command::Copy(name, new) => self.copy(name, new),
             Command::Weaken(name, new) => self.weaken(name, new),
             Command::CopyWeak(name, new) => self.copy_weak(name, new),
+            Command::Upgrade(name, new) => self.upgrade(name, new),
+            Command::Load(place, new) => self.load(place, new),
+            Command::Replace(place, old, new) => Ok(self.replace(place, old, new)),
+            Command::Read(name, word) => Ok(self.read(name, *word as u32)),
+            Command::Counts(name) => Ok(self.counts(name)),
+            Command::Audit => self.audit(weigh),
+            Command::Put(place, name) => {
+                self.put(place, name);
+                Ok(Said::Nothing)
+            }
+            Command::Clear(place) => {
+                self.clear(place);
+                Ok(Said::Nothing)
+            }
             Command::Drop(name) => {
                 self.drop(name);
                 Ok(Said::Nothing)

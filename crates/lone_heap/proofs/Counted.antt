@@ -1,5 +1,5 @@
 -- What a seat that is alone is told by a step that changes nothing.
-use Rattle.std.proofs.Common.{◌≡◌, ⊎_elim, ℕ, Bool, true, false, List, [], ◌∷◌, refl, ap, sym, ◌∙◌, subst, arith}
+use Rattle.std.proofs.Common.{◌≡◌, ⊎_elim, ℕ, ◌<◌, Bool, true, false, List, [], ◌∷◌, refl, ap, sym, ◌∙◌, subst, arith}
 use Rattle.std.specs.Prelude.{◌==◌, slice_index, if◌then◌else◌}
 use Rattle.plain_state.specs.declared.act.PlainAct.{PlainAct}
 use Rattle.plain_state.specs.declared.act.PlainAct.TheVariants as plain
@@ -18,7 +18,9 @@ use Rattle.core_events.specs.Runs.{Core}
 use Rattle.core_events.specs.Shows.{shows}
 use Rattle.core_events.specs.ShownSteps.{on_slot, shown_number}
 use Rattle.core_events.specs.Steps.{HasRoom}
-use Rattle.core_events.specs.Views.{slot_of}
+use Rattle.core_events.specs.Views.{Holds, slot_of}
+use Rattle.core_invariant.proofs.Held.{held_named}
+use Rattle.core_invariant.proofs.Steady.{named_in_range}
 use Rattle.acquire_retire.specs.Collecting.{move}
 use Rattle.acquire_retire.specs.Domains.{DomainState}
 use Rattle.acquire_retire.specs.Seats.{SeatState}
@@ -30,7 +32,7 @@ use Rattle.slot_store.specs.Calls.{SeesWord}
 use Rattle.slot_store.proofs.Objects.{known_before}
 use Rattle.lone_heap.specs.Lone.{IsReady, known_plain}
 use Rattle.lone_heap.proofs.Holding.{kept_of, knows_on, knows_ready, ready_still, walk_mine}
-use Rattle.lone_heap.proofs.Stepping.{step_does}
+use Rattle.lone_heap.proofs.Stepping.{law_before, step_does}
 
 -- an answer that asks for a second step found the word 0
 again_so : (b : Bool) (n : ℕ) → outcome.Again ≡ (if b then outcome.Again else outcome.Number n)
@@ -60,6 +62,12 @@ module _ {P V : Type 0} {fits : List ℕ → Type 0} (d : DomainState P) (s : Sl
         sym sees.word
         ∙ ap (λ (c : Core). slice_index (slot_at (shows d.shape c) s).payload i)
         (sym (known_before step.told ready.known))
+
+    pub sees_there : Holds old.view.core s → s.0 < d.shape.slots
+    sees_there holds =
+        let by = sees.becomes.walks in
+        named_in_range d.shape old.view.core.seat old.view.core s
+        (law_before d (act.See s i) old by.0 _ by.1) (held_named s old.view.core holds)
 
     pub sees_same : known_plain d new ≡ known_plain d old
     sees_same =

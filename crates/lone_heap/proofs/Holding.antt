@@ -15,7 +15,9 @@ use Rattle.core_events.specs.declared.act.Act.{Act}
 use Rattle.core_events.specs.declared.act.Act.TheVariants as act
 use Rattle.core_events.specs.declared.outcome.Outcome.{Outcome}
 use Rattle.core_events.specs.declared.outcome.Outcome.TheVariants as outcome
+use Rattle.core_events.specs.declared.shape.Shape.{Shape}
 use Rattle.core_events.specs.declared.view.CoreView.{CoreView}
+use Rattle.core_events.specs.declared.view.LeftSeat.{LeftSeat}
 use Rattle.core_events.specs.declared.view.Move.{Move}
 use Rattle.core_events.specs.declared.view.Note.{Note}
 use Rattle.core_events.specs.Runs.{Core, after, view_at}
@@ -70,6 +72,25 @@ module _ {P V : Type 0} (d : DomainState P) where
     disposals = λ x.
         ap (λ (y : ℕ × ℕ × ℕ × List Note). entry_times Disposal x (valid_of y.3)) same
         ∙ ready.disposals x;
+  }
+
+  -- the same, where its notes have changed
+  pub ready_noted : (old new : SeatState V) → IsReady d old → Knows new → IsMine d new
+      → new.view.core.left_seats ≡ old.view.core.left_seats
+      → new.view.core.shape ≡ old.view.core.shape → IsAtRest d new → HasRoom new.view.core
+      → ((x : SlotId) → entry_times Disposal x (valid_of new.view.core.notes) ≡ 0) → IsReady d new
+  ready_noted old new ready knows mine left shape rest room none = record {
+    rest = rest;
+    room = room;
+    alone = (
+      knows.root,
+      (let gone = ap (λ (xs : List LeftSeat). length xs) left in
+          let seats = ap (λ (z : Shape). z.seats) shape in
+          let was = ready.alone.1 in omega arith),
+    );
+    known = knows.known;
+    mine = mine;
+    disposals = none;
   }
 
 module _ {P V : Type 0} {fits : List ℕ → Type 0} (d : DomainState P)

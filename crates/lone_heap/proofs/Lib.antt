@@ -7,3 +7,10 @@ pub mod Makes
 pub mod Counted
 pub mod Settled
 pub mod Opened
+pub mod Writing
+pub mod Acquiring
+pub mod Referring
+pub mod Placing
+pub mod Noted
+pub mod Audited
+pub mod Snapping

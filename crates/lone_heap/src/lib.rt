@@ -13,19 +13,31 @@
 //! let two = copy(&domain, &mut seat, &one)?;        // one owned reference more
 //! counts(&domain, &mut seat, one.slot());           // (2, 1)
 //! give(&domain, &mut seat, one);                    // one fewer
+//! put(&domain, &mut seat, EventPlace::Cell(0), Some(two.slot()));
+//! let seen = snap(&domain, &mut seat, &mut words, EventPlace::Cell(0))?;   // Some of the slot, and not counted
 //! settle_all(&domain, &mut seat, &deleter);         // nothing more may go
 //! ```
 #![tactic(auto)]
 
+mod auditing;
+mod loading;
 mod making;
 mod opening;
+mod places;
 mod references;
 mod settling;
+mod snapshots;
 mod telling;
+mod words;
 
+pub use auditing::audit_lone;
+pub use loading::load;
 pub use making::make;
 pub use opening::open;
+pub use places::{put, try_put};
 pub use references::{copy, copy_weakly, give, give_weak, upgrade_lone, weaken_lone};
 pub use settling::settle_all;
 pub use slot_store::MakeError;
+pub use snapshots::{end, keep, snap};
 pub use telling::{counts, read};
+pub use words::Words;

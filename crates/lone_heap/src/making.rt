@@ -32,6 +32,7 @@ pub fn make<K: PayloadKind>(
         → known_plain domain.now seat.new ≡ known_plain domain.now seat.old }
     ensures made { IfOk result (λ strong. Makes (known_plain domain.now seat.old) strong.slot
         payload.now (known_plain domain.now seat.new)) }
+    ensures notes { seat.new.view.core.notes ≡ seat.old.view.core.notes }
     ensures ready { IsReady domain.now seat.new }
 {
     slot_store::make(domain, seat, payload, AnyStep)

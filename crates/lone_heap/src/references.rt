@@ -27,6 +27,7 @@ pub fn copy<P: Protocol>(
     ensures refused { OnErr result (seat.new ≡ seat.old) }
     ensures gains { IfOk result (λ more. Gains (known_plain domain.now seat.old)
         handle.now.slot more.slot (known_plain domain.now seat.new)) }
+    ensures notes { seat.new.view.core.notes ≡ seat.old.view.core.notes }
     ensures ready { IsReady domain.now seat.new }
 {
     copy_strong(domain, seat, handle)
@@ -45,6 +46,7 @@ pub fn weaken_lone<P: Protocol>(
     ensures refused { OnErr result (seat.new ≡ seat.old) }
     ensures gains { IfOk result (λ more. WeaklyGains (known_plain domain.now seat.old)
         handle.now.slot more.slot (known_plain domain.now seat.new)) }
+    ensures notes { seat.new.view.core.notes ≡ seat.old.view.core.notes }
     ensures ready { IsReady domain.now seat.new }
 {
     weaken(domain, seat, handle)
@@ -63,6 +65,7 @@ pub fn copy_weakly<P: Protocol>(
     ensures refused { OnErr result (seat.new ≡ seat.old) }
     ensures gains { IfOk result (λ more. WeaklyGains (known_plain domain.now seat.old)
         weak.now.slot more.slot (known_plain domain.now seat.new)) }
+    ensures notes { seat.new.view.core.notes ≡ seat.old.view.core.notes }
     ensures ready { IsReady domain.now seat.new }
 {
     copy_weak(domain, seat, weak)
@@ -83,6 +86,7 @@ pub fn upgrade_lone<K: PayloadKind>(
         weak.now.slot more.slot (known_plain domain.now seat.new)) }
     ensures ended { result ≡ Err refused.Ended → Does (known_plain domain.now seat.old) 0
         (act.Add weak.now.slot) 1 (known_plain domain.now seat.new) }
+    ensures notes { seat.new.view.core.notes ≡ seat.old.view.core.notes }
     ensures ready { IsReady domain.now seat.new }
 {
     upgrade(domain, seat, weak, AnyStep)
@@ -94,6 +98,7 @@ pub fn give<P: Protocol>(domain: &Domain<P>, seat: &mut Seat<P>, handle: Strong)
     requires owned { Owns (known_plain domain.now seat.old) handle.slot }
     ensures gives { ThenTidies (Does (known_plain domain.now seat.old) 0 (act.Drop handle.slot) 0)
         (known_plain domain.now seat.new) }
+    ensures notes { seat.new.view.core.notes ≡ seat.old.view.core.notes }
     ensures ready { IsReady domain.now seat.new }
 {
     drop_strong(domain, seat, handle);
@@ -106,6 +111,7 @@ pub fn give_weak<P: Protocol>(domain: &Domain<P>, seat: &mut Seat<P>, weak: Weak
     ensures gives { ThenTidies
         (Does (known_plain domain.now seat.old) 0 (act.WeakDrop weak.slot) 0)
         (known_plain domain.now seat.new) }
+    ensures notes { seat.new.view.core.notes ≡ seat.old.view.core.notes }
     ensures ready { IsReady domain.now seat.new }
 {
     drop_weak(domain, seat, weak);

@@ -1,4 +1,5 @@
 //! A seat that is alone settles.
+ghost use Rattle.std.specs.Prelude.{◌≡◌};
 ghost use Rattle.plain_settling.specs.Settling.{TidiesTo};
 ghost use Rattle.plain_store.specs.Settling.{IsSettled};
 ghost use Rattle.deleter.specs.Weighing.{Weighs};
@@ -20,6 +21,7 @@ pub fn settle_all<P: Protocol, F: Fn(&[u64; 16]) -> u64>(
     requires weighs { Weighs P.Kind.fits P.Kind.weight F.Fn deleter.now }
     ensures tidies { TidiesTo (known_plain domain.now seat.old) (known_plain domain.now seat.new) }
     ensures settled { IsSettled (known_plain domain.now seat.new) }
+    ensures notes { seat.new.view.core.notes ≡ seat.old.view.core.notes }
     ensures ready { IsReady domain.now seat.new }
 {
     settle(domain, seat, deleter)

@@ -11,14 +11,16 @@ use control_word::{strong_count, weak_count};
 use plain_protocol::{AnyStep, NoLaw, Protocol};
 use plain_state::PayloadKind;
 
-/// A word of the payload of a slot that the seat holds. One step, which changes nothing.
+/// A word of the payload of a slot that the seat holds, which is one of the domain's. One step, which changes nothing.
 pub fn read<P: Protocol>(domain: &Domain<P>, seat: &mut Seat<P>, slot: SlotId, word: u32) -> u64
     requires ready { IsReady domain.now seat.old }
     requires holds { Holds (seat_at (known_plain domain.now seat.old) 0) slot }
     requires within { word < 16 }
     ensures word { result
         ≡ slice_index (slot_at (known_plain domain.now seat.old) slot).payload word }
+    ensures there { slot.0 < domain.now.shape.slots }
     ensures same { known_plain domain.now seat.new ≡ known_plain domain.now seat.old }
+    ensures notes { seat.new.view.core.notes ≡ seat.old.view.core.notes }
     ensures ready { IsReady domain.now seat.new }
 {
     slot_store::read(domain, seat, slot, word)
@@ -37,6 +39,7 @@ pub fn counts<K: PayloadKind>(
     ensures strong { result.0 ≡ strong_refs (known_plain domain.now seat.old) slot }
     ensures weak { result.1 ≡ weak_refs (known_plain domain.now seat.old) slot }
     ensures same { known_plain domain.now seat.new ≡ known_plain domain.now seat.old }
+    ensures notes { seat.new.view.core.notes ≡ seat.old.view.core.notes }
     ensures ready { IsReady domain.now seat.new }
 {
     let strong = strong_count(domain, seat, slot, AnyStep);

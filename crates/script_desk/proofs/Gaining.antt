@@ -10,9 +10,10 @@ use Rattle.plain_state.specs.Places.{place_kind, content}
 use Rattle.plain_state.specs.Runs.{Runs}
 use Rattle.plain_state.specs.State.{Plain, PlainSeat, seat_at, with_seat}
 use Rattle.plain_state.specs.Steps.{Does, GivesUp, Replaces, joined}
-use Rattle.plain_state.proofs.Kit.{times_push, times_loses, entry_push, entry_loses}
+use Rattle.plain_state.proofs.Kit.{times_push, times_loses, entry_loses}
 use Rattle.plain_store.specs.Heaps.{Makes, fills}
-use Rattle.plain_store.specs.Calls.{Gains, WeaklyGains, Loads, WeaklyLoads, Snaps, strong_place}
+use Rattle.plain_store.specs.Calls.{Gains, WeaklyGains, Loads, WeaklyLoads, strong_place}
+use Rattle.plain_settling.specs.Snapshots.{IsUnderMore, Takes}
 use Rattle.plain_store.specs.declared.place.PlainPlace.{PlainPlace}
 use Rattle.plain_store.specs.declared.place.PlainPlace.TheVariants as strong
 use Rattle.script_desk.specs.declared.handle.Handle.{Handle}
@@ -118,18 +119,19 @@ loads_more p q place s (holds, e, (m, found, d, more)) = owned_more p q (with_ow
 pub weakly_loads_more : (p q : Plain) (place : EventPlace) (s : SlotId) → WeaklyLoads p place (Some s) q → HasMore p (Weak s) q
 weakly_loads_more p q place s (holds, e, (m, found, d, more)) = weaks_more p q (with_weaks p s) s (same_sizes p q (with_weaks p s) e) (written p q (with_weaks p s) d.0.0 e) refl refl refl
 
-abbrev with_snapshot : Plain → Kind → SlotId → PlainSeat
-with_snapshot p k s = record (seat_at p 0) { snapshots = (seat_at p 0).snapshots ++ (k, s) ∷ [] }
-
-pub snaps_more : (p q : Plain) (place : EventPlace) (s : SlotId) (counted : Bool) → place_kind place ≡ kind.Strong → Snaps p place (Some (s, counted)) q
-    → HasMore p (Snapshot (s, counted)) q
-snaps_more p q place s true strong (full, l) = (loads_more p q place s l).1
-snaps_more p q place s false strong (room, holds, e, d) =
-    let pushed = λ (k : Kind) (t : SlotId). entry_push k t (kind.Strong, s) (seat_at p 0).snapshots in
-    let w : PlainSeat = with_snapshot p kind.Strong s in
-    let is : q ≡ with_seat p 0 w = e ∙ ap (λ (k : Kind). with_seat p 0 (with_snapshot p k s)) strong in
-    has_more p q w (same_sizes p q w is) (written p q w d.0.0 is) (Snapshot (s, false))
-    (λ t. omega arith) (λ t. omega arith) (pushed kind.Strong) (λ t. let a = pushed kind.Weak t in let b = pushed kind.Disposal t in omega arith)
+pub takes_more : (p q : Plain) (place : EventPlace) (s : SlotId) (counted : Bool) → place_kind place ≡ kind.Strong
+    → Takes p place (Some (s, counted)) q → HasMore p (Snapshot (s, counted)) q
+takes_more p q place s true strong (full, l) = (loads_more p q place s l).1
+takes_more p q place s false strong (room, t) = of t.under
+  where
+    of : IsUnderMore p place s q → HasMore p (Snapshot (s, false)) q
+    of (es, more, is) =
+        let w : PlainSeat = record (seat_at p 0) { snapshots = es } in
+        let gained = subst (λ (k : Kind). Loses es (k, s) (seat_at p 0).snapshots) strong more in
+        let pushed = λ (k : Kind) (t : SlotId). entry_loses k t (kind.Strong, s) es (seat_at p 0).snapshots gained in
+        has_more p q w (same_sizes p q w is) (written p q w t.checks.0.0 is) (Snapshot (s, false))
+        (λ x. omega arith) (λ x. omega arith) (λ x. sym (pushed kind.Strong x))
+        (λ x. let a = pushed kind.Weak x in let b = pushed kind.Disposal x in omega arith)
 
 more_after : (p m q : Plain) (h : Handle) → HasSame p m → HasMore m h q → HasMore p h q
 more_after p m q h a b = record {

@@ -12,3 +12,4 @@ pub mod Closing
 pub mod Auditing
 pub mod Anys
 pub mod Giving
+pub mod Desking

@@ -4,6 +4,8 @@ use Rattle.std.specs.Map.{values_of}
 use Rattle.plain_state.specs.State.{Plain}
 use Rattle.plain_state.specs.Steps.{Does}
 use Rattle.script_desk.specs.declared.handle.Handle.{Handle}
+use Rattle.plain_state.specs.declared.slot.SlotId.{SlotId}
+use Rattle.script_desk.specs.Handles.{slot_of}
 use Rattle.script_desk.specs.Desks.{Desk, Names, Maker, bound}
 use Rattle.script_desk.specs.Holding.{HasHandle, HoldsFor, HasMore, CountsMore, Kept, giving}
 use Rattle.script_desk.proofs.Sums.{has_bound, kept_same, kept_more, undone}
@@ -40,3 +42,24 @@ pub has_there : (p : Plain) (names : Names) (made : List Maker) (makes strong we
     → (d : Desk) → desk_of p names made makes ≡ d → (name : List ℕ) (h : Handle) → bound d.names name ≡ Some h → HasHandle d.plain h
 has_there p names made makes strong weak k d is name h e =
     subst (λ (x : Desk). HasHandle x.plain h) is (has_known p names made makes strong weak k d is name h e)
+
+-- a handle that the name is bound to in the table of the desk
+pub has_named : (p : Plain) (names : Names) (made : List Maker) (makes strong weak : ℕ)
+    → Kept p names made strong weak → (d : Desk) → desk_of p names made makes ≡ d
+    → (name : List ℕ) (h : Handle) → bound names name ≡ Some h → HasHandle d.plain h
+has_named p names made makes strong weak k d is name h e =
+    has_there p names made makes strong weak k d is name h
+    (ap (λ (x : Desk). bound x.names name) (sym is) ∙ e)
+
+-- the slot that was found by a name of the table, in words of the desk
+pub slot_there : (p : Plain) (names : Names) (made : List Maker) (makes strong weak : ℕ)
+    → Kept p names made strong weak → (d : Desk) → desk_of p names made makes ≡ d
+    → (name : List ℕ) (s : SlotId)
+    → (h : Handle) × (bound names name ≡ Some h) × (s ≡ slot_of h)
+    → (h : Handle) × (bound d.names name ≡ Some h) × (s ≡ slot_of h) × HasHandle d.plain h
+slot_there p names made makes strong weak k d is name s (h, e, same) = (
+  h,
+  ap (λ (x : Desk). bound x.names name) (sym is) ∙ e,
+  same,
+  has_named p names made makes strong weak k d is name h e,
+)

@@ -72,7 +72,7 @@ KnownBy d name s = (h : Handle) × (bound d.names name ≡ Some h) × (s ≡ slo
 -- a desk after a replacement by what the name was bound to
 module _ (p : Plain) (names : Names) (made : List Maker) (makes strong weak : ℕ) (k : Kept p names made strong weak) (d : Desk) (is : desk_of p names made makes ≡ d) where
   pub kept_given : (at : HeapPlace) (name : List ℕ) (s : SlotId) (q : Plain) (after : Names) (found : Option Handle)
-      → IsBoundTo d name (taken at) → KnownBy d name s → 0 < length p.seats → Replaces p 0 (event_place at) (Some s) q
+      → IsBoundTo d.names name (taken at) → KnownBy d name s → 0 < length p.seats → Replaces p 0 (event_place at) (Some s) q
       → found ≡ bound names name → IfSome found (λ h. CountsMore (values_of after) h (values_of names)) → Kept q after made strong weak
   kept_given at name s q after found kind (h, e, f, has) there r was counts =
       let known : found ≡ Some h = was ∙ ap (λ (x : Desk). bound x.names name) is ∙ e in
@@ -82,7 +82,7 @@ module _ (p : Plain) (names : Names) (made : List Maker) (makes strong weak : �
       (put_fewer p q at h (kind_of (bound d.names name) (taken at) h kind e) there (subst (λ (x : SlotId). Replaces p 0 (event_place at) (Some x) q) f r)) counts'
 
   pub kept_put : (at : HeapPlace) (place : TextPlace) (name : List ℕ) (s : SlotId) (q : Plain) (after : Names) (found : Option Handle)
-      → is_weak_one at ≡ is_weak_place place → IsBoundTo d name (taken_by place) → KnownBy d name s → Puts p (event_place at) (Some s) q
+      → is_weak_one at ≡ is_weak_place place → IsBoundTo d.names name (taken_by place) → KnownBy d name s → Puts p (event_place at) (Some s) q
       → found ≡ bound names name → IfSome found (λ h. CountsMore (values_of after) h (values_of names)) → Kept q after made strong weak
   kept_put at place name s q after found same bound_to known puts was counts =
       kept_given at name s q after found
@@ -90,7 +90,7 @@ module _ (p : Plain) (names : Names) (made : List Maker) (makes strong weak : �
       known puts.0.0 puts.1.2 was counts
 
   pub kept_replaced : (at : PlainPlace) (expected slot : Option SlotId) (name : Option (List ℕ)) (q : Plain) (after : Names)
-      → AreMet d (need_of name is_strong) → IsSlotOf d name slot → Tries p (strong_place at) expected slot true q
+      → AreMet d.names (need_of name is_strong) → IsSlotOf d.names name slot → Tries p (strong_place at) expected slot true q
       → MatchOption name (after ≡ names) (λ n. Binds names n None after)
       → IfSome (option_and_then (bound names) name) (λ h. CountsMore (values_of after) h (values_of names)) → Kept q after made strong weak
   kept_replaced at expected slot None q after met none tries binds counts =
@@ -100,6 +100,6 @@ module _ (p : Plain) (names : Names) (made : List Maker) (makes strong weak : �
       (kept_same p names made strong weak k q (replaces_same p q (strong_place at) done.0 r))
   kept_replaced at expected slot (Some name) q after met (h, e, f) tries binds counts =
       let done = tries_done p q (strong_place at) expected slot tries in
-      kept_given (heap.Strong at) name (slot_of h) q after (bound names name) (first_met d name is_strong [] met)
+      kept_given (heap.Strong at) name (slot_of h) q after (bound names name) (first_met d.names name is_strong [] met)
       (h, e, refl, has_there p names made makes strong weak k d is name h e) done.0
       (subst (λ (o : Option SlotId). Replaces p 0 (strong_place at) o q) f done.1) refl counts

@@ -1,12 +1,13 @@
 -- What a script has between two commands.
-use Rattle.std.specs.Prelude.{ℕ, ◌≡◌, ◌≢◌, ◌+◌, List, [], Option, slice_index_or}
+use Rattle.std.specs.Prelude.{ℕ, ◌≡◌, ◌≢◌, ◌+◌, List, [], length, Option, slice_index_or}
 use Rattle.std.specs.Map.{lookup}
 use Rattle.std.specs.Str.{bytes_eq}
 use Rattle.plain_state.specs.declared.slot.SlotId.{SlotId}
 use Rattle.plain_state.specs.State.{Plain, seat_at, with_seat}
-use Rattle.plain_store.specs.Settling.{SettlesTo, IsSettled}
+use Rattle.plain_store.specs.Settling.{IsSettled}
+use Rattle.plain_settling.specs.Settling.{TidiesTo}
 use Rattle.script_desk.specs.declared.handle.Handle.{Handle}
-use Rattle.script_desk.specs.Kinds.{script_weight}
+use Rattle.script_desk.specs.declared.sizes.Sizes.{Sizes}
 
 -- the names that are bound, each with what it is bound to
 abbrev pub Names : Type 0
@@ -32,6 +33,18 @@ pub record Desk : Type 0 where
   pub makers : List Maker
   pub makes : ℕ
 
+-- what a command may name: the names that are bound, and how many cells there are
+pub record Scope : Type 0 where
+  pub names : Names
+  pub sizes : Sizes
+
+abbrev pub scope : Names → Sizes → Scope
+scope names sizes = record { names = names; sizes = sizes }
+
+abbrev pub scope_of : Desk → Scope
+scope_of d =
+    scope d.names (record { cells = length d.plain.cells; weak_cells = length d.plain.weak_cells })
+
 abbrev pub maker_of : Desk → SlotId → Maker
 maker_of d s = slice_index_or d.makers s.0 nobody
 
@@ -51,13 +64,15 @@ MadeBy d name s e =
     × (maker_of e s ≡ record { number = d.makes; name = name })
     × ((t : SlotId) → t ≢ s → maker_of e t ≡ maker_of d t)
 
--- the heap settles, and nothing else changes
-pub record Settles (d e : Desk) : Type 0 where
-  pub freed : ℕ
-  pub settles : SettlesTo script_weight d.plain freed e.plain
-  pub settled : IsSettled e.plain
+-- the heap is tidied, and nothing else changes
+pub record Tidied (d e : Desk) : Type 0 where
+  pub tidies : TidiesTo d.plain e.plain
   pub names : e.names ≡ d.names
   pub makers : SameMakers d e
+
+-- the same, until nothing more may go
+abbrev pub Settles : Desk → Desk → Type 0
+Settles d e = Tidied d e × IsSettled e.plain
 
 -- the same plain state, where the seat has no handle any more
 abbrev pub without_handles : Plain → Plain

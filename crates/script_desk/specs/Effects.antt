@@ -8,7 +8,8 @@ use Rattle.plain_state.specs.State.{slot_at}
 use Rattle.plain_state.specs.References.{strong_refs, weak_refs}
 use Rattle.plain_state.specs.Steps.{Does}
 use Rattle.plain_store.specs.Heaps.{NoneFree, Makes}
-use Rattle.plain_store.specs.Calls.{Gains, WeaklyGains, Puts, Tries, Loads, WeaklyLoads, Snaps, ending}
+use Rattle.plain_store.specs.Calls.{Gains, WeaklyGains, Puts, Tries, Loads, WeaklyLoads, ending}
+use Rattle.plain_settling.specs.Snapshots.{Takes}
 use Rattle.script_lines.specs.declared.command.Command.{Command}
 use Rattle.script_lines.specs.declared.command.Command.TheVariants as command
 use Rattle.script_lines.specs.declared.command.TextPlace.{TextPlace}
@@ -19,23 +20,23 @@ use Rattle.script_desk.specs.declared.said.Said.{Said}
 use Rattle.script_desk.specs.declared.said.Said.TheVariants as said
 use Rattle.script_desk.specs.Handles.{slot_of}
 use Rattle.script_desk.specs.Kinds.{script_payload}
-use Rattle.script_desk.specs.Desks.{Desk, bound, Binds, SameMakers, MadeBy, Settles}
+use Rattle.script_desk.specs.Desks.{Desk, Names, bound, Binds, SameMakers, MadeBy, Settles}
 use Rattle.script_desk.specs.Audits.{AnswersAudit}
 
 -- the place that the words of a command name
-abbrev pub IsPlace : Desk → TextPlace → EventPlace → Type 0
-IsPlace d (text.Cell i) place = place ≡ Cell i
-IsPlace d (text.WeakCell i) place = place ≡ WeakCell i
-IsPlace d (text.Field name i) place =
-    (h : Handle) × (bound d.names name ≡ Some h) × (place ≡ Field (slot_of h) i)
-IsPlace d (text.WeakField name) place =
-    (h : Handle) × (bound d.names name ≡ Some h) × (place ≡ WeakField (slot_of h))
+abbrev pub IsPlace : Names → TextPlace → EventPlace → Type 0
+IsPlace names (text.Cell i) place = place ≡ Cell i
+IsPlace names (text.WeakCell i) place = place ≡ WeakCell i
+IsPlace names (text.Field name i) place =
+    (h : Handle) × (bound names name ≡ Some h) × (place ≡ Field (slot_of h) i)
+IsPlace names (text.WeakField name) place =
+    (h : Handle) × (bound names name ≡ Some h) × (place ≡ WeakField (slot_of h))
 
 -- the slot that a name or `null` stands for
-abbrev pub IsSlotOf : Desk → Option (List ℕ) → Option SlotId → Type 0
-IsSlotOf d None slot = slot ≡ None
-IsSlotOf d (Some name) slot =
-    (h : Handle) × (bound d.names name ≡ Some h) × (slot ≡ Some (slot_of h))
+abbrev pub IsSlotOf : Names → Option (List ℕ) → Option SlotId → Type 0
+IsSlotOf names None slot = slot ≡ None
+IsSlotOf names (Some name) slot =
+    (h : Handle) × (bound names name ≡ Some h) × (slot ≡ Some (slot_of h))
 
 -- the name is bound to h now; no slot was made
 abbrev pub Gets : Desk → List ℕ → Handle → Desk → Type 0
@@ -101,8 +102,8 @@ snapped false = said.Snapped
 abbrev pub SnapsOne : Desk → EventPlace → List ℕ → Said → Desk → Type 0
 SnapsOne d place new answer e =
     ((s : SlotId) × (counted : Bool) × (answer ≡ snapped counted)
-    × Snaps d.plain place (Some (s, counted)) e.plain × Gets d new (Snapshot (s, counted)) e)
-    ⊎ ((answer ≡ said.Null) × Snaps d.plain place None e.plain × Keeps d e)
+    × Takes d.plain place (Some (s, counted)) e.plain × Gets d new (Snapshot (s, counted)) e)
+    ⊎ ((answer ≡ said.Null) × Takes d.plain place None e.plain × Keeps d e)
 
 -- command c, at the desk d, answers so and leaves e, before the heap settles
 abbrev pub Acts : Desk → Command → Said → Desk → Type 0
@@ -131,18 +132,18 @@ Acts d (command.Upgrade name new) answer e =
     (s : SlotId) × (bound d.names name ≡ Some (Weak s)) × UpgradesOne d s new answer e
 Acts d (command.Put place name) answer e =
     (answer ≡ said.Nothing)
-    × ((at : EventPlace) × (h : Handle) × IsPlace d place at × (bound d.names name ≡ Some h)
+    × ((at : EventPlace) × (h : Handle) × IsPlace d.names place at × (bound d.names name ≡ Some h)
     × Puts d.plain at (Some (slot_of h)) e.plain × Gives d name e)
 Acts d (command.Clear place) answer e =
     (answer ≡ said.Nothing)
-    × ((at : EventPlace) × IsPlace d place at × Puts d.plain at None e.plain × Keeps d e)
+    × ((at : EventPlace) × IsPlace d.names place at × Puts d.plain at None e.plain × Keeps d e)
 Acts d (command.Load place new) answer e =
-    (at : EventPlace) × IsPlace d place at × LoadsOne d place at new answer e
+    (at : EventPlace) × IsPlace d.names place at × LoadsOne d place at new answer e
 Acts d (command.Replace place old new) answer e =
-    (at : EventPlace) × (expected : Option SlotId) × (slot : Option SlotId) × IsPlace d place at
-    × IsSlotOf d old expected × IsSlotOf d new slot × ReplacesOne d at expected slot new answer e
+    (at : EventPlace) × (expected : Option SlotId) × (slot : Option SlotId) × IsPlace d.names place at
+    × IsSlotOf d.names old expected × IsSlotOf d.names new slot × ReplacesOne d at expected slot new answer e
 Acts d (command.Snap place new) answer e =
-    (at : EventPlace) × IsPlace d place at × SnapsOne d at new answer e
+    (at : EventPlace) × IsPlace d.names place at × SnapsOne d at new answer e
 Acts d (command.EndSnapshot name) answer e =
     (answer ≡ said.Nothing)
     × ((s : SlotId) × (counted : Bool) × (bound d.names name ≡ Some (Snapshot (s, counted)))

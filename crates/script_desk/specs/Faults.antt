@@ -1,5 +1,5 @@
 -- Why a command is refused: what is out of range, which names it needs and binds, and of which kind they must be.
-use Rattle.std.specs.Prelude.{ℕ, ◌≡◌, ◌<◌, ◌≤◌, ◌^◌, ◌⊎◌, Bool, true, false, List, [], ◌∷◌, ◌++◌, length, Option, Some, None, IsSome, IsSomeAnd}
+use Rattle.std.specs.Prelude.{ℕ, ◌≡◌, ◌<◌, ◌≤◌, ◌^◌, ◌⊎◌, Bool, true, false, List, [], ◌∷◌, ◌++◌, Option, Some, None, IsSome, IsSomeAnd}
 use Rattle.std.specs.List.{Any}
 use Rattle.line_words.specs.declared.reason.Reason.{Reason}
 use Rattle.line_words.specs.declared.reason.Reason.TheVariants.{Syntax, Range, Name, Kind, NotEnabled}
@@ -8,26 +8,27 @@ use Rattle.script_lines.specs.declared.command.Command.TheVariants as command
 use Rattle.script_lines.specs.declared.command.TextPlace.{TextPlace}
 use Rattle.script_lines.specs.declared.command.TextPlace.TheVariants as text
 use Rattle.script_desk.specs.declared.handle.Handle.{Handle}
+use Rattle.script_desk.specs.declared.sizes.Sizes.{Sizes}
 use Rattle.script_desk.specs.Handles.{is_strong, is_weak, is_snapshot, is_firm, is_any}
-use Rattle.script_desk.specs.Desks.{Desk, bound}
+use Rattle.script_desk.specs.Desks.{Names, Scope, bound}
 
 -- the cell is there, and the field is one of two
-abbrev pub IsPlaceInRange : Desk → TextPlace → Type 0
-IsPlaceInRange d (text.Cell i) = i < length d.plain.cells
-IsPlaceInRange d (text.WeakCell i) = i < length d.plain.weak_cells
-IsPlaceInRange d (text.Field name i) = i < 2
-IsPlaceInRange d (text.WeakField name) = Unit {0}
+abbrev pub IsPlaceInRange : Sizes → TextPlace → Type 0
+IsPlaceInRange x (text.Cell i) = i < x.cells
+IsPlaceInRange x (text.WeakCell i) = i < x.weak_cells
+IsPlaceInRange x (text.Field name i) = i < 2
+IsPlaceInRange x (text.WeakField name) = Unit {0}
 
 -- every number of the command is in its range
-abbrev pub IsInRange : Desk → Command → Type 0
-IsInRange d (command.Make name weight) = weight ≤ 2 ^ 32
-IsInRange d (command.Put place name) = IsPlaceInRange d place
-IsInRange d (command.Clear place) = IsPlaceInRange d place
-IsInRange d (command.Load place name) = IsPlaceInRange d place
-IsInRange d (command.Replace place old new) = IsPlaceInRange d place
-IsInRange d (command.Snap place name) = IsPlaceInRange d place
-IsInRange d (command.Read name word) = word < 16
-IsInRange d _ = Unit {0}
+abbrev pub IsInRange : Sizes → Command → Type 0
+IsInRange x (command.Make name weight) = weight ≤ 2 ^ 32
+IsInRange x (command.Put place name) = IsPlaceInRange x place
+IsInRange x (command.Clear place) = IsPlaceInRange x place
+IsInRange x (command.Load place name) = IsPlaceInRange x place
+IsInRange x (command.Replace place old new) = IsPlaceInRange x place
+IsInRange x (command.Snap place name) = IsPlaceInRange x place
+IsInRange x (command.Read name word) = word < 16
+IsInRange x _ = Unit {0}
 
 -- a name that must be bound, and to what
 abbrev pub Need : Type 0
@@ -92,13 +93,13 @@ binds (command.Keep name new) = Some new
 binds _ = None
 
 -- the name isn't bound
-abbrev pub IsMissing : Desk → Need → Type 0
-IsMissing d need = bound d.names need.0 ≡ None
+abbrev pub IsMissing : Names → Need → Type 0
+IsMissing names need = bound names need.0 ≡ None
 
 -- a name that must be bound isn't, or the name to be bound is bound already
-abbrev pub HasNameFault : Desk → Command → Type 0
-HasNameFault d c =
-    Any (IsMissing d) (needs c) ⊎ IsSomeAnd (binds c) (λ new. IsSome (bound d.names new))
+abbrev pub HasNameFault : Names → Command → Type 0
+HasNameFault names c =
+    Any (IsMissing names) (needs c) ⊎ IsSomeAnd (binds c) (λ new. IsSome (bound names new))
 
 -- a command on strong places is given a weak one
 abbrev pub IsWrongPlace : Command → Type 0
@@ -107,24 +108,24 @@ IsWrongPlace (command.Snap place new) = is_weak_place place ≡ true
 IsWrongPlace _ = ⊥
 
 -- the name is bound to another kind of handle
-abbrev pub IsOther : Desk → Need → Type 0
-IsOther d need = IsSomeAnd (bound d.names need.0) (λ h. need.1 h ≡ false)
+abbrev pub IsOther : Names → Need → Type 0
+IsOther names need = IsSomeAnd (bound names need.0) (λ h. need.1 h ≡ false)
 
 -- a name is bound to another kind of handle than the command needs, or the place is of the other kind
-abbrev pub HasKindFault : Desk → Command → Type 0
-HasKindFault d c = Any (IsOther d) (needs c) ⊎ IsWrongPlace c
+abbrev pub HasKindFault : Names → Command → Type 0
+HasKindFault names c = Any (IsOther names) (needs c) ⊎ IsWrongPlace c
 
 -- nothing is wrong with the command
-pub record IsFaultless (d : Desk) (c : Command) : Type 0 where
-  pub range : IsInRange d c
-  pub names : ¬ HasNameFault d c
-  pub kinds : ¬ HasKindFault d c
+pub record IsFaultless (x : Scope) (c : Command) : Type 0 where
+  pub range : IsInRange x.sizes c
+  pub names : ¬ HasNameFault x.names c
+  pub kinds : ¬ HasKindFault x.names c
 
 -- the reason for which it is refused, which is the first of range, name and kind that holds; or none
-abbrev pub IsFault : Desk → Command → Option Reason → Type 0
-IsFault d c None = IsFaultless d c
-IsFault d c (Some Syntax) = ⊥
-IsFault d c (Some Range) = ¬ IsInRange d c
-IsFault d c (Some Name) = IsInRange d c × HasNameFault d c
-IsFault d c (Some Kind) = IsInRange d c × (¬ HasNameFault d c) × HasKindFault d c
-IsFault d c (Some NotEnabled) = ⊥
+abbrev pub IsFault : Scope → Command → Option Reason → Type 0
+IsFault x c None = IsFaultless x c
+IsFault x c (Some Syntax) = ⊥
+IsFault x c (Some Range) = ¬ IsInRange x.sizes c
+IsFault x c (Some Name) = IsInRange x.sizes c × HasNameFault x.names c
+IsFault x c (Some Kind) = IsInRange x.sizes c × (¬ HasNameFault x.names c) × HasKindFault x.names c
+IsFault x c (Some NotEnabled) = ⊥

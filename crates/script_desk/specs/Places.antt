@@ -7,7 +7,7 @@ use Rattle.script_desk.specs.declared.place.HeapPlace.{HeapPlace}
 use Rattle.script_desk.specs.declared.place.HeapPlace.TheVariants.{Strong, Weak}
 use Rattle.script_desk.specs.declared.wanted.Wanted.{Wanted}
 use Rattle.script_desk.specs.declared.wanted.Wanted.TheVariants as wanted
-use Rattle.script_desk.specs.Desks.{Desk, bound}
+use Rattle.script_desk.specs.Desks.{Names, bound}
 use Rattle.script_desk.specs.Faults.{Need}
 use Rattle.script_desk.specs.Handles.{is_strong, is_weak, is_snapshot, is_firm}
 
@@ -28,9 +28,9 @@ admitted wanted.Snapshot = is_snapshot
 admitted wanted.Firm = is_firm
 
 -- the name is bound to such a handle
-abbrev pub IsBoundTo : Desk → List ℕ → (Handle → Bool) → Type 0
-IsBoundTo d name kind = IsSomeAnd (bound d.names name) (λ h. kind h ≡ true)
+abbrev pub IsBoundTo : Names → List ℕ → (Handle → Bool) → Type 0
+IsBoundTo names name kind = IsSomeAnd (bound names name) (λ h. kind h ≡ true)
 
 -- all these names are bound to what they must be
-abbrev pub AreMet : Desk → List Need → Type 0
-AreMet d list = All (λ need. IsBoundTo d need.0 need.1) list
+abbrev pub AreMet : Names → List Need → Type 0
+AreMet names list = All (λ need. IsBoundTo names need.0 need.1) list

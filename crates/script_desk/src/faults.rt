@@ -1,13 +1,14 @@
 //! Why a command is refused.
 ghost use Rattle.std.specs.Prelude.{◌≡◌, ◌↔◌, ◌++◌, Bool, IsTrue, IsSome, IsSomeAnd, None, option_copied};
 ghost use Rattle.std.specs.List.{Any};
-ghost use Rattle.script_desk.specs.Desks.{bound};
+ghost use Rattle.script_desk.specs.Desks.{bound, scope};
 ghost use Rattle.script_desk.specs.Faults.{IsPlaceInRange, IsInRange, is_weak_place, taken_by, place_needs, need_of, needs, binds, IsMissing, IsOther, IsWrongPlace, HasNameFault, HasKindFault, IsFault};
 ghost use Rattle.script_desk.specs.declared.handle.Handle.{Handle};
 ghost use Rattle.script_desk.specs.Handles.{is_firm, is_strong};
 ghost use Rattle.script_desk.specs.Places.{admitted};
 
-use crate::desk::Desk;
+use crate::names::NameTable;
+use crate::sizes::Sizes;
 use crate::wanted::Wanted;
 use line_words::Reason;
 use script_lines::{Command, Name, TextPlace};
@@ -47,59 +48,59 @@ fn bound_by(command: &Command) -> Option<&Name>
     }
 }
 
-impl Desk {
-    /// Why the command is refused: the first of range, name and kind that is wrong with it, or None where nothing is. A
-    /// constant number of look-ups of names.
-    pub fn fault(&self, command: &Command) -> Option<Reason>
-        ensures { IsFault self.now command.now result }
-    {
-        if !self.is_in_range(command) {
-            Some(Reason::Range)
-        } else if self.has_name_fault(command) {
-            Some(Reason::Name)
-        } else if self.has_kind_fault(command) {
-            Some(Reason::Kind)
-        } else {
-            None
-        }
+/// Why the command is refused: the first of range, name and kind that is wrong with it, or None where nothing is. A
+/// constant number of look-ups of names.
+pub fn fault(names: &NameTable, sizes: Sizes, command: &Command) -> Option<Reason>
+    ensures { IsFault (scope names.now sizes) command.now result }
+{
+    if !is_in_range(sizes, command) {
+        Some(Reason::Range)
+    } else if names.has_name_fault(command) {
+        Some(Reason::Name)
+    } else if names.has_kind_fault(command) {
+        Some(Reason::Kind)
+    } else {
+        None
     }
+}
 
-    fn is_place_in_range(&self, place: &TextPlace) -> bool
-        ensures { IsTrue result ↔ IsPlaceInRange self.now place.now }
-    {
-        match place {
-            TextPlace::Cell(cell) => *cell < u128::from(self.cells),
-            TextPlace::WeakCell(cell) => *cell < u128::from(self.weak_cells),
-            TextPlace::Field(_, field) => *field < 2,
-            TextPlace::WeakField(_) => true,
-        }
+fn is_place_in_range(sizes: Sizes, place: &TextPlace) -> bool
+    ensures { IsTrue result ↔ IsPlaceInRange sizes place.now }
+{
+    match place {
+        TextPlace::Cell(cell) => *cell < u128::from(sizes.cells),
+        TextPlace::WeakCell(cell) => *cell < u128::from(sizes.weak_cells),
+        TextPlace::Field(_, field) => *field < 2,
+        TextPlace::WeakField(_) => true,
     }
+}
 
-    fn is_in_range(&self, command: &Command) -> bool
-        ensures { IsTrue result ↔ IsInRange self.now command.now }
-    {
-        match command {
-            Command::Make(_, weight) => *weight <= 1 << 32,
-            Command::Put(place, _)
-            | Command::Clear(place)
-            | Command::Load(place, _)
-            | Command::Replace(place, _, _)
-            | Command::Snap(place, _) => self.is_place_in_range(place),
-            Command::Read(_, word) => *word < 16,
-            _ => true,
-        }
+fn is_in_range(sizes: Sizes, command: &Command) -> bool
+    ensures { IsTrue result ↔ IsInRange sizes command.now }
+{
+    match command {
+        Command::Make(_, weight) => *weight <= 1 << 32,
+        Command::Put(place, _)
+        | Command::Clear(place)
+        | Command::Load(place, _)
+        | Command::Replace(place, _, _)
+        | Command::Snap(place, _) => is_place_in_range(sizes, place),
+        Command::Read(_, word) => *word < 16,
+        _ => true,
     }
+}
 
+impl NameTable {
     fn is_bound(&self, name: &Name) -> bool
-        ensures { IsTrue result ↔ IsSome (bound self.now.names name.now) }
+        ensures { IsTrue result ↔ IsSome (bound self.now name.now) }
     {
-        self.names.get(name).is_some()
+        self.get(name).is_some()
     }
 
     fn is_missing(&self, name: &Name) -> bool
-        ensures { IsTrue result ↔ (bound self.now.names name.now ≡ None) }
+        ensures { IsTrue result ↔ (bound self.now name.now ≡ None) }
     {
-        self.names.get(name).is_none()
+        self.get(name).is_none()
     }
 
     /// Whether the object of a field has no name that is bound.
@@ -171,7 +172,7 @@ impl Desk {
     fn is_other(&self, name: &Name, wanted: Wanted) -> bool
         ensures { IsTrue result ↔ IsOther self.now (name.now, admitted wanted) }
     {
-        match self.names.get(name) {
+        match self.get(name) {
             Some(handle) => !wanted.admits(handle),
             None => false,
         }

@@ -34,8 +34,10 @@ mod opening;
 mod place;
 mod places;
 mod references;
+mod resolving;
 mod running;
 mod said;
+mod sizes;
 mod snapshots;
 mod telling;
 #[cfg(test)]
@@ -43,9 +45,12 @@ mod tests;
 mod wanted;
 
 pub use desk::Desk;
+pub use faults::fault;
 pub use handle::Handle;
 pub use kind::{ScriptKind, payload_of};
 pub use maker::Make;
 pub use names::NameTable;
 pub use opening::no_makers;
+pub use resolving::place_of;
 pub use said::{Said, Shown};
+pub use sizes::Sizes;

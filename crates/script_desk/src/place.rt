@@ -2,7 +2,7 @@
 use crate::kind::ScriptKind;
 use cdrc_plain::PlainHeap;
 use out_of_memory::OutOfMemory;
-use plain_state::SlotId;
+use plain_state::{EventPlace, SlotId};
 use plain_store::{Hand, PlainPlace, PlainWeakPlace, WeakHand};
 
 /// A place for strong references, or one for weak ones.
@@ -18,6 +18,18 @@ impl HeapPlace {
     ghost use Rattle.plain_state.specs.State.{seat_at};
     ghost use Rattle.plain_store.specs.Calls.{MayGive, Puts};
     ghost use Rattle.script_desk.specs.Places.{event_place};
+
+    /// The same place, as the calls of the heap take it.
+    pub fn of(place: EventPlace) -> HeapPlace
+        ensures { event_place result ≡ place }
+    {
+        match place {
+            EventPlace::Cell(cell) => HeapPlace::Strong(PlainPlace::Cell(cell)),
+            EventPlace::Field(slot, field) => HeapPlace::Strong(PlainPlace::Field(slot, field)),
+            EventPlace::WeakCell(cell) => HeapPlace::Weak(PlainWeakPlace::Cell(cell)),
+            EventPlace::WeakField(slot) => HeapPlace::Weak(PlainWeakPlace::Field(slot)),
+        }
+    }
 
     /// The place holds what the slot's handle refers to, or null.
     pub fn put(

@@ -3,7 +3,7 @@ ghost use Rattle.std.specs.Prelude.{◌≡◌, true, false, ◌∷◌, [], IfOk,
 ghost use Rattle.plain_state.specs.Places.{IsOpen};
 ghost use Rattle.plain_store.specs.Calls.{strong_place, weak_place};
 ghost use Rattle.script_lines.specs.declared.command.Command.TheVariants as command;
-ghost use Rattle.script_desk.specs.Desks.{bound};
+ghost use Rattle.script_desk.specs.Desks.{bound, scope_of};
 ghost use Rattle.script_desk.specs.Effects.{Acts, LoadsStrong, LoadsWeak};
 ghost use Rattle.script_desk.specs.Faults.{IsPlaceInRange, is_weak_place, place_needs, need_of, taken_by};
 ghost use Rattle.script_desk.specs.Handles.{is_firm, is_strong};
@@ -21,9 +21,9 @@ use script_lines::{Name, TextPlace};
 impl Desk {
     /// The place holds what the name was bound to.
     pub(crate) fn put(&mut self, place: &TextPlace, name: &Name) -> Result<Said, OutOfMemory>
-        requires range { IsPlaceInRange self.old place.now }
-        requires needs { AreMet self.old (place_needs place.now) }
-        requires bound { IsBoundTo self.old name.now (taken_by place.now) }
+        requires range { IsPlaceInRange (scope_of self.old).sizes place.now }
+        requires needs { AreMet self.old.names (place_needs place.now) }
+        requires bound { IsBoundTo self.old.names name.now (taken_by place.now) }
         ensures { IfOk result (λ answer.
             Acts self.old (command.Put place.now name.now) answer self.new) }
     {
@@ -36,8 +36,8 @@ impl Desk {
 
     /// The place holds null.
     pub(crate) fn clear(&mut self, place: &TextPlace) -> Result<Said, OutOfMemory>
-        requires range { IsPlaceInRange self.old place.now }
-        requires needs { AreMet self.old (place_needs place.now) }
+        requires range { IsPlaceInRange (scope_of self.old).sizes place.now }
+        requires needs { AreMet self.old.names (place_needs place.now) }
         ensures { IfOk result (λ answer. Acts self.old (command.Clear place.now) answer self.new) }
     {
         let at = self.place(place);
@@ -47,8 +47,8 @@ impl Desk {
 
     /// A reference to what the place holds.
     pub(crate) fn load(&mut self, place: &TextPlace, new: &Name) -> Result<Said, OutOfMemory>
-        requires range { IsPlaceInRange self.old place.now }
-        requires needs { AreMet self.old (place_needs place.now) }
+        requires range { IsPlaceInRange (scope_of self.old).sizes place.now }
+        requires needs { AreMet self.old.names (place_needs place.now) }
         requires unbound { bound self.old.names new.now ≡ None }
         ensures { IfOk result (λ answer.
             Acts self.old (command.Load place.now new.now) answer self.new) }
@@ -104,18 +104,18 @@ impl Desk {
         old: &Option<Name>,
         new: &Option<Name>,
     ) -> Result<Said, OutOfMemory>
-        requires range { IsPlaceInRange self.old place.now }
+        requires range { IsPlaceInRange (scope_of self.old).sizes place.now }
         requires strong { is_weak_place place.now ≡ false }
-        requires needs { AreMet self.old (place_needs place.now) }
-        requires expected { AreMet self.old (need_of old.now is_firm) }
-        requires given { AreMet self.old (need_of new.now is_strong) }
+        requires needs { AreMet self.old.names (place_needs place.now) }
+        requires expected { AreMet self.old.names (need_of old.now is_firm) }
+        requires given { AreMet self.old.names (need_of new.now is_strong) }
         ensures { IfOk result (λ answer.
             Acts self.old (command.Replace place.now old.now new.now) answer self.new) }
     {
         let HeapPlace::Strong(at) = self.place(place) else {
             unreachable!()
         };
-        let expected = self.slot_if_some(old);
+        let expected = self.names.slot_if_some(old);
         let hand = self.hand_if_some(new);
         match self.heap.replace(at, expected, hand) {
             Ok(true) => {

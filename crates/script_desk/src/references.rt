@@ -20,7 +20,7 @@ use script_lines::Name;
 impl Desk {
     /// One more strong reference, by another name.
     pub(crate) fn copy(&mut self, name: &Name, new: &Name) -> Result<Said, OutOfMemory>
-        requires bound { IsBoundTo self.old name.now is_strong }
+        requires bound { IsBoundTo self.old.names name.now is_strong }
         requires unbound { bound self.old.names new.now ≡ None }
         ensures { IfOk result (λ answer.
             Acts self.old (command.Copy name.now new.now) answer self.new) }
@@ -39,7 +39,7 @@ impl Desk {
 
     /// A weak reference to the object of a strong one.
     pub(crate) fn weaken(&mut self, name: &Name, new: &Name) -> Result<Said, OutOfMemory>
-        requires bound { IsBoundTo self.old name.now is_strong }
+        requires bound { IsBoundTo self.old.names name.now is_strong }
         requires unbound { bound self.old.names new.now ≡ None }
         ensures { IfOk result (λ answer.
             Acts self.old (command.Weaken name.now new.now) answer self.new) }
@@ -58,7 +58,7 @@ impl Desk {
 
     /// One more weak reference, by another name.
     pub(crate) fn copy_weak(&mut self, name: &Name, new: &Name) -> Result<Said, OutOfMemory>
-        requires bound { IsBoundTo self.old name.now is_weak }
+        requires bound { IsBoundTo self.old.names name.now is_weak }
         requires unbound { bound self.old.names new.now ≡ None }
         ensures { IfOk result (λ answer.
             Acts self.old (command.CopyWeak name.now new.now) answer self.new) }
@@ -77,7 +77,7 @@ impl Desk {
 
     /// A strong reference to the object of a weak one, if it hasn't ended.
     pub(crate) fn upgrade(&mut self, name: &Name, new: &Name) -> Result<Said, OutOfMemory>
-        requires bound { IsBoundTo self.old name.now is_weak }
+        requires bound { IsBoundTo self.old.names name.now is_weak }
         requires unbound { bound self.old.names new.now ≡ None }
         ensures { IfOk result (λ answer.
             Acts self.old (command.Upgrade name.now new.now) answer self.new) }
@@ -98,7 +98,7 @@ impl Desk {
 
     /// What the name is bound to is given up, and the name isn't bound any more.
     pub(crate) fn give(&mut self, name: &Name)
-        requires { IsBoundTo self.old name.now is_any }
+        requires { IsBoundTo self.old.names name.now is_any }
         ensures { (h : Bound) × (bound self.old.names name.now ≡ Some h)
             × Does self.old.plain 0 (giving h) 0 self.new.plain × Gives self.old name.now self.new }
     {

@@ -1,20 +1,29 @@
 //! A command is run.
 ghost use Rattle.std.specs.Prelude.{IfOk, OnOk};
 ghost use Rattle.plain_store.specs.Settling.{IsSettled};
-ghost use Rattle.script_desk.specs.Desks.{Settles};
+ghost use Rattle.script_desk.specs.Desks.{Settles, scope_of};
 ghost use Rattle.script_desk.specs.Effects.{Acts, Runs};
-ghost use Rattle.script_desk.specs.Faults.{IsFaultless};
+ghost use Rattle.script_desk.specs.Faults.{IsFault, IsFaultless};
 
 use crate::desk::Desk;
+use crate::faults::fault;
 use crate::said::Said;
+use line_words::Reason;
 use out_of_memory::OutOfMemory;
 use script_lines::Command;
 
 impl Desk {
+    /// Why the command is refused: the first of range, name and kind that is wrong with it, or None where nothing is.
+    pub fn fault(&self, command: &Command) -> Option<Reason>
+        ensures { IsFault (scope_of self.now) command.now result }
+    {
+        fault(&self.names, self.sizes(), command)
+    }
+
     /// Does what the command says, lets the heap settle, and answers what the command answers. After an allocation
     /// failure the command may have been done in part, and the heap may not have settled.
     pub fn run(&mut self, command: &Command) -> Result<Said, OutOfMemory>
-        requires faultless { IsFaultless self.old command.now }
+        requires faultless { IsFaultless (scope_of self.old) command.now }
         requires settled { IsSettled self.old.plain }
         ensures { IfOk result (λ answer. Runs self.old command.now answer self.new) }
     {
@@ -24,7 +33,7 @@ impl Desk {
     }
 
     fn act(&mut self, command: &Command) -> Result<Said, OutOfMemory>
-        requires faultless { IsFaultless self.old command.now }
+        requires faultless { IsFaultless (scope_of self.old) command.now }
         requires settled { IsSettled self.old.plain }
         ensures { IfOk result (λ answer. Acts self.old command.now answer self.new) }
     {

@@ -1,7 +1,7 @@
 //! Snapshots: taken, and kept by a reference.
 ghost use Rattle.std.specs.Prelude.{◌≡◌, false, IfOk, None};
 ghost use Rattle.script_lines.specs.declared.command.Command.TheVariants as command;
-ghost use Rattle.script_desk.specs.Desks.{bound};
+ghost use Rattle.script_desk.specs.Desks.{bound, scope_of};
 ghost use Rattle.script_desk.specs.Effects.{Acts};
 ghost use Rattle.script_desk.specs.Faults.{IsPlaceInRange, is_weak_place, place_needs};
 ghost use Rattle.script_desk.specs.Handles.{is_snapshot};
@@ -19,9 +19,9 @@ use script_lines::{Name, TextPlace};
 impl Desk {
     /// A snapshot of what the strong place holds.
     pub(crate) fn snap(&mut self, place: &TextPlace, new: &Name) -> Result<Said, OutOfMemory>
-        requires range { IsPlaceInRange self.old place.now }
+        requires range { IsPlaceInRange (scope_of self.old).sizes place.now }
         requires strong { is_weak_place place.now ≡ false }
-        requires needs { AreMet self.old (place_needs place.now) }
+        requires needs { AreMet self.old.names (place_needs place.now) }
         requires unbound { bound self.old.names new.now ≡ None }
         ensures { IfOk result (λ answer.
             Acts self.old (command.Snap place.now new.now) answer self.new) }
@@ -49,7 +49,7 @@ impl Desk {
 
     /// A strong reference to the object of a snapshot.
     pub(crate) fn keep(&mut self, name: &Name, new: &Name) -> Result<Said, OutOfMemory>
-        requires bound { IsBoundTo self.old name.now is_snapshot }
+        requires bound { IsBoundTo self.old.names name.now is_snapshot }
         requires unbound { bound self.old.names new.now ≡ None }
         ensures { IfOk result (λ answer.
             Acts self.old (command.Keep name.now new.now) answer self.new) }

@@ -22,7 +22,7 @@ use script_lines::Name;
 impl Desk {
     /// A word of the payload.
     pub(crate) fn read(&self, name: &Name, word: u32) -> Said
-        requires bound { IsBoundTo self.now name.now is_any }
+        requires bound { IsBoundTo self.now.names name.now is_any }
         requires word { word < 16 }
         ensures { Acts self.now (command.Read name.now word) result self.now }
     {
@@ -31,7 +31,7 @@ impl Desk {
 
     /// The references to the object.
     pub(crate) fn counts(&self, name: &Name) -> Said
-        requires { IsBoundTo self.now name.now is_any }
+        requires { IsBoundTo self.now.names name.now is_any }
         ensures { Acts self.now (command.Counts name.now) result self.now }
     {
         let (strong, weak) = self.heap.counts(self.slot(name));

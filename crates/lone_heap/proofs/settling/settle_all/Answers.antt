@@ -1,3 +1,5 @@
+use Rattle.std.proofs.Common.{ap}
+use Rattle.core_events.specs.declared.view.CoreView.{CoreView}
 use Rattle.lone_heap.proofs.Settled.{settle_ready, settle_settled, settle_tidies}
 use Rattle.lone_heap.proofs.settling.settle_all.Goals as goal
 
@@ -15,3 +17,6 @@ pub returns-clause-ready : goal.returns-clause-ready
 returns-clause-ready g c =
     settle_ready c.args.domain.now g.P.Kind.PayloadKind.weight c.settle.result c.args.seat.now
     c.settle.new.seat c.requires.ready c.settle.ensures.settles c.settle.ensures.rest c.settle.ensures.same c.settle.ensures.room
+
+pub returns-clause-notes : goal.returns-clause-notes
+returns-clause-notes g c = ap (λ (v : CoreView). v.notes) c.settle.ensures.same

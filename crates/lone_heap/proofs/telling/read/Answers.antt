@@ -1,4 +1,7 @@
-use Rattle.lone_heap.proofs.Counted.{sees_ready, sees_same, sees_word}
+use Rattle.std.proofs.Common.{subst}
+use Rattle.plain_state.specs.Places.{Holds}
+use Rattle.plain_state.specs.State.{PlainSeat}
+use Rattle.lone_heap.proofs.Counted.{sees_ready, sees_same, sees_there, sees_word}
 use Rattle.lone_heap.proofs.telling.read.Goals as goal
 
 pub returns-clause-word : goal.returns-clause-word
@@ -15,3 +18,9 @@ pub returns-clause-ready : goal.returns-clause-ready
 returns-clause-ready g c =
     sees_ready c.args.domain.now c.args.slot c.args.seat.now c.read.new.seat c.requires.ready
     c.args.word c.read.result c.read.ensures.seen c.read.ensures.rest c.read.ensures.room
+
+pub returns-clause-there : goal.returns-clause-there
+returns-clause-there g c =
+    sees_there c.args.domain.now c.args.slot c.args.seat.now c.read.new.seat c.requires.ready
+    c.args.word c.read.result c.read.ensures.seen
+    (subst (λ (v : PlainSeat). Holds v c.args.slot) c.requires.ready.mine c.requires.holds)

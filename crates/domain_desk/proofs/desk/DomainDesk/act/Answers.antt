@@ -1,48 +1,50 @@
-use Rattle.std.proofs.Common.{[], sym, subst}
+use Rattle.std.proofs.Common.{[], ◌∷◌, ◌++◌, sym, subst}
 use Rattle.acquire_retire.proofs.Wholes.{then_ok}
 use Rattle.script_lines.specs.declared.command.Command.{Command}
 use Rattle.script_lines.specs.declared.command.Command.TheVariants as command
 use Rattle.script_desk.specs.declared.said.Said.{Said}
+use Rattle.script_desk.specs.Desks.{scope_of}
 use Rattle.script_desk.specs.Effects.{Acts}
-use Rattle.script_desk.specs.Handles.{is_strong, is_weak}
-use Rattle.script_desk.proofs.Needs.{faultless_met, first_met}
+use Rattle.script_desk.specs.Faults.{need_of, place_needs, taken_by}
+use Rattle.script_desk.specs.Handles.{is_any, is_firm, is_strong, is_weak}
+use Rattle.script_desk.proofs.Needs.{faultless_met, first_met, met_left, met_right}
 use Rattle.domain_desk.specs.Desks.{desk_of}
 use Rattle.domain_desk.specs.Runs.{Begins}
 use Rattle.domain_desk.proofs.Keeping.{acts_begin}
 use Rattle.domain_desk.proofs.desk.DomainDesk.act.Goals as goal
 
 pub copy-requires-clause-bound : goal.copy-requires-clause-bound
-copy-requires-clause-bound c =
-    first_met (desk_of c.args.self.now) c.in-Copy.name is_strong []
+copy-requires-clause-bound g c =
+    first_met c.args.self.now.names c.in-Copy.name is_strong []
     (rw c.in-Copy.is at
-    (faultless_met (desk_of c.args.self.now) c.args.command.now c.requires.faultless))
+    (faultless_met (scope_of (desk_of c.args.self.now)) c.args.command.now c.requires.faultless))
 
 pub weaken-requires-clause-bound : goal.weaken-requires-clause-bound
-weaken-requires-clause-bound c =
-    first_met (desk_of c.args.self.now) c.in-Weaken.name is_strong []
+weaken-requires-clause-bound g c =
+    first_met c.args.self.now.names c.in-Weaken.name is_strong []
     (rw c.in-Weaken.is at
-    (faultless_met (desk_of c.args.self.now) c.args.command.now c.requires.faultless))
+    (faultless_met (scope_of (desk_of c.args.self.now)) c.args.command.now c.requires.faultless))
 
 pub copy_weak-requires-clause-bound : goal.copy_weak-requires-clause-bound
-copy_weak-requires-clause-bound c =
-    first_met (desk_of c.args.self.now) c.in-CopyWeak.name is_weak []
+copy_weak-requires-clause-bound g c =
+    first_met c.args.self.now.names c.in-CopyWeak.name is_weak []
     (rw c.in-CopyWeak.is at
-    (faultless_met (desk_of c.args.self.now) c.args.command.now c.requires.faultless))
+    (faultless_met (scope_of (desk_of c.args.self.now)) c.args.command.now c.requires.faultless))
 
 pub drop-requires-clause-bound : goal.drop-requires-clause-bound
-drop-requires-clause-bound c =
-    first_met (desk_of c.args.self.now) c.in-Drop.name is_strong []
+drop-requires-clause-bound g c =
+    first_met c.args.self.now.names c.in-Drop.name is_strong []
     (rw c.in-Drop.is at
-    (faultless_met (desk_of c.args.self.now) c.args.command.now c.requires.faultless))
+    (faultless_met (scope_of (desk_of c.args.self.now)) c.args.command.now c.requires.faultless))
 
 pub drop_weak-requires-clause-bound : goal.drop_weak-requires-clause-bound
-drop_weak-requires-clause-bound c =
-    first_met (desk_of c.args.self.now) c.in-DropWeak.name is_weak []
+drop_weak-requires-clause-bound g c =
+    first_met c.args.self.now.names c.in-DropWeak.name is_weak []
     (rw c.in-DropWeak.is at
-    (faultless_met (desk_of c.args.self.now) c.args.command.now c.requires.faultless))
+    (faultless_met (scope_of (desk_of c.args.self.now)) c.args.command.now c.requires.faultless))
 
 pub returns-in-Make-clause-begins : goal.returns-in-Make-clause-begins
-returns-in-Make-clause-begins c =
+returns-in-Make-clause-begins g c =
     then_ok
     (λ (answer : Said). Acts (desk_of c.args.self.now) (command.Make c.in-Make.name c.in-Make.weight) answer
     (desk_of c.make.new.self))
@@ -57,7 +59,7 @@ returns-in-Make-clause-begins c =
     c.make.ensures.makes
 
 pub returns-in-Copy-clause-begins : goal.returns-in-Copy-clause-begins
-returns-in-Copy-clause-begins c =
+returns-in-Copy-clause-begins g c =
     then_ok
     (λ (answer : Said). Acts (desk_of c.args.self.now) (command.Copy c.in-Copy.name c.in-Copy.new) answer
     (desk_of c.copy.new.self))
@@ -72,7 +74,7 @@ returns-in-Copy-clause-begins c =
     c.copy.ensures.acts
 
 pub returns-in-Weaken-clause-begins : goal.returns-in-Weaken-clause-begins
-returns-in-Weaken-clause-begins c =
+returns-in-Weaken-clause-begins g c =
     then_ok
     (λ (answer : Said). Acts (desk_of c.args.self.now) (command.Weaken c.in-Weaken.name c.in-Weaken.new) answer
     (desk_of c.weaken.new.self))
@@ -87,7 +89,7 @@ returns-in-Weaken-clause-begins c =
     c.weaken.ensures.acts
 
 pub returns-in-CopyWeak-clause-begins : goal.returns-in-CopyWeak-clause-begins
-returns-in-CopyWeak-clause-begins c =
+returns-in-CopyWeak-clause-begins g c =
     then_ok
     (λ (answer : Said). Acts (desk_of c.args.self.now) (command.CopyWeak c.in-CopyWeak.name c.in-CopyWeak.new) answer
     (desk_of c.copy_weak.new.self))
@@ -100,3 +102,134 @@ returns-in-CopyWeak-clause-begins c =
     (acts_begin (desk_of c.args.self.now) (command.CopyWeak c.in-CopyWeak.name c.in-CopyWeak.new) answer
     (desk_of c.copy_weak.new.self) acts))
     c.copy_weak.ensures.acts
+
+pub upgrade-requires-clause-bound : goal.upgrade-requires-clause-bound
+upgrade-requires-clause-bound g c =
+    first_met c.args.self.now.names c.in-Upgrade.name is_weak []
+    (rw c.in-Upgrade.is at
+    (faultless_met (scope_of (desk_of c.args.self.now)) c.args.command.now c.requires.faultless))
+
+pub read-requires-clause-bound : goal.read-requires-clause-bound
+read-requires-clause-bound g c =
+    first_met c.args.self.now.names c.in-Read.name is_any []
+    (rw c.in-Read.is at
+    (faultless_met (scope_of (desk_of c.args.self.now)) c.args.command.now c.requires.faultless))
+
+pub counts-requires-clause-bound : goal.counts-requires-clause-bound
+counts-requires-clause-bound g c =
+    first_met c.args.self.now.names c.in-Counts.name is_any []
+    (rw c.in-Counts.is at
+    (faultless_met (scope_of (desk_of c.args.self.now)) c.args.command.now c.requires.faultless))
+
+pub clear-requires-clause-needs : goal.clear-requires-clause-needs
+clear-requires-clause-needs g c =
+    rw c.in-Clear.is at
+    (faultless_met (scope_of (desk_of c.args.self.now)) c.args.command.now c.requires.faultless)
+
+pub load-requires-clause-needs : goal.load-requires-clause-needs
+load-requires-clause-needs g c =
+    rw c.in-Load.is at
+    (faultless_met (scope_of (desk_of c.args.self.now)) c.args.command.now c.requires.faultless)
+
+pub put-requires-clause-needs : goal.put-requires-clause-needs
+put-requires-clause-needs g c =
+    met_left c.args.self.now.names (place_needs c.in-Put.place)
+    ((c.in-Put.name, taken_by c.in-Put.place) ∷ [])
+    (rw c.in-Put.is at
+    (faultless_met (scope_of (desk_of c.args.self.now)) c.args.command.now c.requires.faultless))
+
+pub put-requires-clause-bound : goal.put-requires-clause-bound
+put-requires-clause-bound g c =
+    first_met c.args.self.now.names c.in-Put.name (taken_by c.in-Put.place) []
+    (met_right c.args.self.now.names (place_needs c.in-Put.place)
+    ((c.in-Put.name, taken_by c.in-Put.place) ∷ [])
+    (rw c.in-Put.is at
+    (faultless_met (scope_of (desk_of c.args.self.now)) c.args.command.now c.requires.faultless)))
+
+pub replace-requires-clause-needs : goal.replace-requires-clause-needs
+replace-requires-clause-needs g c =
+    met_left c.args.self.now.names (place_needs c.in-Replace.place)
+    (need_of c.in-Replace.old is_firm ++ need_of c.in-Replace.new is_strong)
+    (rw c.in-Replace.is at
+    (faultless_met (scope_of (desk_of c.args.self.now)) c.args.command.now c.requires.faultless))
+
+pub replace-requires-clause-expected : goal.replace-requires-clause-expected
+replace-requires-clause-expected g c =
+    met_left c.args.self.now.names (need_of c.in-Replace.old is_firm)
+    (need_of c.in-Replace.new is_strong)
+    (met_right c.args.self.now.names (place_needs c.in-Replace.place)
+    (need_of c.in-Replace.old is_firm ++ need_of c.in-Replace.new is_strong)
+    (rw c.in-Replace.is at
+    (faultless_met (scope_of (desk_of c.args.self.now)) c.args.command.now c.requires.faultless)))
+
+pub replace-requires-clause-given : goal.replace-requires-clause-given
+replace-requires-clause-given g c =
+    met_right c.args.self.now.names (need_of c.in-Replace.old is_firm)
+    (need_of c.in-Replace.new is_strong)
+    (met_right c.args.self.now.names (place_needs c.in-Replace.place)
+    (need_of c.in-Replace.old is_firm ++ need_of c.in-Replace.new is_strong)
+    (rw c.in-Replace.is at
+    (faultless_met (scope_of (desk_of c.args.self.now)) c.args.command.now c.requires.faultless)))
+
+pub returns-in-Upgrade-clause-begins : goal.returns-in-Upgrade-clause-begins
+returns-in-Upgrade-clause-begins g c =
+    then_ok
+    (λ (answer : Said). Acts (desk_of c.args.self.now) (command.Upgrade c.in-Upgrade.name c.in-Upgrade.new)
+    answer (desk_of c.upgrade.new.self))
+    (λ (answer : Said). Begins (desk_of c.args.self.now) c.args.command.now answer
+    (desk_of c.upgrade.new.self))
+    c.upgrade.result
+    (λ answer acts.
+    subst (λ (x : Command). Begins (desk_of c.args.self.now) x answer (desk_of c.upgrade.new.self))
+    (sym c.in-Upgrade.is)
+    (acts_begin (desk_of c.args.self.now) (command.Upgrade c.in-Upgrade.name c.in-Upgrade.new) answer
+    (desk_of c.upgrade.new.self) acts))
+    c.upgrade.ensures.acts
+
+pub returns-in-Load-clause-begins : goal.returns-in-Load-clause-begins
+returns-in-Load-clause-begins g c =
+    then_ok
+    (λ (answer : Said). Acts (desk_of c.args.self.now) (command.Load c.in-Load.place c.in-Load.new)
+    answer (desk_of c.load.new.self))
+    (λ (answer : Said). Begins (desk_of c.args.self.now) c.args.command.now answer
+    (desk_of c.load.new.self))
+    c.load.result
+    (λ answer acts.
+    subst (λ (x : Command). Begins (desk_of c.args.self.now) x answer (desk_of c.load.new.self))
+    (sym c.in-Load.is)
+    (acts_begin (desk_of c.args.self.now) (command.Load c.in-Load.place c.in-Load.new) answer
+    (desk_of c.load.new.self) acts))
+    c.load.ensures.acts
+
+pub returns-in-Read-clause-begins : goal.returns-in-Read-clause-begins
+returns-in-Read-clause-begins g c =
+    subst (λ (x : Command). Begins (desk_of c.args.self.now) x c.read.result (desk_of c.read.new.self))
+    (sym c.in-Read.is)
+    (acts_begin (desk_of c.args.self.now) (command.Read c.in-Read.name c.in-Read.word) c.read.result
+    (desk_of c.read.new.self) c.read.ensures.acts)
+
+pub returns-in-Counts-clause-begins : goal.returns-in-Counts-clause-begins
+returns-in-Counts-clause-begins g c =
+    subst (λ (x : Command). Begins (desk_of c.args.self.now) x c.counts.result (desk_of c.counts.new.self))
+    (sym c.in-Counts.is)
+    (acts_begin (desk_of c.args.self.now) (command.Counts c.in-Counts.name) c.counts.result
+    (desk_of c.counts.new.self) c.counts.ensures.acts)
+
+pub returns-in-Replace-clause-begins : goal.returns-in-Replace-clause-begins
+returns-in-Replace-clause-begins g c =
+    subst (λ (x : Command). Begins (desk_of c.args.self.now) x c.replace.result (desk_of c.replace.new.self))
+    (sym c.in-Replace.is) c.replace.ensures.begins
+
+pub returns-in-Audit-clause-begins : goal.returns-in-Audit-clause-begins
+returns-in-Audit-clause-begins g c =
+    then_ok
+    (λ (answer : Said). Acts (desk_of c.args.self.now) command.Audit answer
+    (desk_of c.audit.new.self))
+    (λ (answer : Said). Begins (desk_of c.args.self.now) c.args.command.now answer
+    (desk_of c.audit.new.self))
+    c.audit.result
+    (λ answer acts.
+    subst (λ (x : Command). Begins (desk_of c.args.self.now) x answer (desk_of c.audit.new.self))
+    (sym c.in-Audit.is)
+    (acts_begin (desk_of c.args.self.now) command.Audit answer (desk_of c.audit.new.self) acts))
+    c.audit.ensures.acts

@@ -1,14 +1,8 @@
-use Rattle.std.proofs.Common.{◌≡◌, ◌∙◌, ap, sym, Some, option_copied}
-use Rattle.plain_state.specs.declared.slot.SlotId.{SlotId}
-use Rattle.script_desk.specs.declared.handle.Handle.{Handle}
 use Rattle.script_desk.specs.declared.handle.Handle.TheVariants.{Weak}
-use Rattle.script_desk.specs.Desks.{Desk, bound}
-use Rattle.script_desk.proofs.Naming.{has_there}
+use Rattle.script_desk.proofs.Naming.{has_named}
 use Rattle.script_desk.proofs.desk.Desk.weak_slot.Goals as goal
 
 pub returns-clause-owns : goal.returns-clause-owns
 returns-clause-owns c =
-    let known : bound c.args.self.now.names c.args.name.now ≡ Some (Weak c.slot.result)
-    = ap (λ (d : Desk). bound d.names c.args.name.now) (sym c.self.view_is) ∙ sym c.get.ensures ∙ ap option_copied c.in-Some-Weak.is
-    ∙ ap (λ (h : Handle). Some h) (c.in-Some-Weak.field-0-is ∙ ap (λ (s : SlotId). Weak s) (sym c.slot.ensures)) in
-    has_there _ _ _ _ _ _ c.self.invariant _ c.self.view_is c.args.name.now (Weak c.slot.result) known
+    has_named _ _ _ _ _ _ c.self.invariant _ c.self.view_is c.args.name.now
+    (Weak c.weak_slot.result) c.weak_slot.ensures

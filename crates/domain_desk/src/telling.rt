@@ -1,0 +1,43 @@
+//! What is told of the heap: a word, the counts of an object, an audit.
+ghost use Rattle.std.specs.Prelude.{◌≡◌, ◌<◌, IfOk, OnOk};
+ghost use Rattle.deleter.specs.Weighing.{Weighs};
+ghost use Rattle.plain_store.specs.Settling.{IsSettled};
+ghost use Rattle.script_lines.specs.declared.command.Command.TheVariants as command;
+ghost use Rattle.script_desk.specs.Effects.{Acts};
+ghost use Rattle.script_desk.specs.Handles.{is_any};
+ghost use Rattle.script_desk.specs.Places.{IsBoundTo};
+ghost use Rattle.domain_desk.specs.Desks.{IsKept, desk_of, plain_of};
+
+use crate::desk::DomainDesk;
+use lone_heap::{counts, read};
+use script_desk::Said;
+use script_lines::Name;
+
+impl DomainDesk {
+    /// A word of the payload.
+    pub(crate) fn read(&mut self, name: &Name, word: u32) -> Said
+        requires kept { IsKept self.old }
+        requires bound { IsBoundTo self.old.names name.now is_any }
+        requires word { word < 16 }
+        ensures acts { Acts (desk_of self.old) (command.Read name.now word) result
+            (desk_of self.new) }
+        ensures kept { IsKept self.new }
+    {
+        let slot = self.names.slot(name);
+        Said::Word(read(&self.domain, &mut self.seat, slot, word))
+    }
+
+    /// The references to the object.
+    pub(crate) fn counts(&mut self, name: &Name) -> Said
+        requires kept { IsKept self.old }
+        requires settled { IsSettled (plain_of self.old) }
+        requires bound { IsBoundTo self.old.names name.now is_any }
+        ensures acts { Acts (desk_of self.old) (command.Counts name.now) result
+            (desk_of self.new) }
+        ensures kept { IsKept self.new }
+    {
+        let slot = self.names.slot(name);
+        let (strong, weak) = counts(&self.domain, &mut self.seat, slot);
+        Said::Counts(strong, weak)
+    }
+}
