@@ -26,5 +26,7 @@ mod places;
 mod references;
 mod running;
 mod telling;
+#[cfg(test)]
+mod tests;
 
 pub use desk::DomainDesk;
