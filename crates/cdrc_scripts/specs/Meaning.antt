@@ -28,7 +28,8 @@ IsOpened slots cells weak_cells d =
 
 -- a command without a fault runs, writes its line and leaves e
 abbrev pub RunsTo : Desk → Command → List ℕ → Desk → Type 0
-RunsTo d c out e = (answer : Said) × IsFaultless (scope_of d) c × Runs d c answer e × (out ≡ said_line c answer)
+RunsTo d c out e =
+    (answer : Said) × IsFaultless (scope_of d) c × Runs d c answer e × (out ≡ said_line c answer)
 
 -- the first line gives a heap its numbers and writes nothing; every later line is a command without a fault, which runs
 abbrev pub Takes : Option Desk → List (List ℕ) → List ℕ → Option Desk → Type 0
@@ -50,9 +51,12 @@ Refuses None words Name = ⊥
 Refuses None words Kind = ⊥
 Refuses None words NotEnabled = ⊥
 Refuses (Some d) words Syntax = (c : Command) → SpellsCommand c words → ⊥
-Refuses (Some d) words Range = (c : Command) × SpellsCommand c words × IsFault (scope_of d) c (Some Range)
-Refuses (Some d) words Name = (c : Command) × SpellsCommand c words × IsFault (scope_of d) c (Some Name)
-Refuses (Some d) words Kind = (c : Command) × SpellsCommand c words × IsFault (scope_of d) c (Some Kind)
+Refuses (Some d) words Range =
+    (c : Command) × SpellsCommand c words × IsFault (scope_of d) c (Some Range)
+Refuses (Some d) words Name =
+    (c : Command) × SpellsCommand c words × IsFault (scope_of d) c (Some Name)
+Refuses (Some d) words Kind =
+    (c : Command) × SpellsCommand c words × IsFault (scope_of d) c (Some Kind)
 Refuses (Some d) words NotEnabled = ⊥
 
 -- a text without a heap is refused at its first line

@@ -2,9 +2,9 @@
 //!
 //! The rule: the domain has one seat, which has just what the handles need to which names are bound.
 //!
-//! `DomainDesk::fault` tells why a command is refused. `DomainDesk::run` does one with which nothing is wrong, as its row
-//! says in `script_desk/specs/Effects`, by the calls of the domain's seat, and then the seat settles. What it does is told
-//! of the plain state that the seat knows, in the words of the desk for one thread.
+//! `DomainDesk::fault` tells why a command is refused. `DomainDesk::run` does one with which nothing is wrong, as its
+//! row says in `script_desk/specs/Effects`, by the calls of the domain's seat, and then the seat settles. What it does
+//! is told of the plain state that the seat knows, in the words of the desk for one thread.
 //!
 //! Nothing is promised of a desk after `OutOfMemory`.
 //!

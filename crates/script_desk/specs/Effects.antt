@@ -88,8 +88,8 @@ GivesNew d None e = Keeps d e
 GivesNew d (Some name) e = Gives d name e
 
 -- a place is replaced where it holds what is expected
-abbrev pub ReplacesOne : Desk → EventPlace → Option SlotId → Option SlotId → Option (List ℕ) → Said → Desk
-    → Type 0
+abbrev pub ReplacesOne :
+    Desk → EventPlace → Option SlotId → Option SlotId → Option (List ℕ) → Said → Desk → Type 0
 ReplacesOne d place old slot new answer e =
     ((answer ≡ said.Done) × Tries d.plain place old slot true e.plain × GivesNew d new e)
     ⊎ ((answer ≡ said.Lost) × Tries d.plain place old slot false e.plain × Keeps d e)
@@ -140,8 +140,9 @@ Acts d (command.Clear place) answer e =
 Acts d (command.Load place new) answer e =
     (at : EventPlace) × IsPlace d.names place at × LoadsOne d place at new answer e
 Acts d (command.Replace place old new) answer e =
-    (at : EventPlace) × (expected : Option SlotId) × (slot : Option SlotId) × IsPlace d.names place at
-    × IsSlotOf d.names old expected × IsSlotOf d.names new slot × ReplacesOne d at expected slot new answer e
+    (at : EventPlace) × (expected : Option SlotId) × (slot : Option SlotId)
+    × IsPlace d.names place at × IsSlotOf d.names old expected × IsSlotOf d.names new slot
+    × ReplacesOne d at expected slot new answer e
 Acts d (command.Snap place new) answer e =
     (at : EventPlace) × IsPlace d.names place at × SnapsOne d at new answer e
 Acts d (command.EndSnapshot name) answer e =
