@@ -1,0 +1,6 @@
+pub mod Begun
+pub mod Counted
+pub mod Kept
+pub mod Offered
+pub mod Read
+pub mod Taken

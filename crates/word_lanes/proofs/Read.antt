@@ -1,0 +1,89 @@
+-- The word of an item that was popped.
+use Rattle.std.proofs.Common.{◌≡◌, inl, inr, ℕ, arith, List, [], ◌∷◌, refl, sym, ap, subst, ◌∙◌}
+use Rattle.std.specs.Prelude.{Err, Ok, OnOk, Result}
+use Rattle.cdrc_text.specs.Tally.{CountsOneMore}
+use Rattle.plain_state.specs.declared.slot.SlotId.{SlotId}
+use Rattle.domain_rule.specs.Views.{object_in}
+use Rattle.acquire_retire.specs.Seats.{SeatState}
+use Rattle.directory_law.specs.declared.view.Ran.{Ran}
+use Rattle.directory_law.specs.declared.view.Rope.{Rope}
+use Rattle.directory_law.specs.declared.view.View.{View as DirectoryView}
+use Rattle.directory_law.specs.Bytes.{text_bytes}
+use Rattle.directory_law.specs.Payloads.{Text}
+use Rattle.directory_law.specs.Views.{In}
+use Rattle.directory_calls.specs.Learning.{LearnsIn}
+use Rattle.text_reading.specs.Reading.{HasBegun, HasRead, begun}
+use Rattle.words_law.specs.Views.{View}
+use Rattle.word_lanes.specs.Counting.{HasReadIn, OnlyReads, ReadsWord, Tallies, begins}
+use Rattle.word_lanes.proofs.Counted.{tallies_one}
+use Rattle.word_lanes.proofs.Offered.{queues, texts}
+
+abbrev with_texts : View → DirectoryView → View
+with_texts v w = (v.0, w)
+
+module _ (s : SlotId) (old now : SeatState View)
+    (client : now.view.client ≡ begins (begun s now) old.view.client) where
+  pub has_begun : HasBegun texts s now
+  has_begun = (old.view.client.1.ran, ap (λ (v : View). v.1.ran) client)
+
+  module _ (word : List ℕ) (late new : SeatState View) (learns : LearnsIn texts with_texts 0
+      now.view.client late.view.client) (last : new.view.client ≡ late.view.client)
+      (same : object_in now.view s ≡ object_in old.view s)
+      (still : object_in late.view s ≡ object_in now.view s) where
+    pub only : OnlyReads old.view.client new.view.client
+    only = record {
+      queue = ap queues last ∙ (ap queues learns.rest ∙ ap queues client);
+      quota = ap (λ (v : View). v.1.quota) last
+          ∙ (learns.part.quota ∙ ap (λ (v : View). v.1.quota) client);
+      used = let l = ap (λ (v : View). v.1.used) last in let m = learns.part.used in
+          let n = ap (λ (v : View). v.1.used) client in omega arith;
+      more = record {
+        kept = λ e in'. subst (λ (v : View). In e v.1.kept) (sym last)
+            (subst (λ (es : List Rope). In e es) (sym learns.part.notes.1)
+            (subst (λ (v : View). In e v.1.kept) (sym client) in'));
+        ran = λ e in'. subst (λ (v : View). In e v.1.ran) (sym last)
+            (learns.part.ran e (subst (λ (v : View). In e v.1.ran) (sym client) (inr in')));
+      };
+    }
+
+    pub reads : (text : Text) → word ≡ text_bytes text → HasRead texts s text late
+        → ReadsWord s word old new
+    reads text same' read = record {
+      text = text;
+      bytes = sym same';
+      read = (
+        read.ran,
+        subst (λ (v : View). In read.ran v.1.ran) (sym last)
+            (subst (λ (es : List Ran). In read.ran es) (sym read.last) (inl refl)),
+        read.slot,
+        read.life ∙ ap (λ o. o.life) (still ∙ same),
+        read.whole,
+        read.is,
+      );
+    }
+
+module _ (s : SlotId) (word : List ℕ) (old new : SeatState View) (before after : List (List ℕ × ℕ))
+  where
+    pub reads_ok : {T E : Type 0} (r : Result T E) → ReadsWord s word old new
+        → OnOk r (CountsOneMore before after word)
+        → OnOk r ((word : List ℕ) × ReadsWord s word old new × Tallies (word ∷ []) before after)
+    reads_ok (Ok done) reads more = (word, reads, tallies_one word before after more)
+    reads_ok (Err error) reads more = tt
+
+-- and it is so after a step that leaves the client's view
+pub reads_later : (s : SlotId) (word : List ℕ) (old new late : SeatState View)
+    → ReadsWord s word old new → late.view.client ≡ new.view.client → ReadsWord s word old late
+reads_later s word old new late is same = record {
+  text = is.text;
+  bytes = is.bytes;
+  read = subst (λ (v : View). HasReadIn (object_in old.view s).life s is.text v.1) (sym same)
+      is.read;
+}
+
+module _ (s : SlotId) (old new late : SeatState View) (same : late.view.client ≡ new.view.client)
+    (before after : List (List ℕ × ℕ)) where
+  pub counts_later : {T E : Type 0} (r : Result T E)
+      → OnOk r ((word : List ℕ) × ReadsWord s word old new × Tallies (word ∷ []) before after)
+      → OnOk r ((word : List ℕ) × ReadsWord s word old late × Tallies (word ∷ []) before after)
+  counts_later (Ok done) is = (is.0, reads_later s is.0 old new late is.1 same, is.2)
+  counts_later (Err error) is = tt

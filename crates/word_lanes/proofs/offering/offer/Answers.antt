@@ -1,0 +1,22 @@
+use Rattle.std.proofs.Common.{ap}
+use Rattle.word_lanes.proofs.Offered.{may_push, offer_ready, offered_ok, refused_idle, texts}
+use Rattle.word_lanes.proofs.offering.offer.Goals as goal
+
+pub push-requires-clause-may : goal.push-requires-clause-may
+push-requires-clause-may g c =
+    may_push c.args.handle.slot c.requires.known.0 c.args.seat.now c.requires.known.1
+
+pub returns-clause-counts : goal.returns-clause-counts
+returns-clause-counts g c =
+    offered_ok c.args.seat.now c.push.new.seat (ap texts c.push.ensures.beside)
+    c.args.handle.slot c.push.result c.push.ensures.pushed
+
+pub returns-clause-refused : goal.returns-clause-refused
+returns-clause-refused g c =
+    refused_idle c.args.seat.now c.push.new.seat (ap texts c.push.ensures.beside) c.push.result c.push.ensures.refused
+
+pub returns-clause-ready : goal.returns-clause-ready
+returns-clause-ready g c =
+    offer_ready c.args.seat.now c.push.new.seat (ap texts c.push.ensures.beside)
+    c.args.handle.slot c.push.result c.push.ensures.pushed c.push.ensures.refused c.requires.ready
+    c.push.ensures.room c.push.ensures.rest c.push.ensures.attached

@@ -1,0 +1,77 @@
+-- What a seat pushed and popped between two of its views, as words.
+use Rattle.std.specs.Prelude.{◌≡◌, ℕ, ◌+◌, Bool, List, [], ◌∷◌, ◌++◌, cond, length, map}
+use Rattle.cdrc_text.specs.Fold.{times}
+use Rattle.cdrc_text.specs.Tally.{count_of, total_of}
+use Rattle.plain_state.specs.declared.slot.SlotId.{SlotId}
+use Rattle.domain_rule.specs.Views.{object_in}
+use Rattle.acquire_retire.specs.Seats.{SeatState}
+use Rattle.queue_law.specs.declared.view.Item.{Item}
+use Rattle.queue_law.specs.declared.view.Taken.{Taken}
+use Rattle.queue_law.specs.declared.view.View.{View as QueueView}
+use Rattle.directory_law.specs.declared.view.Ran.{Ran}
+use Rattle.directory_law.specs.declared.view.View.{View as DirectoryView}
+use Rattle.directory_law.specs.Bytes.{text_bytes}
+use Rattle.directory_law.specs.Payloads.{IsText, Text}
+use Rattle.directory_law.specs.Views.{In}
+use Rattle.linked_queue.specs.Queues.{deeds_in}
+use Rattle.words_law.specs.Known.{KnowsMore, KnowsTexts}
+use Rattle.words_law.specs.Views.{View}
+
+-- the view tells these words of the items, in order
+abbrev pub KnowsWords : DirectoryView → List Item → List (List ℕ) → Type 0
+KnowsWords v xs words = (ts : List Text) × KnowsTexts v xs ts × (map text_bytes ts ≡ words)
+
+-- the view tells this text of an object, which it has read whole
+abbrev pub HasReadIn : ℕ → SlotId → Text → DirectoryView → Type 0
+HasReadIn life s text v =
+    (e : Ran) × In e v.ran × (e.slot ≡ s) × (e.life ≡ life) × (e.before ≡ text) × IsText text
+
+-- items, as seat n did something with them
+unfoldable pub by_seat : ℕ → List Item → List Taken
+by_seat n xs = map (λ (x : Item). record { item = x; taker = n }) xs
+
+-- a view that has pushed and popped these items more
+abbrev pub did : List Item → List Item → QueueView → QueueView
+did pushes pops v = record v {
+  pushed = v.pushed ++ by_seat v.number pushes;
+  popped = v.popped ++ by_seat v.number pops;
+}
+
+-- a view that has read as far as this last
+abbrev pub begins : Ran → View → View
+begins e v = (v.0, record v.1 { ran = e ∷ v.1.ran })
+
+-- From the one view to the other the seat pushed items of some words, and popped items of others. It has learnt their
+-- words, and forgotten none. What it has beside of the queue is as it was, but for its notes on single nodes.
+pub record Counts (pushed popped : List (List ℕ)) (v w : View) : Type 0 where
+  pub pushes : List Item
+  pub pops : List Item
+  pub deeds : deeds_in w.0 ≡ did pushes pops (deeds_in v.0)
+  pub pushed_words : KnowsWords w.1 pushes pushed
+  pub popped_words : KnowsWords w.1 pops popped
+  pub more : KnowsMore v.1 w.1
+
+-- the second tally counts these words more
+pub record Tallies (words : List (List ℕ)) (before after : List (List ℕ × ℕ)) : Type 0 where
+  pub counts : (w : List ℕ) → count_of after w ≡ count_of before w + times w words
+  pub sum : total_of after ≡ total_of before + length words
+
+-- it popped an item, if it says so, and counted its word; else it popped none
+pub record Takes (one : Bool) (v w : View) (before after : List (List ℕ × ℕ)) : Type 0 where
+  pub words : List (List ℕ)
+  pub some : length words ≡ cond one 1 0
+  pub counts : Counts [] words v w
+  pub tallies : Tallies words before after
+
+-- the seat has read that the object which it had in s has this word
+pub record ReadsWord (s : SlotId) (word : List ℕ) (old new : SeatState View) : Type 0 where
+  pub text : Text
+  pub bytes : text_bytes text ≡ word
+  pub read : HasReadIn (object_in old.view s).life s text new.view.client.1
+
+-- the seat has read something, and of its view nothing else has changed
+pub record OnlyReads (v w : View) : Type 0 where
+  pub queue : w.0 ≡ v.0
+  pub quota : w.1.quota ≡ v.1.quota
+  pub used : w.1.used ≡ v.1.used
+  pub more : KnowsMore v.1 w.1

@@ -1,0 +1,45 @@
+//! A record goes on the queue.
+ghost use Rattle.std.specs.Prelude.{◌≡◌, ◌<◌, List, ℕ, [], ◌∷◌, IfErr, OnErr, OnOk};
+ghost use Rattle.plain_state.specs.Lists.{times};
+ghost use Rattle.core_events.specs.Views.{without};
+ghost use Rattle.directory_law.specs.Bytes.{text_bytes};
+ghost use Rattle.directory_law.specs.Payloads.{Text};
+ghost use Rattle.weak_intern.specs.Knowing.{Knows};
+ghost use Rattle.words_law.specs.Views.{View};
+ghost use Rattle.word_lanes.specs.Counting.{Counts};
+ghost use Rattle.word_lanes.specs.Ready.{IsReady, Owns};
+
+use crate::shared::Shared;
+use acquire_retire::{Domain, Seat};
+use counted_handles::Strong;
+use linked_queue::PushRefused;
+use protocol_pairs::Left;
+use std::sync::Wait;
+use words_protocol::WordsLaw;
+
+/// Pushes a record whose text the seat knows, and gives the seat's reference to it. It is refused as a push is; then
+/// nothing is pushed, and the reference is handed back. It may wait for other threads.
+pub fn offer<R: Wait>(
+    rt: &R,
+    domain: &Domain<WordsLaw>,
+    seat: &mut Seat<WordsLaw>,
+    shared: &Shared,
+    handle: Strong,
+) -> Result<(), PushRefused>
+    requires ready { IsReady domain.now shared.now seat.old }
+    requires owned { 0 < times handle.slot seat.old.view.core.owned }
+    requires known { (text : Text) × Knows (λ (v : View). v.1) handle.slot text seat.old }
+    ensures counts { OnOk result ((text : Text)
+        → Knows (λ (v : View). v.1) handle.slot text seat.old
+        → Counts (text_bytes text ∷ []) [] seat.old.view.client seat.new.view.client) }
+    ensures owns { OnOk result
+        (Owns (without handle.slot seat.old.view.core.owned) seat.old seat.new) }
+    ensures back { IfErr result (λ refused. refused.back ≡ handle) }
+    ensures refused { OnErr result (Counts [] [] seat.old.view.client seat.new.view.client) }
+    ensures kept { OnErr result (Owns seat.old.view.core.owned seat.old seat.new) }
+    ensures ready { IsReady domain.now shared.now seat.new }
+{
+    shared
+        .queue
+        .push::<Left, WordsLaw, R>(rt, domain, seat, handle)
+}
