@@ -19,4 +19,3 @@ returns-clause-seen g c = ap g.P.Part.seen c.copy_weak.ensures.client
 pub returns-clause-beside : goal.returns-clause-beside
 returns-clause-beside g c =
     ap (λ v. g.P.Part.with_seen v g.Q.Protocol.gone) c.copy_weak.ensures.client
-
