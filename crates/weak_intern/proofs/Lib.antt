@@ -9,4 +9,5 @@ pub mod Bound
 pub mod Placed
 pub mod Added
 pub mod Interned
+pub mod Confirmed
 pub mod Drawn

@@ -22,7 +22,8 @@ use Rattle.directory_law.specs.Payloads.{IsText, Text, size}
 use Rattle.directory_law.specs.Views.{In, note}
 use Rattle.weak_intern.specs.declared.looking.Sight.{Sight}
 use Rattle.weak_intern.specs.declared.looking.Sight.TheVariants as sight
-use Rattle.weak_intern.specs.Seeing.{BeginsText, HasBegun, HasSeenAt, HasSeenIn, Sees, begun, seen_in}
+use Rattle.text_reading.specs.Reading.{HasBegun, begun}
+use Rattle.weak_intern.specs.Seeing.{BeginsText, HasSeenAt, HasSeenIn, Sees, seen_in}
 use Rattle.weak_intern.specs.Knowing.{Knows}
 use Rattle.directory_calls.specs.Steps.{AtStep, Leaves, with_found}
 use Rattle.weak_intern.specs.Walking.{Meets, MeetsIn}

@@ -1,7 +1,7 @@
--- What a walk looks for.
-use Rattle.std.specs.Prelude.{ℕ, ◌≡◌, ◌<◌, ◌≤◌, ◌^◌, List, ◌∷◌, length}
-use Rattle.directory_law.specs.Payloads.{Text, size}
-use Rattle.directory_law.specs.Bytes.{IsTextOf}
+-- What a walk looks for, and what a kind of payloads tells of it.
+use Rattle.std.specs.Prelude.{ℕ, ◌≡◌, ◌<◌, ◌^◌, List, ◌∷◌, length}
+use Rattle.directory_law.specs.Payloads.{IsOwn, Text, size}
+use Rattle.directory_law.specs.Bytes.{IsPiece, IsTextOf}
 use Rattle.directory_law.specs.Places.{text_hash}
 use Rattle.record_making.specs.Texts.{text_of}
 
@@ -13,3 +13,7 @@ pub record IsSought (bytes head : List ℕ) (hash : ℕ) : Type 0 where
   pub size : size head ≡ length bytes
   pub place : text_hash (text_of bytes) ≡ hash
   pub small : hash < 2 ^ 32
+
+-- what fits the kind and is a directory's is the payload of a head or of a part
+abbrev pub HasPieces : (List ℕ → Type 0) → Type 0
+HasPieces fits = (words : List ℕ) → fits words → IsOwn words → IsPiece words

@@ -1,5 +1,5 @@
 -- What a walk meets, and what a find answers.
-use Rattle.std.specs.Prelude.{Bool, ℕ, ◌<◌, List, [], ◌∷◌, Option, Some, None, Result, Ok, Err}
+use Rattle.std.specs.Prelude.{Bool, ℕ, ◌<◌, List, Option, Some, None, Result, Ok, Err}
 use Rattle.plain_state.specs.declared.slot.SlotId.{SlotId}
 use Rattle.counted_handles.specs.Handles.{Handle}
 use Rattle.acquire_retire.specs.Domains.{DomainState}

@@ -6,7 +6,9 @@ ghost use Rattle.control_word.specs.Resting.{IsAtRest, IsSpent};
 ghost use Rattle.directory_calls.specs.Directories.{HasQuota, IsOver, area_of};
 ghost use Rattle.directory_calls.specs.Learning.{LearnsIn};
 ghost use Rattle.directory_calls.specs.Steps.{Leaves, with_found};
+ghost use Rattle.text_reading.specs.Reading.{HasTwoFree};
 ghost use Rattle.weak_intern.specs.Knowing.{KnowsRecord};
+ghost use Rattle.weak_intern.specs.Sought.{HasPieces};
 ghost use Rattle.weak_intern.specs.Walking.{Finds, found_by};
 
 use crate::sought::Sought;
@@ -32,7 +34,9 @@ pub fn find<R: Wait, S, P: HasDirectory<S>>(
     requires room { HasRoom seat.old.view.core }
     requires over { IsOver domain.now (P.part domain.now.protocol) directory.now }
     requires quota { HasQuota (P.seen seat.old.view.client) }
-    requires text { (1 ≤ length text.now) × (length text.now ≤ 120) }
+    requires text { (1 ≤ length text.now) × (length text.now ≤ 4096) }
+    requires free { HasTwoFree seat.old.view.core }
+    requires pieces { HasPieces P.Kind.fits }
     ensures finds { IfOk result (λ found. Finds domain.now (area_of (P.part domain.now.protocol))
         text.now (named found) seat.old seat.new) }
     ensures knows { IfOk result (λ found. IfSome found (λ strong.

@@ -11,7 +11,8 @@ ghost use Rattle.record_making.specs.Making.{HasNotedLast, MissesWithin, candida
 ghost use Rattle.record_making.specs.Texts.{text_of};
 ghost use Rattle.slot_store.specs.Calls.{HasNoMake};
 ghost use Rattle.weak_intern.specs.Knowing.{Knows, KnowsRecord};
-ghost use Rattle.weak_intern.specs.Sought.{IsSought};
+ghost use Rattle.text_reading.specs.Reading.{HasTwoFree};
+ghost use Rattle.weak_intern.specs.Sought.{HasPieces, IsSought};
 ghost use Rattle.directory_calls.specs.Steps.{AtStep, Leaves, handle_by, with_found};
 ghost use Rattle.weak_intern.specs.Walking.{found_by};
 
@@ -41,7 +42,9 @@ pub fn intern<R: Wait, S, P: HasDirectory<S>>(
     requires room { HasRoom seat.old.view.core }
     requires over { IsOver domain.now (P.part domain.now.protocol) directory.now }
     requires quota { CanCount true (P.seen seat.old.view.client) }
-    requires text { (1 ≤ length text.now) × (length text.now ≤ 120) }
+    requires text { (1 ≤ length text.now) × (length text.now ≤ 4096) }
+    requires free { HasTwoFree seat.old.view.core }
+    requires pieces { HasPieces P.Kind.fits }
     ensures interns { IfOk result (λ strong. Interns domain.now
         (area_of (P.part domain.now.protocol)) text.now strong.slot seat.old seat.new) }
     ensures knows { IfOk result (λ strong. KnowsRecord P.seen text.now strong.slot seat.new) }
@@ -87,7 +90,8 @@ fn add<R: Wait, S, P: HasDirectory<S>>(
     requires over { IsOver domain.now (P.part domain.now.protocol) directory.now }
     requires quota { CanCount true (P.seen seat.old.view.client) }
     requires sought { IsSought sought.now.text.now sought.now.head sought.now.hash }
-    requires short { length sought.now.text.now ≤ 120 }
+    requires free { HasTwoFree seat.old.view.core }
+    requires pieces { HasPieces P.Kind.fits }
     requires passed { HasPassed (area_of (P.part domain.now.protocol))
         (P.seen seat.old.view.client) (text_of sought.now.text.now) passed }
     ensures places { IfOk result (λ strong. Places domain.now
@@ -138,7 +142,8 @@ fn place<R: Wait, S, P: HasDirectory<S>>(
     requires over { IsOver domain.now (P.part domain.now.protocol) directory.now }
     requires quota { CanCount true (P.seen seat.old.view.client) }
     requires sought { IsSought sought.now.text.now sought.now.head sought.now.hash }
-    requires short { length sought.now.text.now ≤ 120 }
+    requires free { HasTwoFree seat.old.view.core }
+    requires pieces { HasPieces P.Kind.fits }
     requires passed { HasPassed (area_of (P.part domain.now.protocol))
         (P.seen seat.old.view.client) (text_of sought.now.text.now) from }
     requires owned { 0 < times candidate.now.slot seat.old.view.core.owned }

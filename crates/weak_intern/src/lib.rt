@@ -25,6 +25,7 @@
 
 mod binding;
 mod comparing;
+mod confirming;
 mod drawing;
 mod finding;
 mod interning;

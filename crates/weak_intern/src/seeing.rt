@@ -10,7 +10,8 @@ ghost use Rattle.domain_rule.specs.Views.{object_in};
 ghost use Rattle.directory_law.specs.Views.{In, note};
 ghost use Rattle.directory_calls.specs.Directories.{CanCount, IsOver, area_of};
 ghost use Rattle.directory_calls.specs.Learning.{LearnsIn};
-ghost use Rattle.weak_intern.specs.Seeing.{BeginsText, HasBegun, HasSeenIn, Sees};
+ghost use Rattle.text_reading.specs.Reading.{HasBegun};
+ghost use Rattle.weak_intern.specs.Seeing.{BeginsText, HasSeenIn, Sees};
 ghost use Rattle.directory_calls.specs.Steps.{AtStep, Leaves, handle_by, with_found};
 ghost use Rattle.weak_intern.specs.Walking.{raised_by};
 
