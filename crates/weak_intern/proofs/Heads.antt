@@ -28,6 +28,7 @@ pub sought_is : (bytes head : List ℕ) (hash : ℕ) → ((i : ℕ) → slice_in
 sought_is bytes head hash small some most heads hashes low =
     let p = packs (length bytes) (take 120 bytes) in
     let text = is_text_of bytes some most in record {
+      small_bytes = bytes_small bytes small;
       text = text;
       begins = (parts_of (parts_after (length bytes)) (drop 120 bytes), begins_so bytes head heads);
       words = ap length heads ∙ p.words;

@@ -1,12 +1,13 @@
 -- What a walk looks for, and what a kind of payloads tells of it.
 use Rattle.std.specs.Prelude.{ℕ, ◌≡◌, ◌<◌, ◌^◌, List, ◌∷◌, length}
 use Rattle.directory_law.specs.Payloads.{IsOwn, Text, size}
-use Rattle.directory_law.specs.Bytes.{IsPiece, IsTextOf}
+use Rattle.directory_law.specs.Bytes.{AreBytes, IsPiece, IsTextOf}
 use Rattle.directory_law.specs.Places.{text_hash}
 use Rattle.record_making.specs.Texts.{text_of}
 
 -- the text of these bytes begins with this head, and its place is taken from this number
 pub record IsSought (bytes head : List ℕ) (hash : ℕ) : Type 0 where
+  pub small_bytes : AreBytes bytes
   pub text : IsTextOf bytes (text_of bytes)
   pub begins : (tail : Text) × (text_of bytes ≡ head ∷ tail)
   pub words : length head ≡ 16
