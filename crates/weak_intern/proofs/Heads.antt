@@ -1,13 +1,9 @@
 -- What a walk looks for, and short texts.
 use Rattle.std.proofs.Common.{◌≡◌, ℕ, ◌<◌, ◌≤◌, ◌-◌, ◌^◌, List, [], ◌∷◌, drop, length, take, refl, sym, ap, ◌∙◌, arith}
 use Rattle.std.specs.Prelude.{slice_index_or}
-use Rattle.std.proofs.lemmas.List.{length-drop, take_all}
-use Rattle.std.proofs.lemmas.List.Elements.{All-from_get_or}
-use Rattle.plain_state.specs.Records.{IsRecordOf, eight_bytes, word_of_bytes}
 use Rattle.directory_law.specs.Payloads.{IsRest, IsText, Text, size}
-use Rattle.directory_law.specs.Bytes.{IsTextOf}
 use Rattle.directory_law.specs.Places.{hash_on}
-use Rattle.directory_law.proofs.Bytes.{text_pieces, text_place}
+use Rattle.directory_law.proofs.Bytes.{text_place}
 use Rattle.record_making.specs.Texts.{parts_after, parts_of, payload_of, text_of}
 use Rattle.record_making.proofs.Packed.{begins_so, bytes_small, is_text_of, packs}
 use Rattle.weak_intern.specs.Sought.{IsSought}

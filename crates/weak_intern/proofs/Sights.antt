@@ -1,6 +1,6 @@
 -- What is met in a cell, as from an earlier state; and a head that was raised to be read whole.
-use Rattle.std.proofs.Common.{◌≡◌, ℕ, ◌+◌, ◌<◌, ◌≤◌, List, [], ◌∷◌, ◌++◌, sym, ap, refl, subst, ◌∙◌, arith, Some, None}
-use Rattle.std.specs.Prelude.{Bool, Err, IfOk, Ok, Option, Result}
+use Rattle.std.proofs.Common.{◌≡◌, ℕ, ◌<◌, List, [], ◌∷◌, ◌++◌, sym, ap, refl, subst, ◌∙◌, arith, Some, None}
+use Rattle.std.specs.Prelude.{Bool, Option}
 use Rattle.plain_state.specs.declared.slot.SlotId.{SlotId}
 use Rattle.plain_state.specs.Lists.{times}
 use Rattle.plain_protocol.specs.Owns.{Object}
@@ -10,17 +10,16 @@ use Rattle.core_invariant.proofs.Kit.{one_same, times_push, times_without}
 use Rattle.domain_rule.specs.Views.{object_in}
 use Rattle.acquire_retire.specs.Domains.{DomainState}
 use Rattle.acquire_retire.specs.Seats.{SeatState}
-use Rattle.directory_law.specs.declared.view.View.{View}
 use Rattle.directory_law.specs.Cells.{Area}
 use Rattle.directory_law.specs.Law.{IsBound, NoneBound}
 use Rattle.directory_law.specs.Payloads.{Text}
 use Rattle.directory_law.specs.Views.{In}
 use Rattle.directory_calls.specs.Directories.{CanCount}
-use Rattle.directory_calls.specs.Steps.{AtStep, GoesOn, Leaves, aside, with_found}
+use Rattle.directory_calls.specs.Steps.{GoesOn, Leaves, aside, with_found}
 use Rattle.directory_calls.proofs.Going.{from_earlier, holds_by, leaves_as, leaves_then, seat_same}
 use Rattle.directory_calls.proofs.Learnt.{walked_still}
 use Rattle.directory_calls.proofs.Parts.{LearnsBy, Place}
-use Rattle.text_reading.specs.Reading.{HasBegun, HasTwoFree}
+use Rattle.text_reading.specs.Reading.{HasTwoFree}
 use Rattle.weak_intern.specs.declared.looking.Sight.{Sight}
 use Rattle.weak_intern.specs.declared.looking.Sight.TheVariants as sight
 use Rattle.weak_intern.specs.Seeing.{HasSeenAt, HasSeenIn, seen_in}

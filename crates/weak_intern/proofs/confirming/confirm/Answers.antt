@@ -33,7 +33,7 @@ returns-then-has_text-clause-meets g c =
     (subst (λ x. HasRead g.P.Part.seen x c.has_text.ensures.reads.0 c.has_text.new.seat)
     c.slot.ensures c.has_text.ensures.reads.1)
     c.answer.new.seat c.args.intern c.answer.ensures.leaves c.answer.ensures.learns
-    c.args.strong refl (c.has_text.ensures.reads.2 c.if-has_text.true)
+    c.args.strong refl (c.has_text.ensures.reads.2.0 c.if-has_text.true)
     (subst (λ x. (text : Text) → HasRead g.P.Part.seen x text c.has_text.new.seat
     → AtStep c.args.domain.now (λ p. IsBound (area_of (g.P.Part.part c.args.domain.now.protocol)) p text x)
     c.has_text.new.seat c.answer.new.seat) c.slot-then-has_text.ensures c.answer.ensures.live
@@ -81,7 +81,7 @@ returns-clause-meets g c =
     c.drop_strong.ensures.objects)
     c.drop_strong.ensures.client
     (text_is c.args.sought.now.text.now (text_of c.args.sought.now.text.now) c.requires.sought.text)
-    (λ same. is_not c.has_text.result c.if-has_text.false (c.has_text.ensures.reads.3 same))
+    (λ same. is_not c.has_text.result c.if-has_text.false (c.has_text.ensures.reads.2.1 same))
 
 pub returns-clause-leaves : goal.returns-clause-leaves
 returns-clause-leaves g c =

@@ -1,3 +1,4 @@
+use Rattle.weak_intern.proofs.Sights.{free_still}
 use Rattle.std.proofs.Common.{arith, ◌∙◌}
 use Rattle.std.proofs.lemmas.Result.{err_from_is_err_and}
 use Rattle.directory_calls.specs.Directories.{area_of}
@@ -142,3 +143,8 @@ returns-in-Record-clause-makes g c =
 pub returns-clause-makes : goal.returns-clause-makes
 returns-clause-makes g c =
     c.come_around.ensures.makes ∙ c.loop-passed.invariant.makes
+
+pub look-requires-clause-free : goal.look-requires-clause-free
+look-requires-clause-free g c =
+    free_still c.args.seat.now c.loop-passed.seat c.loop-passed.invariant.leaves.same
+    c.requires.free
