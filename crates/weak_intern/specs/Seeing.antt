@@ -39,7 +39,8 @@ module _ {V : Type 0} (seen : V → View) where
   HasSeenIn s seat = (c : ℕ) × HasSeenAt c s seat
 
   module _ {P : Type 0} (d : DomainState P) (z : Area) where
-    -- wherever the walk of a text comes to this cell, the text had no live record, at a step between these states
+    -- wherever the walk of a text comes to this cell, the text had no live record, at a step
+    -- between these states
     abbrev pub EndsAt : ℕ → SeatState V → SeatState V → Type 0
     EndsAt c old new =
         (text : Text) (m : ℕ) → Walked z (seen old.view.client) text m → on z text m ≡ c

@@ -26,9 +26,9 @@ use directory_protocol::{AnswerHead, DirectoryLaw, HasDirectory};
 use protocol_pairs::InPart;
 use text_reading::read_text;
 
-/// What a seat meets in a record that it owns, of which it has begun to read the head, and which begins as the text
-/// that is sought: the live record of that text, or a record of another one, whose reference is given up. At most 700
-/// steps.
+/// What a seat meets in a record that it owns, of which it has begun to read the head, and which
+/// begins as the text that is sought: the live record of that text, or a record of another one,
+/// whose reference is given up. At most 700 steps.
 pub(crate) fn confirm<S, P: HasDirectory<S>>(
     domain: &Domain<P>,
     seat: &mut Seat<P>,
@@ -53,7 +53,6 @@ pub(crate) fn confirm<S, P: HasDirectory<S>>(
         seat.old seat.new }
     ensures learns { LearnsIn P.seen P.with_seen (taken intern result)
         seat.old.view.client seat.new.view.client }
-    ensures makes { seat.new.view.core.makes ≡ seat.old.view.core.makes }
     ensures room { HasRoom seat.new.view.core }
     ensures rest { IsAtRest domain.now seat.new }
 {
@@ -84,7 +83,6 @@ fn has_text<S, P: HasDirectory<S>>(
         × ((result ≡ true) ↔ (read ≡ text_of sought.now.text.now)) }
     ensures leaves { Leaves seat.old.view.core.owned seat.old.view.core.weaks seat.old seat.new }
     ensures learns { LearnsIn P.seen P.with_seen 0 seat.old.view.client seat.new.view.client }
-    ensures makes { seat.new.view.core.makes ≡ seat.old.view.core.makes }
     ensures room { HasRoom seat.new.view.core }
     ensures rest { IsAtRest domain.now seat.new }
 {
@@ -93,8 +91,8 @@ fn has_text<S, P: HasDirectory<S>>(
     &bytes[..size as usize] == sought.text
 }
 
-/// At this step the record in a slot that the seat owns, whose whole text it has read, is the live record of that text.
-/// An intern of the seat is used if that is asked. One step.
+/// At this step the record in a slot that the seat owns, whose whole text it has read, is the live
+/// record of that text. An intern of the seat is used if that is asked. One step.
 fn answer<S, P: HasDirectory<S>>(
     domain: &Domain<P>,
     seat: &mut Seat<P>,
@@ -112,7 +110,6 @@ fn answer<S, P: HasDirectory<S>>(
     ensures leaves { Leaves seat.old.view.core.owned seat.old.view.core.weaks seat.old seat.new }
     ensures learns { LearnsIn P.seen P.with_seen (spent intern)
         seat.old.view.client seat.new.view.client }
-    ensures makes { seat.new.view.core.makes ≡ seat.old.view.core.makes }
     ensures room { HasRoom seat.new.view.core }
     ensures rest { IsAtRest domain.now seat.new }
 {

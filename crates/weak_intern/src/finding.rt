@@ -20,9 +20,11 @@ use directory_protocol::HasDirectory;
 use record_making::{hash_of, head_of};
 use std::sync::Wait;
 
-/// A strong reference to the live record of a text of 1 to 120 bytes, or None where it had none at a step of the call.
-/// `Spent` where the seat has no add left that a look at a cell needs. It looks at each cell at most once, and at one
-/// of them a last time: at most five steps for each try to load, 20 more for each cell, and one.
+/// A strong reference to the live record of a text of 1 to 4,096 bytes, or None where it had none
+/// at a step of the call. `Spent` where the seat has no add left that a look at a cell needs. It
+/// looks at each cell at most once, and at one of them a last time: at most five steps for each try
+/// to load, 20 more for each cell, and one; of a long text some 700 more for each cell whose head
+/// is the text's.
 pub fn find<R: Wait, S, P: HasDirectory<S>>(
     rt: &R,
     domain: &Domain<P>,

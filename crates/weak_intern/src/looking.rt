@@ -10,7 +10,7 @@ ghost use Rattle.directory_calls.specs.Learning.{LearnsIn};
 ghost use Rattle.record_making.specs.Texts.{text_of};
 ghost use Rattle.weak_intern.specs.Seeing.{HasSeenIn};
 ghost use Rattle.text_reading.specs.Reading.{HasTwoFree};
-ghost use Rattle.weak_intern.specs.Sought.{HasPieces, IsSought};
+ghost use Rattle.weak_intern.specs.Sought.{HasPieces, IsSought, UsesNoMake};
 ghost use Rattle.directory_calls.specs.Steps.{Leaves, with_found};
 ghost use Rattle.weak_intern.specs.Walking.{Meets, MeetsIn, met_by, taken_by};
 
@@ -37,7 +37,8 @@ pub enum Sight {
 }
 
 /// Looks at a cell for a text. Where it meets the live record, an intern of the seat
-/// is used if that is asked. At most five steps for each try to load, and 19 more.
+/// is used if that is asked. At most five steps for each try to load, and 19 more, or some 720
+/// where the head is that of a long text.
 pub(crate) fn look<R: Wait, S, P: HasDirectory<S>>(
     rt: &R,
     domain: &Domain<P>,
@@ -64,7 +65,7 @@ pub(crate) fn look<R: Wait, S, P: HasDirectory<S>>(
         seat.old.view.core.weaks seat.old seat.new }
     ensures learns { LearnsIn P.seen P.with_seen (taken_by intern result)
         seat.old.view.client seat.new.view.client }
-    ensures makes { seat.new.view.core.makes ≡ seat.old.view.core.makes }
+    ensures makes { UsesNoMake (text_of sought.now.text.now) seat.old seat.new }
     ensures room { HasRoom seat.new.view.core }
     ensures rest { IsAtRest domain.now seat.new }
 {
@@ -98,7 +99,7 @@ fn meet<S, P: HasDirectory<S>>(
         (without weak.slot seat.old.view.core.weaks) seat.old seat.new }
     ensures learns { LearnsIn P.seen P.with_seen (taken_by intern result)
         seat.old.view.client seat.new.view.client }
-    ensures makes { seat.new.view.core.makes ≡ seat.old.view.core.makes }
+    ensures makes { UsesNoMake (text_of sought.now.text.now) seat.old seat.new }
     ensures room { HasRoom seat.new.view.core }
     ensures rest { IsAtRest domain.now seat.new }
 {
@@ -147,8 +148,8 @@ fn meet_short<S, P: HasDirectory<S>>(
     }
 }
 
-/// The same where the head has the payload that is sought, and parts may follow it: the whole text is read under a
-/// strong reference. At most 700 steps.
+/// The same where the head has the payload that is sought, and parts may follow it: the whole text
+/// is read under a strong reference. At most 700 steps.
 fn meet_long<S, P: HasDirectory<S>>(
     domain: &Domain<P>,
     seat: &mut Seat<P>,
@@ -173,7 +174,6 @@ fn meet_long<S, P: HasDirectory<S>>(
         (without weak.slot seat.old.view.core.weaks) seat.old seat.new }
     ensures learns { LearnsIn P.seen P.with_seen (taken_by intern result)
         seat.old.view.client seat.new.view.client }
-    ensures makes { seat.new.view.core.makes ≡ seat.old.view.core.makes }
     ensures room { HasRoom seat.new.view.core }
     ensures rest { IsAtRest domain.now seat.new }
 {

@@ -55,8 +55,8 @@ pub fn see<R: Wait, S, P: HasDirectory<S>>(
     }
 }
 
-/// A strong reference in place of a weak one to a head that the seat saw in a cell, and an intern of the seat is used
-/// with it if that is asked. `Ended` where there was no strong reference to it.
+/// A strong reference in place of a weak one to a head that the seat saw in a cell, and an intern
+/// of the seat is used with it if that is asked. `Ended` where there was no strong reference to it.
 pub fn raise<S, P: HasDirectory<S>>(
     domain: &Domain<P>,
     seat: &mut Seat<P>,

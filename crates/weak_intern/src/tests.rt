@@ -2,6 +2,7 @@ ghost use Rattle.std.specs.Prelude.{◌≡◌, ◌<◌, IfOk};
 ghost use Rattle.core_events.specs.Steps.{HasRoom};
 ghost use Rattle.control_word.specs.Resting.{IsAtRest};
 ghost use Rattle.directory_calls.specs.Directories.{HasQuota};
+ghost use Rattle.text_reading.specs.Reading.{HasTwoFree};
 
 use crate::{Directory, cell_on, draw, find, hash_of, intern, see};
 use acquire_retire::{Domain, OpenError, Quota, Seat, Shape, open_domain};
@@ -19,6 +20,7 @@ const SHAPE: Shape = Shape {
 /// A domain of one seat with a directory of ten cells, and that seat.
 fn open_alone(rt: &HostRuntime) -> Result<(Domain<DirectoryLaw>, Seat<DirectoryLaw>), OpenError>
     ensures { IfOk result (λ r. IsAtRest r.0 r.1 × HasRoom r.1.view.core × HasQuota r.1.view.client
+        × HasTwoFree r.1.view.core
         × (r.0.protocol.first ≡ 0) × (r.0.protocol.cells ≡ 10) × (r.0.shape.weak_cells ≡ 10)) }
 {
     let quota = Quota { makes: 1, adds: 7 };
@@ -56,7 +58,7 @@ fn a_text_that_was_never_interned_is_not_found(rt: HostRuntime) -> Result<(), Fa
 /// A domain of one seat that may intern three texts, with a directory of ten cells, and that seat.
 fn open_for_three(rt: &HostRuntime) -> Result<(Domain<DirectoryLaw>, Seat<DirectoryLaw>), Fail>
     ensures { IfOk result (λ r. IsAtRest r.0 r.1 × HasRoom r.1.view.core
-        × (r.1.view.client.used < r.1.view.client.quota)
+        × HasTwoFree r.1.view.core × (r.1.view.client.used < r.1.view.client.quota)
         × (r.0.protocol.first ≡ 0) × (r.0.protocol.cells ≡ 10) × (r.0.shape.weak_cells ≡ 10)) }
 {
     let law = DirectoryLaw::new(0, 10, vec![in rt.alloc(); 3]?);

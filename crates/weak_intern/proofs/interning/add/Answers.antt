@@ -236,31 +236,27 @@ returns-in-Ok-Some-clause-knows g c =
 
 pub returns-in_err-candidate-clause-makes : goal.returns-in_err-candidate-clause-makes
 returns-in_err-candidate-clause-makes g c =
-    c.make_record.ensures.makes
+    λ one. c.make_record.ensures.makes
 
 pub returns-in-Ok-None-clause-makes : goal.returns-in-Ok-None-clause-makes
 returns-in-Ok-None-clause-makes g c =
-    omega (arith, c.make_record.ensures.makes, c.place.ensures.makes)
+    λ one. let p = c.place.ensures.makes one in omega (arith, c.make_record.ensures.makes, p)
 
 pub returns-in-Ok-Some-clause-makes : goal.returns-in-Ok-Some-clause-makes
 returns-in-Ok-Some-clause-makes g c =
-    omega (
-      arith,
-      c.make_record.ensures.makes,
-      c.place.ensures.makes,
-      makes_still c.place.new.seat c.drop_strong.new.seat c.in_ok-candidate.candidate.slot
-          g.P.Kind.PayloadKind.fits c.args.domain.now c.drop_strong.ensures.dropped,
-    )
+    λ one.
+    let p = c.place.ensures.makes one in
+    let q = makes_still c.place.new.seat c.drop_strong.new.seat c.in_ok-candidate.candidate.slot
+    g.P.Kind.PayloadKind.fits c.args.domain.now c.drop_strong.ensures.dropped in
+    omega (arith, c.make_record.ensures.makes, p, q)
 
 pub returns-in-Err-clause-makes : goal.returns-in-Err-clause-makes
 returns-in-Err-clause-makes g c =
-    omega (
-      arith,
-      c.make_record.ensures.makes,
-      c.place.ensures.makes,
-      makes_still c.place.new.seat c.drop_strong-in-Err.new.seat c.in_ok-candidate.candidate.slot
-          g.P.Kind.PayloadKind.fits c.args.domain.now c.drop_strong-in-Err.ensures.dropped,
-    )
+    λ one.
+    let p = c.place.ensures.makes one in
+    let q = makes_still c.place.new.seat c.drop_strong-in-Err.new.seat c.in_ok-candidate.candidate.slot
+    g.P.Kind.PayloadKind.fits c.args.domain.now c.drop_strong-in-Err.ensures.dropped in
+    omega (arith, c.make_record.ensures.makes, p, q)
 
 pub place-requires-clause-free : goal.place-requires-clause-free
 place-requires-clause-free g c =
