@@ -93,12 +93,7 @@ fn has_text<S, P: HasDirectory<S>>(
 
 /// At this step the record in a slot that the seat owns, whose whole text it has read, is the live
 /// record of that text. An intern of the seat is used if that is asked. One step.
-fn answer<S, P: HasDirectory<S>>(
-    domain: &Domain<P>,
-    seat: &mut Seat<P>,
-    slot: SlotId,
-    intern: bool,
-)
+fn answer<S, P: HasDirectory<S>>(domain: &Domain<P>, seat: &mut Seat<P>, slot: SlotId, intern: bool)
     requires rest { IsAtRest domain.now seat.old }
     requires room { HasRoom seat.old.view.core }
     requires owned { 0 < times slot seat.old.view.core.owned }

@@ -39,7 +39,7 @@ returns-then-not-is_payload-clause-leaves g c =
 pub returns-then-not-is_payload-clause-makes : goal.returns-then-not-is_payload-clause-makes
 returns-then-not-is_payload-clause-makes g c =
     λ one. ap (λ (v : CoreView). v.makes) c.drop_weak.ensures.dropped.1.core
-        ∙ c.is_payload.ensures.makes
+    ∙ c.is_payload.ensures.makes
 
 pub meet_short-requires-clause-saw : goal.meet_short-requires-clause-saw
 meet_short-requires-clause-saw g c =
