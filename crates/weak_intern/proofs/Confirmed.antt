@@ -101,7 +101,8 @@ module _ {P V : Type 0} (fits : List ℕ → Type 0) (d : DomainState P) (l : Pl
   )
 
   -- THE DEED is ready
-  pub answer_ready : (owned : Owned) (free : OwnPart → PlainAct → Type 0) (suits : V → View → Type 0)
+  pub answer_ready : (owned : Owned) (free : OwnPart → PlainAct → Type 0)
+      (suits : V → View → Type 0)
       → Frees owned free → MindsNone suits l.seen
       → HasSeenIn l.seen s old → CanCount intern (l.seen old.view.client)
       → (text : Text) × HasRead l.seen s text old

@@ -28,7 +28,8 @@ use Rattle.weak_intern.specs.Seeing.{HasSeenAt, HasSeenIn, seen_in}
 use Rattle.weak_intern.specs.Walking.{MeetsIn}
 use Rattle.weak_intern.proofs.Same.{not_prefix}
 
-module _ {P V : Type 0} (d : DomainState P) (l : Place V) (z : Area) (s : SlotId) (a b : SeatState V)
+module _ {P V : Type 0} (d : DomainState P) (l : Place V) (z : Area) (s : SlotId)
+    (a b : SeatState V)
     (owns : 0 < times s a.view.core.owned)
     (first : Leaves a.view.core.owned a.view.core.weaks a b)
     (learns : LearnsBy l 0 a.view.client b.view.client) where

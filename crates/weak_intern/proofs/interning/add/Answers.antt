@@ -254,7 +254,8 @@ pub returns-in-Err-clause-makes : goal.returns-in-Err-clause-makes
 returns-in-Err-clause-makes g c =
     λ one.
     let p = c.place.ensures.makes one in
-    let q = makes_still c.place.new.seat c.drop_strong-in-Err.new.seat c.in_ok-candidate.candidate.slot
+    let q = makes_still c.place.new.seat c.drop_strong-in-Err.new.seat
+    c.in_ok-candidate.candidate.slot
     g.P.Kind.PayloadKind.fits c.args.domain.now c.drop_strong-in-Err.ensures.dropped in
     omega (arith, c.make_record.ensures.makes, p, q)
 
