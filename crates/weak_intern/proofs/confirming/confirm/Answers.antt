@@ -20,7 +20,8 @@ answer-requires-clause-saw g c =
     (place_of g.P.Part.seen g.P.Part.with_seen g.P.Part.reads g.P.Part.puts_back
     g.P.Part.puts_over)
     (area_of (g.P.Part.part c.args.domain.now.protocol)) c.args.strong.slot c.args.seat.now
-    c.has_text.new.seat c.requires.owned c.has_text.ensures.leaves c.has_text.ensures.learns c.requires.saw)
+    c.has_text.new.seat c.requires.owned c.has_text.ensures.leaves c.has_text.ensures.learns
+    c.requires.saw)
 
 pub returns-then-has_text-clause-meets : goal.returns-then-has_text-clause-meets
 returns-then-has_text-clause-meets g c =
@@ -35,7 +36,8 @@ returns-then-has_text-clause-meets g c =
     c.answer.new.seat c.args.intern c.answer.ensures.leaves c.answer.ensures.learns
     c.args.strong refl (c.has_text.ensures.reads.2.0 c.if-has_text.true)
     (subst (λ x. (text : Text) → HasRead g.P.Part.seen x text c.has_text.new.seat
-    → AtStep c.args.domain.now (λ p. IsBound (area_of (g.P.Part.part c.args.domain.now.protocol)) p text x)
+    → AtStep c.args.domain.now (λ p. IsBound (area_of (g.P.Part.part c.args.domain.now.protocol))
+    p text x)
     c.has_text.new.seat c.answer.new.seat) c.slot-then-has_text.ensures c.answer.ensures.live
     c.has_text.ensures.reads.0
     (subst (λ x. HasRead g.P.Part.seen x c.has_text.ensures.reads.0 c.has_text.new.seat)
