@@ -12,6 +12,7 @@ use Rattle.plain_protocol.specs.Owns.{HasSlot, Object, OwnPart}
 use Rattle.protocol_pairs.specs.Parts.{Accepts, Frees}
 use Rattle.core_events.specs.declared.act.Act.TheVariants as act
 use Rattle.core_events.specs.declared.outcome.Outcome.{Outcome}
+use Rattle.core_events.specs.declared.view.CoreView.{CoreView}
 use Rattle.core_events.specs.Shows.{show_seat, shows}
 use Rattle.domain_rule.specs.Views.{object_in, own_of}
 use Rattle.acquire_retire.specs.Calls.{IsReady, Steps}
@@ -49,6 +50,11 @@ module _ {P V : Type 0} (fits : List ℕ → Type 0) (d : DomainState P) (place 
       refl
       (knows_after d (act.Look place) old new o old.view.core step (λ s has. has)
       (λ w s x. refl))
+
+  pub look_makes : new.view.core.makes ≡ old.view.core.makes
+  look_makes =
+      ap (λ (v : CoreView). v.makes) (one_step d (act.Look place) old new o
+      step.word old.view.core step (sym step.answers) refl refl).core
 
   pub look_rest : IsAtRest d old → IsAtRest d new
   look_rest rest =

@@ -30,7 +30,6 @@ use Rattle.directory_calls.specs.Learning.{LearnsIn}
 use Rattle.directory_calls.specs.Steps.{AtStep, Leaves, with_found}
 use Rattle.weak_intern.specs.declared.walking.Walk.{Walk}
 use Rattle.weak_intern.specs.declared.walking.Walk.TheVariants as walk
-use Rattle.weak_intern.specs.Sought.{UsesNoMake}
 use Rattle.weak_intern.specs.Walking.{ComesTo, EndsAround, Meets, met, taken, used_by, walked_by}
 use Rattle.directory_calls.proofs.Going.{at_step, from_earlier, holds_by, leaves_as, leaves_core, leaves_none, leaves_then, seat_same}
 use Rattle.directory_calls.proofs.Learnt.{passes_still, walked_still}
@@ -79,7 +78,7 @@ pub record Walks {P V : Type 0} (d : DomainState P) (seen : V → View) (with_se
   pub learns : LearnsIn seen with_seen 0 old.view.client now.view.client
   pub room : HasRoom now.view.core
   pub rest : IsAtRest d now
-  pub makes : UsesNoMake text old now
+  pub makes : now.view.core.makes ≡ old.view.core.makes
   pub begins : n ≡ 0 → now ≡ old
   pub able : 0 < n → IsSpent old.view.core → ⊥
 
@@ -93,7 +92,7 @@ module _ {P V : Type 0} (d : DomainState P) (l : Place V) (z : Area) (text : Tex
     learns = part_none l a.view.client;
     room = room;
     rest = rest;
-    makes = λ one. refl;
+    makes = refl;
     begins = λ is. refl;
     able = λ some. absurd (omega (arith, some));
   }
@@ -137,7 +136,7 @@ module _ {P V : Type 0} (d : DomainState P) (l : Place V) (z : Area) (text : Tex
         → Leaves b.view.core.owned b.view.core.weaks b c
         → LearnsBy l 0 b.view.client c.view.client
         → (IsSpent b.view.core → ⊥) → HasRoom c.view.core → IsAtRest d c
-        → UsesNoMake text b c → Walks d l.seen l.with_seen z text (n + 1) a c
+        → c.view.core.makes ≡ b.view.core.makes → Walks d l.seen l.with_seen z text (n + 1) a c
     one_passed cell at passes second more here room rest makes = record {
       walked = λ j low. ⊎_elim
           (λ less. passes_still 0 (l.seen b.view.client) (l.seen c.view.client) text
@@ -150,7 +149,7 @@ module _ {P V : Type 0} (d : DomainState P) (l : Place V) (z : Area) (text : Tex
       learns = walk_learns 0 more;
       room = room;
       rest = rest;
-      makes = λ one. makes one ∙ walks.makes one;
+      makes = makes ∙ walks.makes;
       begins = λ is. absurd (omega (arith, is));
       able = λ some spent. walk_able here spent;
     }
@@ -230,7 +229,7 @@ module _ {P V : Type 0} (d : DomainState P) (l : Place V) (z : Area) (text : Tex
         → Leaves (with_found (met found) b.view.core.owned) b.view.core.weaks b c
         → LearnsBy l (taken intern found) b.view.client c.view.client
         → (IsSpent b.view.core → false ≡ true) → HasRoom c.view.core → IsAtRest d c
-        → UsesNoMake text b c
+        → c.view.core.makes ≡ b.view.core.makes
         → Walks d l.seen l.with_seen z text (n + 1) a c
     other_passed intern cell found other at meets second more here room rest makes =
         one_passed cell at (subst (λ f. Meets l.seen d z cell text f b c) other meets)

@@ -1,13 +1,12 @@
 -- What a walk looks for, and short texts.
-use Rattle.std.proofs.Common.{length-drop, ◌≡◌, ℕ, ◌<◌, ◌≤◌, ◌-◌, ◌^◌, List, [], ◌∷◌, drop, length, take, refl, sym, ap, ◌∙◌, arith}
+use Rattle.std.proofs.Common.{◌≡◌, ℕ, ◌<◌, ◌≤◌, ◌-◌, ◌^◌, List, [], ◌∷◌, drop, length, take, refl, sym, ap, ◌∙◌, arith}
 use Rattle.std.specs.Prelude.{slice_index_or}
 use Rattle.directory_law.specs.Payloads.{IsRest, IsText, Text, size}
-use Rattle.directory_law.specs.Bytes.{IsTextOf}
 use Rattle.directory_law.specs.Places.{hash_on}
 use Rattle.directory_law.proofs.Bytes.{text_place}
 use Rattle.record_making.specs.Texts.{parts_after, parts_of, payload_of, text_of}
-use Rattle.record_making.proofs.Packed.{begins_so, bytes_small, is_text_of, packs, short_is}
-use Rattle.weak_intern.specs.Sought.{IsAlone, IsSought}
+use Rattle.record_making.proofs.Packed.{begins_so, bytes_small, is_text_of, packs}
+use Rattle.weak_intern.specs.Sought.{IsSought}
 
 -- nothing follows a head that tells at most 120 bytes
 no_rest : (n : ℕ) (tail : Text) → n ≡ 0 → IsRest n tail → tail ≡ []
@@ -17,19 +16,6 @@ no_rest n (t ∷ ts) none is = absurd (omega (arith, none, is.1.1, is.1.3))
 pub short_text : (head : List ℕ) (tail : Text) → size head ≤ 120 → IsText (head ∷ tail)
     → tail ≡ []
 short_text head tail short is = no_rest (size head - 120) tail (omega (arith, short)) is.1
-
--- a text without parts is of at most 120 bytes, and so the other way round
-pub alone_short : (bytes : List ℕ) → length bytes ≤ 120 → IsAlone (text_of bytes)
-alone_short bytes short = ap length (short_is bytes short)
-
-pub short_alone : (bytes : List ℕ) (text : Text) → IsTextOf bytes text → IsAlone text
-    → length bytes ≤ 120
-short_alone bytes [] is one = absurd is
-short_alone bytes (t ∷ []) is one =
-    let left : length (drop 120 bytes) ≡ length bytes - 120 = length-drop 120 bytes in
-    let none : length (drop 120 bytes) ≡ 0 = is.3 in
-    omega (arith, left, none)
-short_alone bytes (t ∷ (u ∷ us)) is one = absurd (omega (arith, one))
 
 -- WHAT A WALK looks for that is for these bytes
 pub sought_is : (bytes head : List ℕ) (hash : ℕ) → ((i : ℕ) → slice_index_or bytes i 0 < 256)

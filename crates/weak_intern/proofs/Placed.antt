@@ -1,5 +1,5 @@
 -- A record is put into the first null cell of its walk, or another one is found before that.
-use Rattle.std.proofs.Common.{◌≡◌, inl, inr, ⊎_elim, ℕ, ◌+◌, ◌<◌, [], ◌∷◌, ◌++◌, true, refl, sym, ap, subst, ◌∙◌, arith, Some, None}
+use Rattle.std.proofs.Common.{◌≡◌, inl, inr, ⊎_elim, ℕ, ◌+◌, ◌<◌, List, [], ◌∷◌, ◌++◌, true, refl, sym, ap, subst, ◌∙◌, arith, Some, None}
 use Rattle.std.specs.Prelude.{◌≢◌, Bool, false, Err, Option, Result}
 use Rattle.std.proofs.lemmas.Bool.{cases_lt}
 use Rattle.plain_state.specs.declared.slot.SlotId.{SlotId}
@@ -28,7 +28,6 @@ use Rattle.directory_law.specs.Payloads.{Text}
 use Rattle.weak_intern.specs.Knowing.{Knows}
 use Rattle.directory_calls.specs.Learning.{Learns, LearnsIn}
 use Rattle.directory_calls.specs.Steps.{Leaves, with_found}
-use Rattle.weak_intern.specs.Sought.{UsesNoMake}
 use Rattle.weak_intern.specs.Walking.{Meets, found_by, met, taken}
 use Rattle.directory_calls.proofs.Going.{from_earlier, holds_by, leaves_as, leaves_none, leaves_then, seat_same, some_earlier}
 use Rattle.directory_calls.proofs.Learnt.{learns_keeps, passes_still}
@@ -110,7 +109,7 @@ pub record Enters {P V : Type 0} (d : DomainState P) (seen : V → View) (with_s
   pub quota : CanCount true (seen now.view.client)
   pub owns : 0 < times s now.view.core.owned
   pub noted : HasNotedLast (candidate_in s text now) (seen now.view.client)
-  pub makes : UsesNoMake text old now
+  pub makes : now.view.core.makes ≡ old.view.core.makes
   pub room : HasRoom now.view.core
   pub rest : IsAtRest d now
 
@@ -127,7 +126,7 @@ module _ {P V : Type 0} (d : DomainState P) (l : Place V) (z : Area) (text : Tex
     quota = quota;
     owns = owns;
     noted = noted;
-    makes = λ one. refl;
+    makes = refl;
     room = room;
     rest = rest;
   }
@@ -167,7 +166,7 @@ module _ {P V : Type 0} (d : DomainState P) (l : Place V) (z : Area) (text : Tex
       -- a look or a bind that only learns leaves the record where it was
       pub enters_on : (m : ℕ) → HasPassed z (l.seen c.view.client) text m
           → Leaves b.view.core.owned b.view.core.weaks b c
-          → LearnsBy l 0 b.view.client c.view.client → UsesNoMake text b c
+          → LearnsBy l 0 b.view.client c.view.client → c.view.core.makes ≡ b.view.core.makes
           → HasRoom c.view.core → IsAtRest d c → Enters d l.seen l.with_seen z text s m a c
       enters_on m passed second more makes room rest = record {
         passed = passed;
@@ -182,7 +181,7 @@ module _ {P V : Type 0} (d : DomainState P) (l : Place V) (z : Area) (text : Tex
               ∙ ap (λ (o : Object). rope s o.life text ∷ enters.noted.0)
               (sym (known second)),
         );
-        makes = λ one. makes one ∙ enters.makes one;
+        makes = makes ∙ enters.makes;
         room = room;
         rest = rest;
       }
@@ -218,7 +217,7 @@ module _ {P V : Type 0} (d : DomainState P) (l : Place V) (z : Area) (text : Tex
 
       -- a bind that was lost
       pub enters_lost : c.view.client ≡ b.view.client
-          → Leaves b.view.core.owned b.view.core.weaks b c → UsesNoMake text b c
+          → Leaves b.view.core.owned b.view.core.weaks b c → c.view.core.makes ≡ b.view.core.makes
           → HasRoom c.view.core → IsAtRest d c → Enters d l.seen l.with_seen z text s n a c
       enters_lost client second makes room rest =
           let more = subst (λ v. LearnsBy l 0 b.view.client v) (sym client)
@@ -229,7 +228,7 @@ module _ {P V : Type 0} (d : DomainState P) (l : Place V) (z : Area) (text : Tex
       pub null_on : (found : Sight) → found ≡ sight.Null
           → Leaves (with_found (met found) b.view.core.owned) b.view.core.weaks b c
           → LearnsBy l (taken true found) b.view.client c.view.client
-          → UsesNoMake text b c → HasRoom c.view.core → IsAtRest d c
+          → c.view.core.makes ≡ b.view.core.makes → HasRoom c.view.core → IsAtRest d c
           → Enters d l.seen l.with_seen z text s n a c
       null_on found same second more makes room rest =
           let learns = subst (λ f. LearnsBy l (taken true f) b.view.client c.view.client) same more
@@ -244,7 +243,7 @@ module _ {P V : Type 0} (d : DomainState P) (l : Place V) (z : Area) (text : Tex
           → Meets l.seen d z cell text found b c
           → Leaves (with_found (met found) b.view.core.owned) b.view.core.weaks b c
           → LearnsBy l (taken true found) b.view.client c.view.client
-          → UsesNoMake text b c → HasRoom c.view.core → IsAtRest d c
+          → c.view.core.makes ≡ b.view.core.makes → HasRoom c.view.core → IsAtRest d c
           → Enters d l.seen l.with_seen z text s m a c
       other_on cell m found same at low next meets second more makes room rest =
           let learns = subst (λ f. LearnsBy l (taken true f) b.view.client c.view.client) same more

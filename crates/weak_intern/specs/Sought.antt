@@ -1,6 +1,5 @@
 -- What a walk looks for, and what a kind of payloads tells of it.
 use Rattle.std.specs.Prelude.{ℕ, ◌≡◌, ◌<◌, ◌^◌, List, ◌∷◌, length}
-use Rattle.acquire_retire.specs.Seats.{SeatState}
 use Rattle.directory_law.specs.Payloads.{IsOwn, Text, size}
 use Rattle.directory_law.specs.Bytes.{AreBytes, IsPiece, IsTextOf}
 use Rattle.directory_law.specs.Places.{text_hash}
@@ -19,11 +18,3 @@ pub record IsSought (bytes head : List ℕ) (hash : ℕ) : Type 0 where
 -- what fits the kind and is a directory's is the payload of a head or of a part
 abbrev pub HasPieces : (List ℕ → Type 0) → Type 0
 HasPieces fits = (words : List ℕ) → fits words → IsOwn words → IsPiece words
-
--- a text of at most 120 bytes, which has no parts
-abbrev pub IsAlone : Text → Type 0
-IsAlone text = length text ≡ 1
-
--- as long as nothing is read of its parts, no make is used
-abbrev pub UsesNoMake : {V : Type 0} → Text → SeatState V → SeatState V → Type 0
-UsesNoMake text old new = IsAlone text → new.view.core.makes ≡ old.view.core.makes

@@ -53,6 +53,7 @@ pub(crate) fn confirm<S, P: HasDirectory<S>>(
         seat.old seat.new }
     ensures learns { LearnsIn P.seen P.with_seen (taken intern result)
         seat.old.view.client seat.new.view.client }
+    ensures makes { seat.new.view.core.makes ≡ seat.old.view.core.makes }
     ensures room { HasRoom seat.new.view.core }
     ensures rest { IsAtRest domain.now seat.new }
 {
@@ -83,6 +84,7 @@ fn has_text<S, P: HasDirectory<S>>(
         × ((result ≡ true) ↔ (read ≡ text_of sought.now.text.now)) }
     ensures leaves { Leaves seat.old.view.core.owned seat.old.view.core.weaks seat.old seat.new }
     ensures learns { LearnsIn P.seen P.with_seen 0 seat.old.view.client seat.new.view.client }
+    ensures makes { seat.new.view.core.makes ≡ seat.old.view.core.makes }
     ensures room { HasRoom seat.new.view.core }
     ensures rest { IsAtRest domain.now seat.new }
 {
@@ -105,6 +107,7 @@ fn answer<S, P: HasDirectory<S>>(domain: &Domain<P>, seat: &mut Seat<P>, slot: S
     ensures leaves { Leaves seat.old.view.core.owned seat.old.view.core.weaks seat.old seat.new }
     ensures learns { LearnsIn P.seen P.with_seen (spent intern)
         seat.old.view.client seat.new.view.client }
+    ensures makes { seat.new.view.core.makes ≡ seat.old.view.core.makes }
     ensures room { HasRoom seat.new.view.core }
     ensures rest { IsAtRest domain.now seat.new }
 {

@@ -12,7 +12,7 @@ ghost use Rattle.record_making.specs.Texts.{text_of};
 ghost use Rattle.slot_store.specs.Calls.{HasNoMake};
 ghost use Rattle.weak_intern.specs.Knowing.{Knows, KnowsRecord};
 ghost use Rattle.text_reading.specs.Reading.{HasTwoFree};
-ghost use Rattle.weak_intern.specs.Sought.{HasPieces, IsAlone, IsSought, UsesNoMake};
+ghost use Rattle.weak_intern.specs.Sought.{HasPieces, IsSought};
 ghost use Rattle.directory_calls.specs.Steps.{AtStep, Leaves, handle_by, with_found};
 ghost use Rattle.weak_intern.specs.Walking.{found_by};
 
@@ -31,7 +31,7 @@ use std::sync::Wait;
 /// A strong reference to the live record of a text of 1 to 4,096 bytes, which it makes where the
 /// text has none. It uses one intern of the seat, and none where it is refused. `MakesSpent` and
 /// `Full` come only where the text had no live record at a step of the call; `AddsSpent` where the
-/// seat has no add left. It makes a record at most once.
+/// seat has no add left. It makes a record at most once: one make for each 120 bytes.
 pub fn intern<R: Wait, S, P: HasDirectory<S>>(
     rt: &R,
     domain: &Domain<P>,
@@ -60,7 +60,7 @@ pub fn intern<R: Wait, S, P: HasDirectory<S>>(
         seat.old.view.core.weaks seat.old seat.new }
     ensures grows { GrowsIn P.seen P.with_seen (interned_by result)
         seat.old.view.client seat.new.view.client }
-    ensures makes { length text.now ≤ 120 → seat.new.view.core.makes
+    ensures makes { seat.new.view.core.makes
         ≤ seat.old.view.core.makes + div_ceil (length text.now) 120 }
     ensures room { HasRoom seat.new.view.core }
     ensures rest { IsAtRest domain.now seat.new }
@@ -108,7 +108,7 @@ fn add<R: Wait, S, P: HasDirectory<S>>(
         seat.old.view.core.weaks seat.old seat.new }
     ensures grows { GrowsIn P.seen P.with_seen (interned_by result)
         seat.old.view.client seat.new.view.client }
-    ensures makes { IsAlone (text_of sought.now.text.now) → seat.new.view.core.makes
+    ensures makes { seat.new.view.core.makes
         ≤ seat.old.view.core.makes + div_ceil (length sought.now.text.now) 120 }
     ensures room { HasRoom seat.new.view.core }
     ensures rest { IsAtRest domain.now seat.new }
@@ -161,7 +161,7 @@ fn place<R: Wait, S, P: HasDirectory<S>>(
         seat.old.view.core.weaks seat.old seat.new }
     ensures grows { GrowsIn P.seen P.with_seen (placed_by result)
         seat.old.view.client seat.new.view.client }
-    ensures makes { UsesNoMake (text_of sought.now.text.now) seat.old seat.new }
+    ensures makes { seat.new.view.core.makes ≡ seat.old.view.core.makes }
     ensures room { HasRoom seat.new.view.core }
     ensures rest { IsAtRest domain.now seat.new }
 {

@@ -13,12 +13,11 @@
 //! All calls are over each protocol that has a directory as a part, and change nothing else of the
 //! seat's view.
 //!
-//! It isn't promised that a call which may wait returns, nor how many makes an intern uses of a
-//! text of more than 120 bytes.
+//! It isn't promised that a call which may wait returns.
 //!
 //! ```text
 //! let directory = Directory::over(0, 10);                              // weak cells 0 to 9
-//! match find(&rt, &domain, &mut seat, &directory, b"ab")? {            // else Spent
+//! match find(&rt, &domain, &mut seat, &directory, b"ab")? {      // else Spent
 //!     Some(record) => ..,                                              // its live record at a step of the call
 //!     None => ..,                                                      // it had none at a step of the call
 //! }

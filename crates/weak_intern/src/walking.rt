@@ -6,7 +6,7 @@ ghost use Rattle.directory_calls.specs.Directories.{CanCount, IsOver, area_of};
 ghost use Rattle.directory_calls.specs.Learning.{LearnsIn};
 ghost use Rattle.record_making.specs.Texts.{text_of};
 ghost use Rattle.text_reading.specs.Reading.{HasTwoFree};
-ghost use Rattle.weak_intern.specs.Sought.{HasPieces, IsSought, UsesNoMake};
+ghost use Rattle.weak_intern.specs.Sought.{HasPieces, IsSought};
 ghost use Rattle.directory_calls.specs.Steps.{Leaves, with_found};
 ghost use Rattle.weak_intern.specs.Walking.{ComesTo, EndsAround, used_by, walked_by};
 
@@ -56,7 +56,7 @@ pub(crate) fn seek<R: Wait, S, P: HasDirectory<S>>(
         seat.old.view.core.weaks seat.old seat.new }
     ensures learns { LearnsIn P.seen P.with_seen (used_by intern result)
         seat.old.view.client seat.new.view.client }
-    ensures makes { UsesNoMake (text_of sought.now.text.now) seat.old seat.new }
+    ensures makes { seat.new.view.core.makes ≡ seat.old.view.core.makes }
     ensures room { HasRoom seat.new.view.core }
     ensures rest { IsAtRest domain.now seat.new }
 {

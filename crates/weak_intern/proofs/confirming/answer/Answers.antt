@@ -3,7 +3,7 @@ use Rattle.directory_law.specs.Lessons.{spent}
 use Rattle.directory_calls.specs.Directories.{CanCount, area_of}
 use Rattle.directory_calls.proofs.Parts.{part_as, place_of}
 use Rattle.plain_state.specs.declared.act.EventPlace.TheVariants.{Field}
-use Rattle.weak_intern.proofs.Confirmed.{answer_learns, answer_live, answer_ready, look_leaves, look_rest}
+use Rattle.weak_intern.proofs.Confirmed.{answer_learns, answer_live, answer_ready, look_leaves, look_makes, look_rest}
 use Rattle.weak_intern.proofs.confirming.answer.Goals as goal
 
 pub look-requires-clause-deed : goal.look-requires-clause-deed
@@ -48,6 +48,11 @@ returns-clause-learns g c =
     (area_of (g.P.Part.part c.args.domain.now.protocol)) (Field c.args.slot 1)
     c.new-deed.result.deed.intern c.args.slot c.args.seat.now c.requires.owned
     c.look.new.seat c.look.result c.look.ensures)
+
+pub returns-clause-makes : goal.returns-clause-makes
+returns-clause-makes g c =
+    look_makes g.P.Kind.PayloadKind.fits c.args.domain.now (Field c.args.slot 1) _ _
+    c.args.seat.now c.look.new.seat c.look.result c.look.ensures
 
 pub returns-clause-rest : goal.returns-clause-rest
 returns-clause-rest g c =

@@ -1,4 +1,4 @@
-use Rattle.std.proofs.Common.{refl, subst, sym}
+use Rattle.std.proofs.Common.{refl, subst, sym, ◌∙◌}
 use Rattle.directory_law.specs.Law.{IsBound}
 use Rattle.directory_law.specs.Payloads.{Text}
 use Rattle.directory_calls.specs.Steps.{AtStep}
@@ -7,10 +7,10 @@ use Rattle.directory_calls.specs.Directories.{area_of}
 use Rattle.directory_calls.proofs.Parts.{place_of}
 use Rattle.directory_law.proofs.Bytes.{text_is}
 use Rattle.record_making.specs.Texts.{text_of}
-use Rattle.record_making.proofs.Dropped.{dropped}
+use Rattle.record_making.proofs.Dropped.{dropped, makes_still}
 use Rattle.text_reading.specs.Reading.{HasRead}
 use Rattle.weak_intern.proofs.Meeting.{is_not}
-use Rattle.weak_intern.proofs.Whole.{answered_leaves, answered_learns, answered_met, dropped_learns, dropped_leaves, dropped_met, saw_read}
+use Rattle.weak_intern.proofs.Whole.{answered_leaves, answered_learns, answered_met, dropped_learns, dropped_leaves, dropped_met, owns_read, quota_read, saw_read}
 use Rattle.weak_intern.proofs.confirming.confirm.Goals as goal
 
 pub answer-requires-clause-saw : goal.answer-requires-clause-saw
@@ -116,3 +116,9 @@ returns-clause-learns g c =
     g.P.Kind.PayloadKind.fits c.args.domain.now c.drop_strong.ensures.dropped
     c.drop_strong.ensures.objects)
     c.drop_strong.ensures.client
+
+pub returns-clause-makes : goal.returns-clause-makes
+returns-clause-makes g c =
+    makes_still c.has_text.new.seat c.drop_strong.new.seat c.args.strong.slot
+    g.P.Kind.PayloadKind.fits c.args.domain.now c.drop_strong.ensures.dropped
+    ∙ c.has_text.ensures.makes

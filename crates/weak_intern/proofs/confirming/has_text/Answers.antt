@@ -19,3 +19,6 @@ returns-clause-reads g c =
           read.2.is read.1 c.requires.sought.small_bytes c.requires.sought.text c.eq.result
           c.eq.ensures,
     )
+
+pub returns-clause-makes : goal.returns-clause-makes
+returns-clause-makes g c = c.read_text-size.ensures.makes

@@ -236,28 +236,31 @@ returns-in-Ok-Some-clause-knows g c =
 
 pub returns-in_err-candidate-clause-makes : goal.returns-in_err-candidate-clause-makes
 returns-in_err-candidate-clause-makes g c =
-    λ one. c.make_record.ensures.makes
+    c.make_record.ensures.makes
 
 pub returns-in-Ok-None-clause-makes : goal.returns-in-Ok-None-clause-makes
 returns-in-Ok-None-clause-makes g c =
-    λ one. let p = c.place.ensures.makes one in omega (arith, c.make_record.ensures.makes, p)
+    omega (arith, c.make_record.ensures.makes, c.place.ensures.makes)
 
 pub returns-in-Ok-Some-clause-makes : goal.returns-in-Ok-Some-clause-makes
 returns-in-Ok-Some-clause-makes g c =
-    λ one.
-    let p = c.place.ensures.makes one in
-    let q = makes_still c.place.new.seat c.drop_strong.new.seat c.in_ok-candidate.candidate.slot
-    g.P.Kind.PayloadKind.fits c.args.domain.now c.drop_strong.ensures.dropped in
-    omega (arith, c.make_record.ensures.makes, p, q)
+    omega (
+      arith,
+      c.make_record.ensures.makes,
+      c.place.ensures.makes,
+      makes_still c.place.new.seat c.drop_strong.new.seat c.in_ok-candidate.candidate.slot
+          g.P.Kind.PayloadKind.fits c.args.domain.now c.drop_strong.ensures.dropped,
+    )
 
 pub returns-in-Err-clause-makes : goal.returns-in-Err-clause-makes
 returns-in-Err-clause-makes g c =
-    λ one.
-    let p = c.place.ensures.makes one in
-    let q = makes_still c.place.new.seat c.drop_strong-in-Err.new.seat
-    c.in_ok-candidate.candidate.slot
-    g.P.Kind.PayloadKind.fits c.args.domain.now c.drop_strong-in-Err.ensures.dropped in
-    omega (arith, c.make_record.ensures.makes, p, q)
+    omega (
+      arith,
+      c.make_record.ensures.makes,
+      c.place.ensures.makes,
+      makes_still c.place.new.seat c.drop_strong-in-Err.new.seat c.in_ok-candidate.candidate.slot
+          g.P.Kind.PayloadKind.fits c.args.domain.now c.drop_strong-in-Err.ensures.dropped,
+    )
 
 pub place-requires-clause-free : goal.place-requires-clause-free
 place-requires-clause-free g c =

@@ -7,7 +7,7 @@ use Rattle.directory_calls.specs.Steps.{handle_by}
 use Rattle.record_making.specs.Texts.{text_of}
 use Rattle.record_making.proofs.Noted.{misses_after}
 use Rattle.record_making.proofs.Packed.{is_text_of}
-use Rattle.weak_intern.proofs.Heads.{alone_short, sought_is}
+use Rattle.weak_intern.proofs.Heads.{sought_is}
 use Rattle.weak_intern.proofs.Interned.{absent_learns, absent_leaves, absent_none, added_grows, added_leaves, added_none, all_interns, all_knows, answered_owned, walked_interns, walked_knows, walked_owned}
 use Rattle.directory_calls.proofs.Parts.{place_of}
 use Rattle.weak_intern.proofs.interning.intern.Goals as goal
@@ -180,20 +180,15 @@ returns-in-Ok-Absent-clause-owned g c =
 
 pub returns-in-Ok-Absent-clause-makes : goal.returns-in-Ok-Absent-clause-makes
 returns-in-Ok-Absent-clause-makes g c =
-    λ short.
-    let one = alone_short c.args.text.now short in
-    let s = c.seek.ensures.makes one in let a = c.add.ensures.makes one in
-    omega (arith, s, a)
+    omega (arith, c.seek.ensures.makes, c.add.ensures.makes)
 
 pub returns-in-Ok-Record-clause-makes : goal.returns-in-Ok-Record-clause-makes
 returns-in-Ok-Record-clause-makes g c =
-    λ short.
-    let s = c.seek.ensures.makes (alone_short c.args.text.now short) in omega (arith, s)
+    omega (arith, c.seek.ensures.makes)
 
 pub returns-in-Err-clause-makes : goal.returns-in-Err-clause-makes
 returns-in-Err-clause-makes g c =
-    λ short.
-    let s = c.seek.ensures.makes (alone_short c.args.text.now short) in omega (arith, s)
+    omega (arith, c.seek.ensures.makes)
 
 pub add-requires-clause-free : goal.add-requires-clause-free
 add-requires-clause-free g c =

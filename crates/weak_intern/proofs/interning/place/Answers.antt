@@ -63,7 +63,7 @@ returns-in_err-look-clause-leaves g c =
     c.args.domain.now.protocol))
     (text_of c.args.sought.now.text.now) c.args.candidate.now.slot c.loop.seat c.bind.new.seat
     c.in_ok-bound.bound c.if-bound.false c.in_ok-bound.ensures.binds)
-    c.bind.ensures.leaves (λ one. c.bind.ensures.makes) c.bind.ensures.room c.bind.ensures.rest)
+    c.bind.ensures.leaves c.bind.ensures.makes c.bind.ensures.room c.bind.ensures.rest)
     c.look.new.seat
     c.from_residual-in_err-look.result p.0 p.1 c.in_err-look.ensures.leaves
 
@@ -87,7 +87,7 @@ returns-in_err-look-clause-grows g c =
     c.args.domain.now.protocol))
     (text_of c.args.sought.now.text.now) c.args.candidate.now.slot c.loop.seat c.bind.new.seat
     c.in_ok-bound.bound c.if-bound.false c.in_ok-bound.ensures.binds)
-    c.bind.ensures.leaves (λ one. c.bind.ensures.makes) c.bind.ensures.room c.bind.ensures.rest)
+    c.bind.ensures.leaves c.bind.ensures.makes c.bind.ensures.room c.bind.ensures.rest)
     c.look.new.seat
     c.from_residual-in_err-look.result p.0 p.1 c.in_err-look.ensures.learns
 
@@ -111,7 +111,7 @@ loop-preserved-in-Null g c = (
       c.args.domain.now.protocol))
       (text_of c.args.sought.now.text.now) c.args.candidate.now.slot c.loop.seat c.bind.new.seat
       c.in_ok-bound.bound c.if-bound.false c.in_ok-bound.ensures.binds)
-      c.bind.ensures.leaves (λ one. c.bind.ensures.makes) c.bind.ensures.room c.bind.ensures.rest)
+      c.bind.ensures.leaves c.bind.ensures.makes c.bind.ensures.room c.bind.ensures.rest)
       c.look.new.seat
       c.in_ok-look.field-0 c.in-Null.is c.in_ok-look.ensures.leaves c.in_ok-look.ensures.learns
       c.look.ensures.makes c.look.ensures.room c.look.ensures.rest,
@@ -135,7 +135,7 @@ returns-in-Record-clause-places g c =
     c.args.domain.now.protocol))
     (text_of c.args.sought.now.text.now) c.args.candidate.now.slot c.loop.seat c.bind.new.seat
     c.in_ok-bound.bound c.if-bound.false c.in_ok-bound.ensures.binds)
-    c.bind.ensures.leaves (λ one. c.bind.ensures.makes) c.bind.ensures.room c.bind.ensures.rest)
+    c.bind.ensures.leaves c.bind.ensures.makes c.bind.ensures.room c.bind.ensures.rest)
     c.look.new.seat
     c.cell_on-cell.result c.in_ok-look.field-0 c.in-Record.strong c.in-Record.is
     c.in_ok-look.ensures.meets c.in_ok-look.ensures.learns).0
@@ -158,7 +158,7 @@ returns-in-Record-clause-leaves g c =
     c.args.domain.now.protocol))
     (text_of c.args.sought.now.text.now) c.args.candidate.now.slot c.loop.seat c.bind.new.seat
     c.in_ok-bound.bound c.if-bound.false c.in_ok-bound.ensures.binds)
-    c.bind.ensures.leaves (λ one. c.bind.ensures.makes) c.bind.ensures.room c.bind.ensures.rest)
+    c.bind.ensures.leaves c.bind.ensures.makes c.bind.ensures.room c.bind.ensures.rest)
     c.look.new.seat
     c.in_ok-look.field-0 c.in-Record.strong c.in-Record.is c.in_ok-look.ensures.leaves
 
@@ -180,7 +180,7 @@ returns-in-Record-clause-grows g c =
     c.args.domain.now.protocol))
     (text_of c.args.sought.now.text.now) c.args.candidate.now.slot c.loop.seat c.bind.new.seat
     c.in_ok-bound.bound c.if-bound.false c.in_ok-bound.ensures.binds)
-    c.bind.ensures.leaves (λ one. c.bind.ensures.makes) c.bind.ensures.room c.bind.ensures.rest)
+    c.bind.ensures.leaves c.bind.ensures.makes c.bind.ensures.room c.bind.ensures.rest)
     c.look.new.seat
     c.cell_on-cell.result c.in_ok-look.field-0 c.in-Record.strong c.in-Record.is
     c.in_ok-look.ensures.meets c.in_ok-look.ensures.learns).1
@@ -205,7 +205,7 @@ loop-preserved g c = (
       c.args.domain.now.protocol))
       (text_of c.args.sought.now.text.now) c.args.candidate.now.slot c.loop.seat c.bind.new.seat
       c.in_ok-bound.bound c.if-bound.false c.in_ok-bound.ensures.binds)
-      c.bind.ensures.leaves (λ one. c.bind.ensures.makes) c.bind.ensures.room c.bind.ensures.rest)
+      c.bind.ensures.leaves c.bind.ensures.makes c.bind.ensures.room c.bind.ensures.rest)
       c.look.new.seat
       c.cell_on-cell.result c.next_on-passed.result c.in_ok-look.field-0 c.in-Other.is
       (at_cell (area_of (g.P.Part.part c.args.domain.now.protocol)) (text_of
@@ -246,26 +246,26 @@ returns-in-Record-clause-knows g c =
     c.args.domain.now.protocol))
     (text_of c.args.sought.now.text.now) c.args.candidate.now.slot c.loop.seat c.bind.new.seat
     c.in_ok-bound.bound c.if-bound.false c.in_ok-bound.ensures.binds)
-    c.bind.ensures.leaves (λ one. c.bind.ensures.makes) c.bind.ensures.room c.bind.ensures.rest)
+    c.bind.ensures.leaves c.bind.ensures.makes c.bind.ensures.room c.bind.ensures.rest)
     c.look.new.seat
     c.cell_on-cell.result c.in_ok-look.field-0 c.in-Record.strong c.in-Record.is
     c.in_ok-look.ensures.meets
 
 pub returns-in_err-bound-clause-makes : goal.returns-in_err-bound-clause-makes
 returns-in_err-bound-clause-makes g c =
-    λ one. c.bind.ensures.makes ∙ c.loop.invariant.2.makes one
+    c.bind.ensures.makes ∙ c.loop.invariant.2.makes
 
 pub returns-then-bound-clause-makes : goal.returns-then-bound-clause-makes
 returns-then-bound-clause-makes g c =
-    λ one. c.bind.ensures.makes ∙ c.loop.invariant.2.makes one
+    c.bind.ensures.makes ∙ c.loop.invariant.2.makes
 
 pub returns-in_err-look-clause-makes : goal.returns-in_err-look-clause-makes
 returns-in_err-look-clause-makes g c =
-    λ one. c.look.ensures.makes one ∙ c.bind.ensures.makes ∙ c.loop.invariant.2.makes one
+    c.look.ensures.makes ∙ c.bind.ensures.makes ∙ c.loop.invariant.2.makes
 
 pub returns-in-Record-clause-makes : goal.returns-in-Record-clause-makes
 returns-in-Record-clause-makes g c =
-    λ one. c.look.ensures.makes one ∙ c.bind.ensures.makes ∙ c.loop.invariant.2.makes one
+    c.look.ensures.makes ∙ c.bind.ensures.makes ∙ c.loop.invariant.2.makes
 
 pub look-requires-clause-free : goal.look-requires-clause-free
 look-requires-clause-free g c =

@@ -57,7 +57,7 @@ returns-in-Some-clause-learns g c =
 
 pub returns-in-Some-clause-makes : goal.returns-in-Some-clause-makes
 returns-in-Some-clause-makes g c =
-    λ one. c.meet.ensures.makes one ∙ c.see.ensures.makes
+    c.meet.ensures.makes ∙ c.see.ensures.makes
 
 pub meet-requires-clause-free : goal.meet-requires-clause-free
 meet-requires-clause-free g c =

@@ -1,9 +1,10 @@
-use Rattle.weak_intern.proofs.Heads.{short_alone}
-use Rattle.std.proofs.Common.{ap, arith, sym, ◌∙◌}
+use Rattle.std.proofs.Common.{ap, arith, sym, ◌∙◌, Some, None}
+use Rattle.std.specs.Prelude.{Err}
 use Rattle.core_events.specs.declared.view.CoreView.{CoreView}
 use Rattle.domain_rule.specs.Views.{object_in}
 use Rattle.directory_calls.specs.Directories.{area_of}
 use Rattle.directory_calls.proofs.Parts.{place_of}
+use Rattle.directory_law.proofs.Bytes.{text_is}
 use Rattle.record_making.specs.Texts.{text_of}
 use Rattle.weak_intern.proofs.Meeting.{head_still, is_not, met_leaves, met_then, other_leaves, other_met, seen_still}
 use Rattle.weak_intern.proofs.Sights.{free_still}
@@ -38,8 +39,7 @@ returns-then-not-is_payload-clause-leaves g c =
 
 pub returns-then-not-is_payload-clause-makes : goal.returns-then-not-is_payload-clause-makes
 returns-then-not-is_payload-clause-makes g c =
-    λ one. ap (λ (v : CoreView). v.makes) c.drop_weak.ensures.dropped.1.core
-    ∙ c.is_payload.ensures.makes
+    ap (λ (v : CoreView). v.makes) c.drop_weak.ensures.dropped.1.core ∙ c.is_payload.ensures.makes
 
 pub meet_short-requires-clause-saw : goal.meet_short-requires-clause-saw
 meet_short-requires-clause-saw g c =
@@ -92,7 +92,7 @@ returns-then-sought-le120-clause-leaves g c =
 
 pub returns-then-sought-le120-clause-makes : goal.returns-then-sought-le120-clause-makes
 returns-then-sought-le120-clause-makes g c =
-    λ one. c.meet_short.ensures.makes ∙ c.is_payload.ensures.makes
+    c.meet_short.ensures.makes ∙ c.is_payload.ensures.makes
 
 pub meet_long-requires-clause-saw : goal.meet_long-requires-clause-saw
 meet_long-requires-clause-saw g c =
@@ -145,11 +145,7 @@ returns-clause-leaves g c =
 
 pub returns-clause-makes : goal.returns-clause-makes
 returns-clause-makes g c =
-    λ one.
-    let few = short_alone c.args.sought.now.text.now (text_of c.args.sought.now.text.now)
-    c.requires.sought.text one in
-    let more = c.if-sought-le120.false in
-    absurd (omega (arith, few, more))
+    c.meet_long.ensures.makes ∙ c.is_payload.ensures.makes
 
 pub meet_long-requires-clause-free : goal.meet_long-requires-clause-free
 meet_long-requires-clause-free g c =

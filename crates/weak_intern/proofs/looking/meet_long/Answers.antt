@@ -1,4 +1,4 @@
-use Rattle.std.proofs.Common.{ap, refl, subst, sym, ◌∙◌, None}
+use Rattle.std.proofs.Common.{ap, refl, subst, sym, ◌∙◌, Some, None}
 use Rattle.std.specs.Prelude.{Err}
 use Rattle.directory_calls.specs.Directories.{area_of}
 use Rattle.directory_calls.proofs.Going.{leaves_none}
@@ -83,6 +83,10 @@ returns-in-Ok-clause-learns g c =
     g.P.Part.puts_over)
     (taken c.args.intern c.confirm.result) c.args.seat.now.view.client c.raise.new.seat.view.client
     c.confirm.new.seat.view.client c.in-Ok.ensures.learns c.confirm.ensures.learns
+
+pub returns-in-Ok-clause-makes : goal.returns-in-Ok-clause-makes
+returns-in-Ok-clause-makes g c =
+    c.confirm.ensures.makes ∙ c.raise.ensures.makes
 
 pub returns-in-Err-Ended-clause-meets : goal.returns-in-Err-Ended-clause-meets
 returns-in-Err-Ended-clause-meets g c =

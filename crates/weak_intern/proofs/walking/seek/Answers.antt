@@ -130,19 +130,19 @@ returns-clause-comes g c =
 
 pub returns-in_err-look-clause-makes : goal.returns-in_err-look-clause-makes
 returns-in_err-look-clause-makes g c =
-    λ one. c.look.ensures.makes one ∙ c.loop-passed.invariant.makes one
+    c.look.ensures.makes ∙ c.loop-passed.invariant.makes
 
 pub returns-in-Null-clause-makes : goal.returns-in-Null-clause-makes
 returns-in-Null-clause-makes g c =
-    λ one. c.look.ensures.makes one ∙ c.loop-passed.invariant.makes one
+    c.look.ensures.makes ∙ c.loop-passed.invariant.makes
 
 pub returns-in-Record-clause-makes : goal.returns-in-Record-clause-makes
 returns-in-Record-clause-makes g c =
-    λ one. c.look.ensures.makes one ∙ c.loop-passed.invariant.makes one
+    c.look.ensures.makes ∙ c.loop-passed.invariant.makes
 
 pub returns-clause-makes : goal.returns-clause-makes
 returns-clause-makes g c =
-    λ one. c.come_around.ensures.makes ∙ c.loop-passed.invariant.makes one
+    c.come_around.ensures.makes ∙ c.loop-passed.invariant.makes
 
 pub look-requires-clause-free : goal.look-requires-clause-free
 look-requires-clause-free g c =
