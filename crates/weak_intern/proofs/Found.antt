@@ -30,7 +30,7 @@ use Rattle.directory_calls.specs.Learning.{LearnsIn}
 use Rattle.directory_calls.specs.Steps.{AtStep, Leaves, with_found}
 use Rattle.weak_intern.specs.declared.walking.Walk.{Walk}
 use Rattle.weak_intern.specs.declared.walking.Walk.TheVariants as walk
-use Rattle.weak_intern.specs.Walking.{ComesTo, EndsAround, Meets, met, taken, used_by}
+use Rattle.weak_intern.specs.Walking.{ComesTo, EndsAround, Meets, met, taken, used_by, walked_by}
 use Rattle.directory_calls.proofs.Going.{at_step, from_earlier, holds_by, leaves_as, leaves_core, leaves_none, leaves_then, seat_same}
 use Rattle.directory_calls.proofs.Learnt.{passes_still, walked_still}
 use Rattle.directory_calls.proofs.Parts.{LearnsBy, Place, lifts, part_none, tells, zero_then}
@@ -200,6 +200,13 @@ module _ {P V : Type 0} (d : DomainState P) (l : Place V) (z : Area) (text : Tex
     refused_learns intern r e refused more =
         subst (λ x. LearnsBy l (used_by intern x) a.view.client c.view.client) (sym refused)
         (walk_learns 0 more)
+
+    pub refused_leaves : {E : Type 0} (r : Result Walk E) (e : E) → r ≡ Err e
+        → Leaves b.view.core.owned b.view.core.weaks b c
+        → Leaves (with_found (walked_by r) a.view.core.owned) a.view.core.weaks a c
+    refused_leaves r e refused second =
+        subst (λ x. Leaves (with_found (walked_by x) a.view.core.owned) a.view.core.weaks a c)
+        (sym refused) (walk_leaves None second)
 
     pub null_leaves : (found : Sight) → found ≡ sight.Null
         → Leaves (with_found (met found) b.view.core.owned) b.view.core.weaks b c

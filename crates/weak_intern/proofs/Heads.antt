@@ -1,13 +1,9 @@
 -- What a walk looks for, and short texts.
 use Rattle.std.proofs.Common.{◌≡◌, ℕ, ◌<◌, ◌≤◌, ◌-◌, ◌^◌, List, [], ◌∷◌, drop, length, take, refl, sym, ap, ◌∙◌, arith}
 use Rattle.std.specs.Prelude.{slice_index_or}
-use Rattle.std.proofs.lemmas.List.{length-drop, take_all}
-use Rattle.std.proofs.lemmas.List.Elements.{All-from_get_or}
-use Rattle.plain_state.specs.Records.{IsRecordOf, eight_bytes, word_of_bytes}
 use Rattle.directory_law.specs.Payloads.{IsRest, IsText, Text, size}
-use Rattle.directory_law.specs.Bytes.{IsTextOf}
 use Rattle.directory_law.specs.Places.{hash_on}
-use Rattle.directory_law.proofs.Bytes.{text_pieces, text_place}
+use Rattle.directory_law.proofs.Bytes.{text_place}
 use Rattle.record_making.specs.Texts.{parts_after, parts_of, payload_of, text_of}
 use Rattle.record_making.proofs.Packed.{begins_so, bytes_small, is_text_of, packs}
 use Rattle.weak_intern.specs.Sought.{IsSought}
@@ -28,6 +24,7 @@ pub sought_is : (bytes head : List ℕ) (hash : ℕ) → ((i : ℕ) → slice_in
 sought_is bytes head hash small some most heads hashes low =
     let p = packs (length bytes) (take 120 bytes) in
     let text = is_text_of bytes some most in record {
+      small_bytes = bytes_small bytes small;
       text = text;
       begins = (parts_of (parts_after (length bytes)) (drop 120 bytes), begins_so bytes head heads);
       words = ap length heads ∙ p.words;

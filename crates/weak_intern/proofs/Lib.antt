@@ -9,4 +9,8 @@ pub mod Bound
 pub mod Placed
 pub mod Added
 pub mod Interned
+pub mod Same
+pub mod Sights
+pub mod Whole
+pub mod Confirmed
 pub mod Drawn

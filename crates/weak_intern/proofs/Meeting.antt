@@ -17,19 +17,20 @@ use Rattle.protected_loads.proofs.Telling.{holds_has}
 use Rattle.directory_law.specs.declared.view.Seen.{Seen}
 use Rattle.directory_law.specs.declared.view.View.{View}
 use Rattle.directory_law.specs.Cells.{Area}
-use Rattle.directory_law.specs.Law.{IsBound, NoneBound}
+use Rattle.directory_law.specs.Law.{IsBound}
 use Rattle.directory_law.specs.Payloads.{IsText, Text, size}
 use Rattle.directory_law.specs.Views.{In, note}
 use Rattle.weak_intern.specs.declared.looking.Sight.{Sight}
 use Rattle.weak_intern.specs.declared.looking.Sight.TheVariants as sight
-use Rattle.weak_intern.specs.Seeing.{BeginsText, HasBegun, HasSeenAt, HasSeenIn, Sees, begun, seen_in}
+use Rattle.text_reading.specs.Reading.{HasBegun, begun}
+use Rattle.weak_intern.specs.Seeing.{BeginsText, HasSeenAt, HasSeenIn, Sees, seen_in}
 use Rattle.weak_intern.specs.Knowing.{Knows}
 use Rattle.directory_calls.specs.Steps.{AtStep, Leaves, with_found}
 use Rattle.weak_intern.specs.Walking.{Meets, MeetsIn}
 use Rattle.directory_calls.proofs.Going.{also, from_earlier, holds_by, leaves_as, leaves_less, leaves_then, seat_same}
 use Rattle.weak_intern.proofs.Heads.{short_text}
-use Rattle.directory_calls.proofs.Learnt.{walked_still}
-use Rattle.directory_calls.proofs.Parts.{LearnsBy, Place}
+use Rattle.directory_calls.proofs.Parts.{LearnsBy, Place, part_none}
+use Rattle.weak_intern.proofs.Sights.{meets_from}
 
 -- a test that failed
 pub is_not : (b : Bool) → b ≡ false → b ≡ true → ⊥
@@ -80,19 +81,32 @@ module _ {P V : Type 0} (d : DomainState P) (l : Place V) (z : Area) (w : SlotId
     known : object_in b.view w ≡ object_in a.view w
     known = let m = same_weakly in first.knows w (omega (arith, has)) (omega (arith, m))
 
+    seen_at : (n : ℕ) → HasSeenAt l.seen n w a → b.view.client ≡ a.view.client
+        → HasSeenAt l.seen n w b
+    seen_at n saw client =
+        subst (λ (o : Object). In (record {
+          cell = n;
+          slot = w;
+          life = o.life;
+          head = o.payload;
+        }) (l.seen b.view.client).seen) (sym known)
+        (subst (λ (v : V). In (seen_in n w a) (l.seen v).seen) (sym client) saw)
+
     pub seen_still : HasSeenIn l.seen w a → b.view.client ≡ a.view.client → HasSeenIn l.seen w b
     seen_still saw client = (saw.0, seen_at saw.0 saw.1 client)
-      where
-        seen_at : (n : ℕ) → HasSeenAt l.seen n w a → b.view.client ≡ a.view.client
-            → HasSeenAt l.seen n w b
-        seen_at n saw' client' =
-            subst (λ (o : Object). In (record {
-              cell = n;
-              slot = w;
-              life = o.life;
-              head = o.payload;
-            }) (l.seen b.view.client).seen) (sym known)
-            (subst (λ (v : V). In (seen_in n w a) (l.seen v).seen) (sym client') saw')
+
+    pub head_still : (object_in a.view w).payload ≡ head → (object_in b.view w).payload ≡ head
+    head_still is = ap (λ (o : Object). o.payload) known ∙ is
+
+    -- what is met then
+    pub met_then : {E : Type 0} → b.view.client ≡ a.view.client → (r : Result Sight E)
+        → IfOk r (λ found. MeetsIn l.seen d z w text found b c)
+        → IfOk r (λ found. MeetsIn l.seen d z w text found a c)
+    met_then client (Ok found) meets = λ k saw.
+        meets_from d l z a b c (seat_same a b first.same) first.goes
+        (subst (λ v. LearnsBy l 0 a.view.client v) (sym client) (part_none l a.view.client))
+        k text found (meets k (seen_at k saw client))
+    met_then client (Err error) meets = tt
 
     -- whatever was gained, with the weak reference given up
     pub met_leaves : (o : Option SlotId)
@@ -234,17 +248,9 @@ module _ {P V : Type 0} (a b c : SeatState V) (d : DomainState P) (l : Place V) 
   pub look_meets : (n : ℕ) (text : Text) (found : Sight)
       → HasSeenAt l.seen n w b → LearnsBy l 0 a.view.client b.view.client
       → MeetsIn l.seen d z w text found b c → Meets l.seen d z n text found a c
-  look_meets n text sight.Null saw learns meets = λ t m walked at.
-      from_earlier d (λ p. NoneBound z p t) a b c
-      (seat_same a b first.same) first.goes
-      (meets n saw t m (walked_still 0 z (l.seen a.view.client) (l.seen b.view.client) t m
-      learns.part walked) at)
-  look_meets n text sight.Other saw learns meets = meets n saw
-  look_meets n text (sight.Record strong) saw learns meets = (
-    from_earlier d (λ p. IsBound z p text strong.slot) a b c
-        (seat_same a b first.same) first.goes (meets n saw).0,
-    (meets n saw).1,
-  )
+  look_meets n text found saw learns meets =
+      meets_from d l z a b c (seat_same a b first.same) first.goes learns n text found
+      (meets n saw)
 
   pub look_met : {E : Type 0} (n : ℕ) (text : Text) (r : Result Sight E)
       → HasSeenAt l.seen n w b → LearnsBy l 0 a.view.client b.view.client

@@ -36,7 +36,8 @@ use Rattle.directory_law.specs.Lessons.{UpgradeReady, UpgradeTells, spent, start
 use Rattle.directory_law.specs.Steps.{life_in, life_of, payload_in, payload_of, slot_in}
 use Rattle.directory_protocol.specs.Keeping.{KeepsAll, MindsNone}
 use Rattle.directory_calls.specs.Directories.{CanCount}
-use Rattle.weak_intern.specs.Seeing.{BeginsText, HasBegun, HasSeenIn}
+use Rattle.text_reading.specs.Reading.{HasBegun}
+use Rattle.weak_intern.specs.Seeing.{BeginsText, HasSeenIn}
 use Rattle.directory_calls.specs.Steps.{AtStep, GoesOn, Leaves, handle_by, with_found}
 use Rattle.weak_intern.specs.Walking.{raised_by}
 use Rattle.directory_calls.proofs.Going.{also, at_step, holds_by, leaves_as, leaves_core, leaves_less, leaves_none, leaves_then, to_later}

@@ -9,8 +9,8 @@ use Rattle.directory_law.specs.declared.view.View.{View}
 use Rattle.directory_law.specs.Cells.{Area}
 use Rattle.directory_law.specs.Lessons.{drawn}
 
--- The seat has drawn ticket t: that is one add, and the directory's interns of t are the seat's. What it has beside,
--- and what it knows of the objects that it holds, is as it was.
+-- The seat has drawn ticket t: that is one add, and the directory's interns of t are the seat's.
+-- What it has beside, and what it knows of the objects that it holds, is as it was.
 pub record Draws {V : Type 0} (seen : V → View) (with_seen : V → View → V) (z : Area) (t : ℕ)
     (old new : SeatState V) : Type 0 where
   pub moves : List Move

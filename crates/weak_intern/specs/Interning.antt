@@ -1,20 +1,18 @@
 -- What an intern does, and what it adds to the view of its seat.
-use Rattle.std.specs.Prelude.{Bool, true, false, ◌≡◌, ◌⊎◌, ◌+◌, ◌<◌, ℕ, List, [], ◌∷◌, Option, Some, None, Result, Ok, Err}
+use Rattle.std.specs.Prelude.{Bool, true, false, ◌≡◌, ◌⊎◌, ◌+◌, ◌<◌, ℕ, List, Option, Some, None, Result, Ok, Err}
 use Rattle.plain_state.specs.declared.slot.SlotId.{SlotId}
-use Rattle.domain_rule.specs.Views.{object_in}
 use Rattle.acquire_retire.specs.Domains.{DomainState}
 use Rattle.acquire_retire.specs.Seats.{SeatState}
 use Rattle.counted_handles.specs.Handles.{Handle}
 use Rattle.directory_law.specs.declared.view.Note.{Note}
 use Rattle.directory_law.specs.declared.view.Seen.{Seen}
 use Rattle.directory_law.specs.declared.view.Ran.{Ran}
-use Rattle.directory_law.specs.declared.view.Rope.{Rope}
 use Rattle.directory_law.specs.declared.view.Led.{Led}
 use Rattle.directory_law.specs.declared.view.View.{View}
 use Rattle.directory_law.specs.Cells.{Area, on}
 use Rattle.directory_law.specs.Law.{IsBound}
 use Rattle.directory_law.specs.Making.{bound}
-use Rattle.directory_law.specs.Views.{In, rope}
+use Rattle.directory_law.specs.Views.{In}
 use Rattle.directory_law.specs.Payloads.{Text}
 use Rattle.directory_law.specs.Walks.{Walked}
 use Rattle.directory_protocol.specs.Keeping.{KeepsAll}
@@ -26,8 +24,8 @@ use Rattle.directory_calls.specs.Steps.{AfterStep, AtStep}
 abbrev pub ComesBy : Area → View → Text → ℕ → Type 0
 ComesBy z v text c = (m : ℕ) × Walked z v text m × (on z text m ≡ c)
 
--- where s was put into a cell, it was the live record of this text after a step, and is kept; else the view is as it
--- was
+-- where s was put into a cell, it was the live record of this text after a step, and is kept; else
+-- the view is as it was
 abbrev pub Binds : {P V : Type 0} → (V → View) → (V → View → V) → DomainState P → Area → Text
     → SlotId → Bool → SeatState V → SeatState V → Type 0
 Binds seen with_seen d z text s true old new =

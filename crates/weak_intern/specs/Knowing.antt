@@ -1,5 +1,5 @@
 -- What a seat knows of the text of a record.
-use Rattle.std.specs.Prelude.{ℕ, ◌≡◌, ◌⊎◌, List, [], ◌∷◌}
+use Rattle.std.specs.Prelude.{ℕ, ◌≡◌, ◌⊎◌, List}
 use Rattle.plain_state.specs.declared.slot.SlotId.{SlotId}
 use Rattle.domain_rule.specs.Views.{object_in}
 use Rattle.acquire_retire.specs.Seats.{SeatState}
@@ -10,7 +10,8 @@ use Rattle.directory_law.specs.declared.view.View.{View}
 use Rattle.directory_law.specs.Views.{In, rope}
 use Rattle.weak_intern.specs.Seeing.{HasSeenIn}
 
--- the seat bound this text for s, or saw s in a cell and read the whole text; in the life in which it has s
+-- the seat bound this text for s, or saw s in a cell and read the whole text; in the life in which
+-- it has s
 abbrev pub Knows : {V : Type 0} → (V → View) → SlotId → Text → SeatState V → Type 0
 Knows seen s text seat =
     In (rope s (object_in seat.view s).life text) (seen seat.view.client).kept

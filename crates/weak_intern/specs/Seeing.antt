@@ -1,12 +1,11 @@
 -- What a seat sees in one cell of a directory.
-use Rattle.std.specs.Prelude.{ℕ, ◌≡◌, List, [], ◌∷◌, Option, Some, None}
+use Rattle.std.specs.Prelude.{ℕ, ◌≡◌, ◌∷◌, Option, Some, None}
 use Rattle.plain_state.specs.declared.slot.SlotId.{SlotId}
 use Rattle.plain_state.specs.State.{Plain}
 use Rattle.domain_rule.specs.Views.{object_in}
 use Rattle.acquire_retire.specs.Domains.{DomainState}
 use Rattle.acquire_retire.specs.Seats.{SeatState}
 use Rattle.directory_law.specs.Payloads.{Text, IsText}
-use Rattle.directory_law.specs.declared.view.Ran.{Ran}
 use Rattle.directory_law.specs.declared.view.Seen.{Seen}
 use Rattle.directory_law.specs.declared.view.View.{View}
 use Rattle.directory_law.specs.Views.{In}
@@ -24,20 +23,6 @@ seen_in c s seat = record {
   head = (object_in seat.view s).payload;
 }
 
--- the payload of s is read, as the seat has it
-abbrev pub begun : {V : Type 0} → SlotId → SeatState V → Ran
-begun s seat = record {
-  slot = s;
-  life = (object_in seat.view s).life;
-  before = (object_in seat.view s).payload ∷ [];
-  now = s;
-  now_life = (object_in seat.view s).life;
-}
-
--- the seat reads the text of s last, and has read its head
-abbrev pub HasBegun : {V : Type 0} → (V → View) → SlotId → SeatState V → Type 0
-HasBegun seen s seat = (earlier : List Ran) × ((seen seat.view.client).ran ≡ begun s seat ∷ earlier)
-
 -- the text begins with what the seat has in s, a head which was the live record of such a text
 abbrev pub BeginsText : {V : Type 0} → Area → SlotId → SeatState V → Plain → Type 0
 BeginsText z s seat p =
@@ -54,7 +39,8 @@ module _ {V : Type 0} (seen : V → View) where
   HasSeenIn s seat = (c : ℕ) × HasSeenAt c s seat
 
   module _ {P : Type 0} (d : DomainState P) (z : Area) where
-    -- wherever the walk of a text comes to this cell, the text had no live record, at a step between these states
+    -- wherever the walk of a text comes to this cell, the text had no live record, at a step
+    -- between these states
     abbrev pub EndsAt : ℕ → SeatState V → SeatState V → Type 0
     EndsAt c old new =
         (text : Text) (m : ℕ) → Walked z (seen old.view.client) text m → on z text m ≡ c

@@ -1,5 +1,5 @@
 -- What a walk meets, and what a find answers.
-use Rattle.std.specs.Prelude.{Bool, ℕ, ◌<◌, List, [], ◌∷◌, Option, Some, None, Result, Ok, Err}
+use Rattle.std.specs.Prelude.{Bool, ℕ, ◌<◌, List, Option, Some, None, Result, Ok, Err}
 use Rattle.plain_state.specs.declared.slot.SlotId.{SlotId}
 use Rattle.counted_handles.specs.Handles.{Handle}
 use Rattle.acquire_retire.specs.Domains.{DomainState}
@@ -84,8 +84,8 @@ used_by intern (Ok (walk.Record strong)) = spent intern
 used_by intern (Ok (walk.Absent passed)) = 0
 used_by intern (Err error) = 0
 
--- At a step of the walk its text had this live record; or it had none, and the walk has passed so many cells, fewer
--- than all.
+-- At a step of the walk its text had this live record; or it had none, and the walk has passed so
+-- many cells, fewer than all.
 abbrev pub ComesTo : {P V : Type 0} → (V → View) → DomainState P → Area → Text → Walk
     → SeatState V → SeatState V → Type 0
 ComesTo seen d z text (walk.Record strong) old new =

@@ -20,9 +20,10 @@ use directory_calls::Directory;
 use directory_protocol::{BindHead, DirectoryLaw, HasDirectory};
 use protocol_pairs::InPart;
 
-/// Puts a weak reference to the slot that was noted last into a cell to which the walk of its text comes, where that
-/// cell is null; and whether it was so. Then an intern of the seat is used. `Spent` exactly where the seat has no add
-/// left, and then nothing has changed. At most four steps, and a collect.
+/// Puts a weak reference to the slot that was noted last into a cell to which the walk of its text
+/// comes, where that cell is null; and whether it was so. Then an intern of the seat is used.
+/// `Spent` exactly where the seat has no add left, and then nothing has changed. At most four
+/// steps, and a collect.
 pub(crate) fn bind<S, P: HasDirectory<S>>(
     domain: &Domain<P>,
     seat: &mut Seat<P>,

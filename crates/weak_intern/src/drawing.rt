@@ -13,8 +13,9 @@ use counted_handles::Spent;
 use directory_protocol::{DirectoryLaw, DrawTicket, HasDirectory};
 use protocol_pairs::InPart;
 
-/// Draws the next ticket, and answers its number: from then on the seat has the interns that the directory gives with
-/// it. `Spent` exactly where the seat has no add left, and then nothing has changed. One step.
+/// Draws the next ticket, and answers its number: from then on the seat has the interns that the
+/// directory gives with it. `Spent` exactly where the seat has no add left, and then nothing has
+/// changed. One step.
 pub fn draw<S, P: HasDirectory<S>>(domain: &Domain<P>, seat: &mut Seat<P>) -> Result<u64, Spent>
     requires rest { IsAtRest domain.now seat.old }
     requires free { (own : OwnPart) → P.free domain.now.protocol own plain.Ticket }

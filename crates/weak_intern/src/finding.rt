@@ -6,7 +6,9 @@ ghost use Rattle.control_word.specs.Resting.{IsAtRest, IsSpent};
 ghost use Rattle.directory_calls.specs.Directories.{HasQuota, IsOver, area_of};
 ghost use Rattle.directory_calls.specs.Learning.{LearnsIn};
 ghost use Rattle.directory_calls.specs.Steps.{Leaves, with_found};
+ghost use Rattle.text_reading.specs.Reading.{HasTwoFree};
 ghost use Rattle.weak_intern.specs.Knowing.{KnowsRecord};
+ghost use Rattle.weak_intern.specs.Sought.{HasPieces};
 ghost use Rattle.weak_intern.specs.Walking.{Finds, found_by};
 
 use crate::sought::Sought;
@@ -18,9 +20,11 @@ use directory_protocol::HasDirectory;
 use record_making::{hash_of, head_of};
 use std::sync::Wait;
 
-/// A strong reference to the live record of a text of 1 to 120 bytes, or None where it had none at a step of the call.
-/// `Spent` where the seat has no add left that a look at a cell needs. It looks at each cell at most once, and at one
-/// of them a last time: at most five steps for each try to load, 20 more for each cell, and one.
+/// A strong reference to the live record of a text of 1 to 4,096 bytes, or None where it had none
+/// at a step of the call. `Spent` where the seat has no add left that a look at a cell needs. It
+/// looks at each cell at most once, and at one of them a last time: at most five steps for each try
+/// to load, 20 more for each cell, and one; of a long text some 700 more for each cell whose head
+/// is the text's.
 pub fn find<R: Wait, S, P: HasDirectory<S>>(
     rt: &R,
     domain: &Domain<P>,
@@ -32,7 +36,9 @@ pub fn find<R: Wait, S, P: HasDirectory<S>>(
     requires room { HasRoom seat.old.view.core }
     requires over { IsOver domain.now (P.part domain.now.protocol) directory.now }
     requires quota { HasQuota (P.seen seat.old.view.client) }
-    requires text { (1 ≤ length text.now) × (length text.now ≤ 120) }
+    requires text { (1 ≤ length text.now) × (length text.now ≤ 4096) }
+    requires free { HasTwoFree seat.old.view.core }
+    requires pieces { HasPieces P.Kind.fits }
     ensures finds { IfOk result (λ found. Finds domain.now (area_of (P.part domain.now.protocol))
         text.now (named found) seat.old seat.new) }
     ensures knows { IfOk result (λ found. IfSome found (λ strong.

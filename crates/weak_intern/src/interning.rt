@@ -11,7 +11,8 @@ ghost use Rattle.record_making.specs.Making.{HasNotedLast, MissesWithin, candida
 ghost use Rattle.record_making.specs.Texts.{text_of};
 ghost use Rattle.slot_store.specs.Calls.{HasNoMake};
 ghost use Rattle.weak_intern.specs.Knowing.{Knows, KnowsRecord};
-ghost use Rattle.weak_intern.specs.Sought.{IsSought};
+ghost use Rattle.text_reading.specs.Reading.{HasTwoFree};
+ghost use Rattle.weak_intern.specs.Sought.{HasPieces, IsSought};
 ghost use Rattle.directory_calls.specs.Steps.{AtStep, Leaves, handle_by, with_found};
 ghost use Rattle.weak_intern.specs.Walking.{found_by};
 
@@ -27,9 +28,10 @@ use directory_protocol::HasDirectory;
 use record_making::{MakeError, cell_on, hash_of, head_of, make_record};
 use std::sync::Wait;
 
-/// A strong reference to the live record of a text of 1 to 120 bytes, which it makes where the text has none. It uses
-/// one intern of the seat, and none where it is refused. `MakesSpent` and `Full` come only where the text had no live
-/// record at a step of the call; `AddsSpent` where the seat has no add left. It makes at most one object.
+/// A strong reference to the live record of a text of 1 to 4,096 bytes, which it makes where the
+/// text has none. It uses one intern of the seat, and none where it is refused. `MakesSpent` and
+/// `Full` come only where the text had no live record at a step of the call; `AddsSpent` where the
+/// seat has no add left. It makes a record at most once: one make for each 120 bytes.
 pub fn intern<R: Wait, S, P: HasDirectory<S>>(
     rt: &R,
     domain: &Domain<P>,
@@ -41,7 +43,9 @@ pub fn intern<R: Wait, S, P: HasDirectory<S>>(
     requires room { HasRoom seat.old.view.core }
     requires over { IsOver domain.now (P.part domain.now.protocol) directory.now }
     requires quota { CanCount true (P.seen seat.old.view.client) }
-    requires text { (1 ≤ length text.now) × (length text.now ≤ 120) }
+    requires text { (1 ≤ length text.now) × (length text.now ≤ 4096) }
+    requires free { HasTwoFree seat.old.view.core }
+    requires pieces { HasPieces P.Kind.fits }
     ensures interns { IfOk result (λ strong. Interns domain.now
         (area_of (P.part domain.now.protocol)) text.now strong.slot seat.old seat.new) }
     ensures knows { IfOk result (λ strong. KnowsRecord P.seen text.now strong.slot seat.new) }
@@ -87,7 +91,8 @@ fn add<R: Wait, S, P: HasDirectory<S>>(
     requires over { IsOver domain.now (P.part domain.now.protocol) directory.now }
     requires quota { CanCount true (P.seen seat.old.view.client) }
     requires sought { IsSought sought.now.text.now sought.now.head sought.now.hash }
-    requires short { length sought.now.text.now ≤ 120 }
+    requires free { HasTwoFree seat.old.view.core }
+    requires pieces { HasPieces P.Kind.fits }
     requires passed { HasPassed (area_of (P.part domain.now.protocol))
         (P.seen seat.old.view.client) (text_of sought.now.text.now) passed }
     ensures places { IfOk result (λ strong. Places domain.now
@@ -122,8 +127,8 @@ fn add<R: Wait, S, P: HasDirectory<S>>(
     }
 }
 
-/// Puts a record into the first cell of its walk that it finds null, from the one on that comes after so many others;
-/// or finds another live record of its text before that.
+/// Puts a record into the first cell of its walk that it finds null, from the one on that comes
+/// after so many others; or finds another live record of its text before that.
 fn place<R: Wait, S, P: HasDirectory<S>>(
     rt: &R,
     domain: &Domain<P>,
@@ -138,7 +143,8 @@ fn place<R: Wait, S, P: HasDirectory<S>>(
     requires over { IsOver domain.now (P.part domain.now.protocol) directory.now }
     requires quota { CanCount true (P.seen seat.old.view.client) }
     requires sought { IsSought sought.now.text.now sought.now.head sought.now.hash }
-    requires short { length sought.now.text.now ≤ 120 }
+    requires free { HasTwoFree seat.old.view.core }
+    requires pieces { HasPieces P.Kind.fits }
     requires passed { HasPassed (area_of (P.part domain.now.protocol))
         (P.seen seat.old.view.client) (text_of sought.now.text.now) from }
     requires owned { 0 < times candidate.now.slot seat.old.view.core.owned }

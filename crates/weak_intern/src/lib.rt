@@ -1,20 +1,23 @@
-//! Texts that share one record as long as somebody uses it: how a seat finds the record of a text in the weak cells
-//! of a directory, and makes it where the text has none.
+//! Texts that share one record as long as somebody uses it: how a seat finds the record of a text
+//! in the weak cells of a directory, and makes it where the text has none.
 //!
-//! The rule that it keeps is the law of `directory_law`, by the deeds of `directory_protocol`. The walk of a text
-//! begins at a cell that its bytes tell, and goes on around the end. At each cell a seat loads a weak reference to
-//! the head that stands there, compares its payload with that of the text, and takes a strong reference where they are
-//! the same. What it learns it notes in its view, as the law asks, so what the walk found stays true. An intern goes on
-//! where the walk comes to null: it makes a record, by `record_making`, and puts it there by a compare and exchange.
+//! The rule that it keeps is the law of `directory_law`, by the deeds of `directory_protocol`. The
+//! walk of a text begins at a cell that its bytes tell, and goes on around the end. At each cell a
+//! seat loads a weak reference to the head that stands there, compares its payload with that of the
+//! text, and takes a strong reference where they are the same. Of a text of more than 120 bytes it
+//! reads the rest under that reference, by `text_reading`, and gives it up where the bytes differ.
+//! What it learns it notes in its view, as the law asks, so what the walk found stays true. An
+//! intern goes on where the walk comes to null: it makes a record, by `record_making`, and puts it
+//! there by a compare and exchange.
 //!
-//! All calls are over each protocol that has a directory as a part, and change nothing else of the seat's view.
+//! All calls are over each protocol that has a directory as a part, and change nothing else of the
+//! seat's view.
 //!
-//! It isn't promised that a call which may wait returns. Texts are of 1 to 120 bytes here, and nothing reads a text
-//! back.
+//! It isn't promised that a call which may wait returns.
 //!
 //! ```text
 //! let directory = Directory::over(0, 10);                              // weak cells 0 to 9
-//! match find(&rt, &domain, &mut seat, &directory, b"ab")? {            // else Spent
+//! match find(&rt, &domain, &mut seat, &directory, b"ab")? {      // else Spent
 //!     Some(record) => ..,                                              // its live record at a step of the call
 //!     None => ..,                                                      // it had none at a step of the call
 //! }
@@ -25,6 +28,7 @@
 
 mod binding;
 mod comparing;
+mod confirming;
 mod drawing;
 mod finding;
 mod interning;

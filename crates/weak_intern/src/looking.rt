@@ -4,15 +4,18 @@ ghost use Rattle.plain_state.specs.Lists.{times};
 ghost use Rattle.core_events.specs.Steps.{HasRoom};
 ghost use Rattle.core_events.specs.Views.{without};
 ghost use Rattle.control_word.specs.Resting.{IsAtRest, IsSpent};
+ghost use Rattle.domain_rule.specs.Views.{object_in};
 ghost use Rattle.directory_calls.specs.Directories.{CanCount, IsOver, area_of};
 ghost use Rattle.directory_calls.specs.Learning.{LearnsIn};
 ghost use Rattle.record_making.specs.Texts.{text_of};
 ghost use Rattle.weak_intern.specs.Seeing.{HasSeenIn};
-ghost use Rattle.weak_intern.specs.Sought.{IsSought};
+ghost use Rattle.text_reading.specs.Reading.{HasTwoFree};
+ghost use Rattle.weak_intern.specs.Sought.{HasPieces, IsSought};
 ghost use Rattle.directory_calls.specs.Steps.{Leaves, with_found};
 ghost use Rattle.weak_intern.specs.Walking.{Meets, MeetsIn, met_by, taken_by};
 
 use crate::comparing::is_payload;
+use crate::confirming::confirm;
 use crate::seeing::{raise, see};
 use crate::sought::Sought;
 use acquire_retire::{Domain, Seat};
@@ -34,7 +37,8 @@ pub enum Sight {
 }
 
 /// Looks at a cell for a text. Where it meets the live record, an intern of the seat
-/// is used if that is asked. At most five steps for each try to load, and 19 more.
+/// is used if that is asked. At most five steps for each try to load, and 19 more, or some 720
+/// where the head is that of a long text.
 pub(crate) fn look<R: Wait, S, P: HasDirectory<S>>(
     rt: &R,
     domain: &Domain<P>,
@@ -50,7 +54,8 @@ pub(crate) fn look<R: Wait, S, P: HasDirectory<S>>(
     requires inside { cell < directory.now.cells }
     requires quota { CanCount intern (P.seen seat.old.view.client) }
     requires sought { IsSought sought.now.text.now sought.now.head sought.now.hash }
-    requires short { length sought.now.text.now ≤ 120 }
+    requires free { HasTwoFree seat.old.view.core }
+    requires pieces { HasPieces P.Kind.fits }
     ensures meets { IfOk result (λ sight. Meets P.seen domain.now
         (area_of (P.part domain.now.protocol)) cell (text_of sought.now.text.now) sight
         seat.old seat.new) }
@@ -84,7 +89,8 @@ fn meet<S, P: HasDirectory<S>>(
     requires saw { HasSeenIn P.seen weak.slot seat.old }
     requires quota { CanCount intern (P.seen seat.old.view.client) }
     requires sought { IsSought sought.now.text.now sought.now.head sought.now.hash }
-    requires short { length sought.now.text.now ≤ 120 }
+    requires free { HasTwoFree seat.old.view.core }
+    requires pieces { HasPieces P.Kind.fits }
     ensures meets { IfOk result (λ sight. MeetsIn P.seen domain.now
         (area_of (P.part domain.now.protocol)) weak.slot (text_of sought.now.text.now) sight
         seat.old seat.new) }
@@ -101,8 +107,79 @@ fn meet<S, P: HasDirectory<S>>(
         drop_weak(domain, seat, weak);
         return Ok(Sight::Other);
     }
+    if sought.text.len() <= 120 {
+        return meet_short::<S, P>(domain, seat, weak, sought, intern);
+    }
+    meet_long::<S, P>(domain, seat, weak, sought, intern)
+}
+
+/// The same where the head has the payload that is sought, and this is the whole text.
+fn meet_short<S, P: HasDirectory<S>>(
+    domain: &Domain<P>,
+    seat: &mut Seat<P>,
+    weak: Weak,
+    sought: &Sought<'_>,
+    intern: bool,
+) -> Result<Sight, Spent>
+    requires rest { IsAtRest domain.now seat.old }
+    requires room { HasRoom seat.old.view.core }
+    requires owned { 0 < times weak.slot seat.old.view.core.weaks }
+    requires saw { HasSeenIn P.seen weak.slot seat.old }
+    requires quota { CanCount intern (P.seen seat.old.view.client) }
+    requires sought { IsSought sought.now.text.now sought.now.head sought.now.hash }
+    requires head { (object_in seat.old.view weak.slot).payload ≡ sought.now.head }
+    requires short { length sought.now.text.now ≤ 120 }
+    ensures meets { IfOk result (λ sight. MeetsIn P.seen domain.now
+        (area_of (P.part domain.now.protocol)) weak.slot (text_of sought.now.text.now) sight
+        seat.old seat.new) }
+    ensures spent { IsErr result → IsSpent seat.new.view.core }
+    ensures leaves { Leaves (with_found (met_by result) seat.old.view.core.owned)
+        (without weak.slot seat.old.view.core.weaks) seat.old seat.new }
+    ensures learns { LearnsIn P.seen P.with_seen (taken_by intern result)
+        seat.old.view.client seat.new.view.client }
+    ensures makes { seat.new.view.core.makes ≡ seat.old.view.core.makes }
+    ensures room { HasRoom seat.new.view.core }
+    ensures rest { IsAtRest domain.now seat.new }
+{
     match raise::<S, P>(domain, seat, weak, intern) {
         Ok(strong) => Ok(Sight::Record(strong)),
+        Err(UpgradeError::Ended) => Ok(Sight::Other),
+        Err(UpgradeError::Spent) => Err(Spent),
+    }
+}
+
+/// The same where the head has the payload that is sought, and parts may follow it: the whole text
+/// is read under a strong reference. At most 700 steps.
+fn meet_long<S, P: HasDirectory<S>>(
+    domain: &Domain<P>,
+    seat: &mut Seat<P>,
+    weak: Weak,
+    sought: &Sought<'_>,
+    intern: bool,
+) -> Result<Sight, Spent>
+    requires rest { IsAtRest domain.now seat.old }
+    requires room { HasRoom seat.old.view.core }
+    requires owned { 0 < times weak.slot seat.old.view.core.weaks }
+    requires saw { HasSeenIn P.seen weak.slot seat.old }
+    requires quota { CanCount intern (P.seen seat.old.view.client) }
+    requires sought { IsSought sought.now.text.now sought.now.head sought.now.hash }
+    requires head { (object_in seat.old.view weak.slot).payload ≡ sought.now.head }
+    requires free { HasTwoFree seat.old.view.core }
+    requires pieces { HasPieces P.Kind.fits }
+    ensures meets { IfOk result (λ sight. MeetsIn P.seen domain.now
+        (area_of (P.part domain.now.protocol)) weak.slot (text_of sought.now.text.now) sight
+        seat.old seat.new) }
+    ensures spent { IsErr result → IsSpent seat.new.view.core }
+    ensures leaves { Leaves (with_found (met_by result) seat.old.view.core.owned)
+        (without weak.slot seat.old.view.core.weaks) seat.old seat.new }
+    ensures learns { LearnsIn P.seen P.with_seen (taken_by intern result)
+        seat.old.view.client seat.new.view.client }
+    ensures makes { seat.new.view.core.makes ≡ seat.old.view.core.makes }
+    ensures room { HasRoom seat.new.view.core }
+    ensures rest { IsAtRest domain.now seat.new }
+{
+    match raise::<S, P>(domain, seat, weak, false) {
+        Ok(strong) => Ok(confirm::<S, P>(domain, seat, strong, sought, intern)),
         Err(UpgradeError::Ended) => Ok(Sight::Other),
         Err(UpgradeError::Spent) => Err(Spent),
     }

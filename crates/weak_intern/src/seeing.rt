@@ -10,7 +10,8 @@ ghost use Rattle.domain_rule.specs.Views.{object_in};
 ghost use Rattle.directory_law.specs.Views.{In, note};
 ghost use Rattle.directory_calls.specs.Directories.{CanCount, IsOver, area_of};
 ghost use Rattle.directory_calls.specs.Learning.{LearnsIn};
-ghost use Rattle.weak_intern.specs.Seeing.{BeginsText, HasBegun, HasSeenIn, Sees};
+ghost use Rattle.text_reading.specs.Reading.{HasBegun};
+ghost use Rattle.weak_intern.specs.Seeing.{BeginsText, HasSeenIn, Sees};
 ghost use Rattle.directory_calls.specs.Steps.{AtStep, Leaves, handle_by, with_found};
 ghost use Rattle.weak_intern.specs.Walking.{raised_by};
 
@@ -54,8 +55,8 @@ pub fn see<R: Wait, S, P: HasDirectory<S>>(
     }
 }
 
-/// A strong reference in place of a weak one to a head that the seat saw in a cell, and an intern of the seat is used
-/// with it if that is asked. `Ended` where there was no strong reference to it.
+/// A strong reference in place of a weak one to a head that the seat saw in a cell, and an intern
+/// of the seat is used with it if that is asked. `Ended` where there was no strong reference to it.
 pub fn raise<S, P: HasDirectory<S>>(
     domain: &Domain<P>,
     seat: &mut Seat<P>,

@@ -5,7 +5,8 @@ ghost use Rattle.control_word.specs.Resting.{IsAtRest, IsSpent};
 ghost use Rattle.directory_calls.specs.Directories.{CanCount, IsOver, area_of};
 ghost use Rattle.directory_calls.specs.Learning.{LearnsIn};
 ghost use Rattle.record_making.specs.Texts.{text_of};
-ghost use Rattle.weak_intern.specs.Sought.{IsSought};
+ghost use Rattle.text_reading.specs.Reading.{HasTwoFree};
+ghost use Rattle.weak_intern.specs.Sought.{HasPieces, IsSought};
 ghost use Rattle.directory_calls.specs.Steps.{Leaves, with_found};
 ghost use Rattle.weak_intern.specs.Walking.{ComesTo, EndsAround, used_by, walked_by};
 
@@ -29,8 +30,8 @@ pub enum Walk {
     Absent(u32),
 }
 
-/// Walks over the cells for a text, up to its live record or a null cell. Where it comes to the record, an
-/// intern of the seat is used if that is asked.
+/// Walks over the cells for a text, up to its live record or a null cell. Where it comes to the
+/// record, an intern of the seat is used if that is asked.
 pub(crate) fn seek<R: Wait, S, P: HasDirectory<S>>(
     rt: &R,
     domain: &Domain<P>,
@@ -44,7 +45,8 @@ pub(crate) fn seek<R: Wait, S, P: HasDirectory<S>>(
     requires over { IsOver domain.now (P.part domain.now.protocol) directory.now }
     requires quota { CanCount intern (P.seen seat.old.view.client) }
     requires sought { IsSought sought.now.text.now sought.now.head sought.now.hash }
-    requires short { length sought.now.text.now ≤ 120 }
+    requires free { HasTwoFree seat.old.view.core }
+    requires pieces { HasPieces P.Kind.fits }
     ensures comes { IfOk result (λ walk. ComesTo P.seen domain.now
         (area_of (P.part domain.now.protocol)) (text_of sought.now.text.now) walk
         seat.old seat.new) }

@@ -1,4 +1,5 @@
 pub mod Begun
+pub mod Copied
 pub mod Counted
 pub mod Kept
 pub mod Offered

@@ -8,17 +8,19 @@
 //! It isn't promised that a call which may wait returns, nor who pops what.
 //!
 //! ```text
-//! offer(&rt, &domain, &mut seat, &shared, record)?;        // pushes a record that the seat knows
+//! offer_copy(&rt, &domain, &mut seat, &shared, &record)?;  // pushes a record that the seat knows
 //! take_one(&rt, &domain, &mut seat, &shared, &mut tally)?; // pops one, if one is there, and counts its word
 //! ```
 #![tactic(auto)]
 
+mod copying;
 mod offering;
 mod reading;
 mod refusal;
 mod shared;
 mod taking;
 
+pub use copying::offer_copy;
 pub use offering::offer;
 pub use refusal::LaneError;
 pub use shared::Shared;

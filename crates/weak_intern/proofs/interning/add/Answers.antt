@@ -1,3 +1,4 @@
+use Rattle.weak_intern.proofs.Sights.{free_still}
 use Rattle.std.proofs.Common.{ap, arith, ◌∙◌, Some, None}
 use Rattle.std.specs.Prelude.{Ok}
 use Rattle.directory_calls.specs.Directories.{area_of}
@@ -260,3 +261,8 @@ returns-in-Err-clause-makes g c =
       makes_still c.place.new.seat c.drop_strong-in-Err.new.seat c.in_ok-candidate.candidate.slot
           g.P.Kind.PayloadKind.fits c.args.domain.now c.drop_strong-in-Err.ensures.dropped,
     )
+
+pub place-requires-clause-free : goal.place-requires-clause-free
+place-requires-clause-free g c =
+    free_still c.args.seat.now c.make_record.new.seat c.in_ok-candidate.ensures.leaves.same
+    c.requires.free

@@ -1,3 +1,4 @@
+use Rattle.weak_intern.proofs.Sights.{free_still}
 use Rattle.std.proofs.Common.{ap, arith, ◌∙◌}
 use Rattle.std.specs.Prelude.{Ok}
 use Rattle.directory_calls.specs.Directories.{area_of}
@@ -188,3 +189,7 @@ returns-in-Ok-Record-clause-makes g c =
 pub returns-in-Err-clause-makes : goal.returns-in-Err-clause-makes
 returns-in-Err-clause-makes g c =
     omega (arith, c.seek.ensures.makes)
+
+pub add-requires-clause-free : goal.add-requires-clause-free
+add-requires-clause-free g c =
+    free_still c.args.seat.now c.seek.new.seat c.seek.ensures.leaves.same c.requires.free

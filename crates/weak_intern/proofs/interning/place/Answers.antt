@@ -1,3 +1,4 @@
+use Rattle.weak_intern.proofs.Sights.{free_still}
 use Rattle.std.proofs.Common.{arith, ◌∙◌, None}
 use Rattle.std.proofs.lemmas.Result.{err_from_is_err_and}
 use Rattle.directory_calls.specs.Directories.{area_of}
@@ -265,3 +266,8 @@ returns-in_err-look-clause-makes g c =
 pub returns-in-Record-clause-makes : goal.returns-in-Record-clause-makes
 returns-in-Record-clause-makes g c =
     c.look.ensures.makes ∙ c.bind.ensures.makes ∙ c.loop.invariant.2.makes
+
+pub look-requires-clause-free : goal.look-requires-clause-free
+look-requires-clause-free g c =
+    free_still c.args.seat.now c.bind.new.seat
+    (c.bind.ensures.leaves.same ∙ c.loop.invariant.2.leaves.same) c.requires.free

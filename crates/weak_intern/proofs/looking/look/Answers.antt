@@ -1,3 +1,4 @@
+use Rattle.weak_intern.proofs.Sights.{free_still}
 use Rattle.std.proofs.Common.{◌∙◌}
 use Rattle.directory_calls.specs.Directories.{area_of}
 use Rattle.weak_intern.specs.Walking.{met_by, taken_by}
@@ -57,3 +58,7 @@ returns-in-Some-clause-learns g c =
 pub returns-in-Some-clause-makes : goal.returns-in-Some-clause-makes
 returns-in-Some-clause-makes g c =
     c.meet.ensures.makes ∙ c.see.ensures.makes
+
+pub meet-requires-clause-free : goal.meet-requires-clause-free
+meet-requires-clause-free g c =
+    free_still c.args.seat.now c.see.new.seat c.in_ok-weak.ensures.leaves.same c.requires.free

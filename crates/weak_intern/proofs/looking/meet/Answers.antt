@@ -6,19 +6,10 @@ use Rattle.directory_calls.specs.Directories.{area_of}
 use Rattle.directory_calls.proofs.Parts.{place_of}
 use Rattle.directory_law.proofs.Bytes.{text_is}
 use Rattle.record_making.specs.Texts.{text_of}
-use Rattle.weak_intern.proofs.Meeting.{ended_met, is_not, met_leaves, other_leaves, other_met, record_met, seen_still}
+use Rattle.weak_intern.proofs.Meeting.{head_still, is_not, met_leaves, met_then, other_leaves, other_met, seen_still}
+use Rattle.weak_intern.proofs.Sights.{free_still}
+use Rattle.weak_intern.specs.Walking.{met_by}
 use Rattle.weak_intern.proofs.looking.meet.Goals as goal
-
-pub raise-requires-clause-saw : goal.raise-requires-clause-saw
-raise-requires-clause-saw g c =
-    seen_still c.args.domain.now
-    (place_of g.P.Part.seen g.P.Part.with_seen g.P.Part.reads g.P.Part.puts_back
-    g.P.Part.puts_over)
-    (area_of (g.P.Part.part c.args.domain.now.protocol)) c.args.weak.slot (text_of
-    c.args.sought.now.text.now)
-    c.args.sought.now.head c.requires.sought.begins
-    c.args.seat.now c.is_payload.new.seat c.is_payload.new.seat c.is_payload.ensures.leaves
-    c.requires.owned c.requires.saw c.is_payload.ensures.client
 
 pub returns-then-not-is_payload-clause-meets : goal.returns-then-not-is_payload-clause-meets
 returns-then-not-is_payload-clause-meets g c =
@@ -46,86 +37,117 @@ returns-then-not-is_payload-clause-leaves g c =
     c.requires.owned c.is_payload.ensures.leaves c.drop_weak.ensures.dropped
     c.drop_weak.ensures.objects
 
-pub returns-in-Ok-clause-meets : goal.returns-in-Ok-clause-meets
-returns-in-Ok-clause-meets g c =
-    record_met c.args.domain.now
-    (place_of g.P.Part.seen g.P.Part.with_seen g.P.Part.reads g.P.Part.puts_back
-    g.P.Part.puts_over)
-    (area_of (g.P.Part.part c.args.domain.now.protocol)) c.args.weak.slot (text_of
-    c.args.sought.now.text.now)
-    c.args.sought.now.head c.requires.sought.begins
-    c.args.seat.now c.is_payload.new.seat c.raise.new.seat c.is_payload.ensures.leaves
-    c.requires.owned
-    c.in-Ok.strong c.in-Ok.ensures.same
-    (ap (λ x. (object_in c.args.seat.now.view x).payload) (sym c.slot.ensures)
-    ∙ c.is_payload.ensures.same.0 c.if-not-is_payload.false)
-    c.in-Ok.ensures.leaves
-    (text_is c.args.sought.now.text.now (text_of c.args.sought.now.text.now) c.requires.sought.text)
-    (omega (arith, c.requires.sought.size, c.requires.short))
-    c.in-Ok.ensures.live c.in-Ok.ensures.begins c.is_payload.ensures.client
-    c.in-Ok.ensures.learns.part.seen
-
-pub returns-in-Ok-clause-leaves : goal.returns-in-Ok-clause-leaves
-returns-in-Ok-clause-leaves g c =
-    met_leaves c.args.domain.now
-    (place_of g.P.Part.seen g.P.Part.with_seen g.P.Part.reads g.P.Part.puts_back
-    g.P.Part.puts_over)
-    (area_of (g.P.Part.part c.args.domain.now.protocol)) c.args.weak.slot (text_of
-    c.args.sought.now.text.now)
-    c.args.sought.now.head c.requires.sought.begins
-    c.args.seat.now c.is_payload.new.seat c.raise.new.seat c.is_payload.ensures.leaves
-    c.requires.owned
-    (Some c.in-Ok.strong.slot) c.in-Ok.ensures.leaves
-
-pub returns-in-Err-Ended-clause-meets : goal.returns-in-Err-Ended-clause-meets
-returns-in-Err-Ended-clause-meets g c =
-    ended_met c.args.domain.now
-    (place_of g.P.Part.seen g.P.Part.with_seen g.P.Part.reads g.P.Part.puts_back
-    g.P.Part.puts_over)
-    (area_of (g.P.Part.part c.args.domain.now.protocol)) c.args.weak.slot (text_of
-    c.args.sought.now.text.now)
-    c.args.sought.now.head c.requires.sought.begins
-    c.args.seat.now c.is_payload.new.seat c.raise.new.seat c.is_payload.ensures.leaves
-    c.requires.owned
-    c.in-Err-Ended.ensures.learns c.is_payload.ensures.client
-    (c.raise.ensures.ended (c.in-Err-Ended.is ∙ ap Err c.in-Err-Ended.field-0-is))
-
-pub returns-in-Err-Ended-clause-leaves : goal.returns-in-Err-Ended-clause-leaves
-returns-in-Err-Ended-clause-leaves g c =
-    met_leaves c.args.domain.now
-    (place_of g.P.Part.seen g.P.Part.with_seen g.P.Part.reads g.P.Part.puts_back
-    g.P.Part.puts_over)
-    (area_of (g.P.Part.part c.args.domain.now.protocol)) c.args.weak.slot (text_of
-    c.args.sought.now.text.now)
-    c.args.sought.now.head c.requires.sought.begins
-    c.args.seat.now c.is_payload.new.seat c.raise.new.seat c.is_payload.ensures.leaves
-    c.requires.owned
-    None c.in-Err-Ended.ensures.leaves
-
-pub returns-in-Err-Spent-clause-leaves : goal.returns-in-Err-Spent-clause-leaves
-returns-in-Err-Spent-clause-leaves g c =
-    met_leaves c.args.domain.now
-    (place_of g.P.Part.seen g.P.Part.with_seen g.P.Part.reads g.P.Part.puts_back
-    g.P.Part.puts_over)
-    (area_of (g.P.Part.part c.args.domain.now.protocol)) c.args.weak.slot (text_of
-    c.args.sought.now.text.now)
-    c.args.sought.now.head c.requires.sought.begins
-    c.args.seat.now c.is_payload.new.seat c.raise.new.seat c.is_payload.ensures.leaves
-    c.requires.owned
-    None c.in-Err-Spent.ensures.leaves
-
 pub returns-then-not-is_payload-clause-makes : goal.returns-then-not-is_payload-clause-makes
 returns-then-not-is_payload-clause-makes g c =
     ap (λ (v : CoreView). v.makes) c.drop_weak.ensures.dropped.1.core ∙ c.is_payload.ensures.makes
 
-pub returns-in-Ok-clause-makes : goal.returns-in-Ok-clause-makes
-returns-in-Ok-clause-makes g c =
-    c.raise.ensures.makes ∙ c.is_payload.ensures.makes
+pub meet_short-requires-clause-saw : goal.meet_short-requires-clause-saw
+meet_short-requires-clause-saw g c =
+    seen_still c.args.domain.now
+    (place_of g.P.Part.seen g.P.Part.with_seen g.P.Part.reads g.P.Part.puts_back
+    g.P.Part.puts_over)
+    (area_of (g.P.Part.part c.args.domain.now.protocol)) c.args.weak.slot (text_of
+    c.args.sought.now.text.now)
+    c.args.sought.now.head c.requires.sought.begins
+    c.args.seat.now c.is_payload.new.seat c.is_payload.new.seat c.is_payload.ensures.leaves
+    c.requires.owned
+    c.requires.saw c.is_payload.ensures.client
 
-pub returns-in-Err-Ended-clause-makes : goal.returns-in-Err-Ended-clause-makes
-returns-in-Err-Ended-clause-makes g c =
-    c.raise.ensures.makes ∙ c.is_payload.ensures.makes
+pub meet_short-requires-clause-head : goal.meet_short-requires-clause-head
+meet_short-requires-clause-head g c =
+    head_still c.args.domain.now
+    (place_of g.P.Part.seen g.P.Part.with_seen g.P.Part.reads g.P.Part.puts_back
+    g.P.Part.puts_over)
+    (area_of (g.P.Part.part c.args.domain.now.protocol)) c.args.weak.slot (text_of
+    c.args.sought.now.text.now)
+    c.args.sought.now.head c.requires.sought.begins
+    c.args.seat.now c.is_payload.new.seat c.is_payload.new.seat c.is_payload.ensures.leaves
+    c.requires.owned
+    (ap (λ x. (object_in c.args.seat.now.view x).payload) (sym c.slot.ensures)
+    ∙ c.is_payload.ensures.same.0 c.if-not-is_payload.false)
 
-pub returns-in-Err-Spent-clause-makes : goal.returns-in-Err-Spent-clause-makes
-returns-in-Err-Spent-clause-makes g c =
-    c.raise.ensures.makes ∙ c.is_payload.ensures.makes
+pub returns-then-sought-le120-clause-meets : goal.returns-then-sought-le120-clause-meets
+returns-then-sought-le120-clause-meets g c =
+    met_then c.args.domain.now
+    (place_of g.P.Part.seen g.P.Part.with_seen g.P.Part.reads g.P.Part.puts_back
+    g.P.Part.puts_over)
+    (area_of (g.P.Part.part c.args.domain.now.protocol)) c.args.weak.slot (text_of
+    c.args.sought.now.text.now)
+    c.args.sought.now.head c.requires.sought.begins
+    c.args.seat.now c.is_payload.new.seat c.meet_short.new.seat c.is_payload.ensures.leaves
+    c.requires.owned
+    c.is_payload.ensures.client c.meet_short.result c.meet_short.ensures.meets
+
+pub returns-then-sought-le120-clause-leaves : goal.returns-then-sought-le120-clause-leaves
+returns-then-sought-le120-clause-leaves g c =
+    met_leaves c.args.domain.now
+    (place_of g.P.Part.seen g.P.Part.with_seen g.P.Part.reads g.P.Part.puts_back
+    g.P.Part.puts_over)
+    (area_of (g.P.Part.part c.args.domain.now.protocol)) c.args.weak.slot (text_of
+    c.args.sought.now.text.now)
+    c.args.sought.now.head c.requires.sought.begins
+    c.args.seat.now c.is_payload.new.seat c.meet_short.new.seat c.is_payload.ensures.leaves
+    c.requires.owned
+    (met_by c.meet_short.result) c.meet_short.ensures.leaves
+
+pub returns-then-sought-le120-clause-makes : goal.returns-then-sought-le120-clause-makes
+returns-then-sought-le120-clause-makes g c =
+    c.meet_short.ensures.makes ∙ c.is_payload.ensures.makes
+
+pub meet_long-requires-clause-saw : goal.meet_long-requires-clause-saw
+meet_long-requires-clause-saw g c =
+    seen_still c.args.domain.now
+    (place_of g.P.Part.seen g.P.Part.with_seen g.P.Part.reads g.P.Part.puts_back
+    g.P.Part.puts_over)
+    (area_of (g.P.Part.part c.args.domain.now.protocol)) c.args.weak.slot (text_of
+    c.args.sought.now.text.now)
+    c.args.sought.now.head c.requires.sought.begins
+    c.args.seat.now c.is_payload.new.seat c.is_payload.new.seat c.is_payload.ensures.leaves
+    c.requires.owned
+    c.requires.saw c.is_payload.ensures.client
+
+pub meet_long-requires-clause-head : goal.meet_long-requires-clause-head
+meet_long-requires-clause-head g c =
+    head_still c.args.domain.now
+    (place_of g.P.Part.seen g.P.Part.with_seen g.P.Part.reads g.P.Part.puts_back
+    g.P.Part.puts_over)
+    (area_of (g.P.Part.part c.args.domain.now.protocol)) c.args.weak.slot (text_of
+    c.args.sought.now.text.now)
+    c.args.sought.now.head c.requires.sought.begins
+    c.args.seat.now c.is_payload.new.seat c.is_payload.new.seat c.is_payload.ensures.leaves
+    c.requires.owned
+    (ap (λ x. (object_in c.args.seat.now.view x).payload) (sym c.slot.ensures)
+    ∙ c.is_payload.ensures.same.0 c.if-not-is_payload.false)
+
+pub returns-clause-meets : goal.returns-clause-meets
+returns-clause-meets g c =
+    met_then c.args.domain.now
+    (place_of g.P.Part.seen g.P.Part.with_seen g.P.Part.reads g.P.Part.puts_back
+    g.P.Part.puts_over)
+    (area_of (g.P.Part.part c.args.domain.now.protocol)) c.args.weak.slot (text_of
+    c.args.sought.now.text.now)
+    c.args.sought.now.head c.requires.sought.begins
+    c.args.seat.now c.is_payload.new.seat c.meet_long.new.seat c.is_payload.ensures.leaves
+    c.requires.owned
+    c.is_payload.ensures.client c.meet_long.result c.meet_long.ensures.meets
+
+pub returns-clause-leaves : goal.returns-clause-leaves
+returns-clause-leaves g c =
+    met_leaves c.args.domain.now
+    (place_of g.P.Part.seen g.P.Part.with_seen g.P.Part.reads g.P.Part.puts_back
+    g.P.Part.puts_over)
+    (area_of (g.P.Part.part c.args.domain.now.protocol)) c.args.weak.slot (text_of
+    c.args.sought.now.text.now)
+    c.args.sought.now.head c.requires.sought.begins
+    c.args.seat.now c.is_payload.new.seat c.meet_long.new.seat c.is_payload.ensures.leaves
+    c.requires.owned
+    (met_by c.meet_long.result) c.meet_long.ensures.leaves
+
+pub returns-clause-makes : goal.returns-clause-makes
+returns-clause-makes g c =
+    c.meet_long.ensures.makes ∙ c.is_payload.ensures.makes
+
+pub meet_long-requires-clause-free : goal.meet_long-requires-clause-free
+meet_long-requires-clause-free g c =
+    free_still c.args.seat.now c.is_payload.new.seat c.is_payload.ensures.leaves.same
+    c.requires.free

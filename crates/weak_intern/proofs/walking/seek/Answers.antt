@@ -1,8 +1,9 @@
-use Rattle.std.proofs.Common.{arith, ◌∙◌}
+use Rattle.weak_intern.proofs.Sights.{free_still}
+use Rattle.std.proofs.Common.{arith, ◌∙◌, None}
 use Rattle.std.proofs.lemmas.Result.{err_from_is_err_and}
 use Rattle.directory_calls.specs.Directories.{area_of}
 use Rattle.record_making.specs.Texts.{text_of}
-use Rattle.weak_intern.proofs.Found.{around_found, at_cell, null_found, null_leaves, other_passed, record_found, record_leaves, refused_learns}
+use Rattle.weak_intern.proofs.Found.{around_found, at_cell, null_found, null_leaves, other_passed, record_found, record_leaves, refused_learns, refused_leaves, walk_leaves}
 use Rattle.directory_calls.proofs.Parts.{place_of}
 use Rattle.weak_intern.proofs.walking.seek.Goals as goal
 
@@ -142,3 +143,30 @@ returns-in-Record-clause-makes g c =
 pub returns-clause-makes : goal.returns-clause-makes
 returns-clause-makes g c =
     c.come_around.ensures.makes ∙ c.loop-passed.invariant.makes
+
+pub look-requires-clause-free : goal.look-requires-clause-free
+look-requires-clause-free g c =
+    free_still c.args.seat.now c.loop-passed.seat c.loop-passed.invariant.leaves.same
+    c.requires.free
+
+pub returns-in_err-look-clause-leaves : goal.returns-in_err-look-clause-leaves
+returns-in_err-look-clause-leaves g c =
+    let p = err_from_is_err_and c.from_residual.result c.from_residual.ensures.1 in
+    refused_leaves c.args.domain.now
+    (place_of g.P.Part.seen g.P.Part.with_seen g.P.Part.reads g.P.Part.puts_back
+    g.P.Part.puts_over)
+    (area_of (g.P.Part.part c.args.domain.now.protocol)) (text_of c.args.sought.now.text.now)
+    c.args.seat.now
+    c.loop-passed.passed c.loop-passed.seat
+    c.look.new.seat c.loop-passed.invariant c.from_residual.result p.0 p.1
+    c.in_err-look.ensures.leaves
+
+pub returns-clause-leaves : goal.returns-clause-leaves
+returns-clause-leaves g c =
+    walk_leaves c.args.domain.now
+    (place_of g.P.Part.seen g.P.Part.with_seen g.P.Part.reads g.P.Part.puts_back
+    g.P.Part.puts_over)
+    (area_of (g.P.Part.part c.args.domain.now.protocol)) (text_of c.args.sought.now.text.now)
+    c.args.seat.now
+    c.loop-passed.passed c.loop-passed.seat
+    c.come_around.new.seat c.loop-passed.invariant None c.come_around.ensures.leaves

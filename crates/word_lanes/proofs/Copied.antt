@@ -1,0 +1,107 @@
+-- A reference that is copied before it is pushed.
+use Rattle.std.proofs.Common.{◌≡◌, ◌⊎◌, ℕ, ◌<◌, List, [], ◌∷◌, ◌++◌, refl, sym, ap, subst, arith}
+use Rattle.std.specs.Prelude.{Err, Ok, OnErr, OnOk, Result}
+use Rattle.plain_state.specs.Lists.{times}
+use Rattle.core_events.specs.Views.{without}
+use Rattle.protected_loads.proofs.Telling.{holds_has}
+use Rattle.directory_law.specs.Bytes.{text_bytes}
+use Rattle.directory_calls.specs.Directories.{HasQuota}
+use Rattle.linked_queue.specs.Queues.{IsAttached}
+use Rattle.word_lanes.specs.Counting.{Counts}
+use Rattle.plain_state.specs.declared.slot.SlotId.{SlotId}
+use Rattle.acquire_retire.specs.Calls.{IsSameView, same_view}
+use Rattle.acquire_retire.specs.Domains.{DomainState}
+use Rattle.acquire_retire.specs.Seats.{SeatState}
+use Rattle.control_word.specs.Calls.{DropsStrong, GainsStrong, with_strong, without_strong}
+use Rattle.control_word.specs.Moves.{KnowsStill}
+use Rattle.core_events.specs.Steps.{HasRoom}
+use Rattle.control_word.specs.Resting.{IsAtRest}
+use Rattle.directory_calls.proofs.Going.{leaves_core}
+use Rattle.directory_law.specs.declared.view.Ran.{Ran}
+use Rattle.directory_law.specs.Payloads.{IsText, Text}
+use Rattle.directory_law.specs.Views.{In, rope}
+use Rattle.domain_rule.specs.Views.{object_in}
+use Rattle.weak_intern.specs.Knowing.{Knows}
+use Rattle.words_law.specs.Views.{View}
+use Rattle.words_protocol.specs.declared.law.WordsLaw.{WordsLaw}
+use Rattle.word_lanes.specs.Ready.{IsReady, Owns, Shared}
+use Rattle.word_lanes.proofs.Kept.{gave_item, owns_back, owns_by, ready_by}
+use Rattle.word_lanes.proofs.Offered.{texts}
+
+-- what a seat knows of the text of s, by its view and by the life and the payload of s
+abbrev pub KnowsAs : SlotId → Text → View → ℕ → List ℕ → Type 0
+KnowsAs s text v life payload =
+    In (rope s life text) v.1.kept
+    ⊎ (((c : ℕ) × In (record { cell = c; slot = s; life = life; head = payload }) v.1.seen)
+    × (e : Ran) × In e v.1.ran × (e.slot ≡ s) × (e.life ≡ life) × (e.before ≡ text) × IsText text)
+
+pub knows_on : (s : SlotId) (text : Text) (a b : SeatState View)
+    → b.view.client ≡ a.view.client → object_in b.view s ≡ object_in a.view s
+    → Knows texts s text a → Knows texts s text b
+knows_on s text a b same object known =
+    subst (λ (v : View). KnowsAs s text v (object_in b.view s).life (object_in b.view s).payload)
+    (sym same)
+    (subst (λ o. KnowsAs s text a.view.client o.life o.payload) (sym object) known)
+
+pub owns_copy : (fits : List ℕ → Type 0) (d : DomainState WordsLaw) (s t : SlotId) → t ≡ s
+    → (a b : SeatState View)
+    → GainsStrong fits d same_view IsSameView s a b → KnowsStill a.view.core a b
+    → Owns (a.view.core.owned ++ t ∷ []) a b
+owns_copy fits d s t is a b gains knows =
+    subst (λ x. Owns (a.view.core.owned ++ x ∷ []) a b) (sym is)
+    (owns_by a b (leaves_core a b (with_strong s a.view.core) _ gains.core refl knows))
+
+pub copy_ready : {d : DomainState WordsLaw} {on : Shared} {os : List SlotId} (a b : SeatState View)
+    → IsReady d on a → Owns os a b → b.view.client ≡ a.view.client → HasRoom b.view.core
+    → IsAtRest d b → IsReady d on b
+copy_ready a b ready owns same room rest =
+    ready_by a b ready owns room rest
+    (subst (λ (v : View). IsAttached v.0) (sym same) ready.attached)
+    (subst (λ (v : View). HasQuota v.1) (sym same) ready.quota)
+
+-- a seat that owns s knows of it what it knew
+pub owned_same : (s : SlotId) (a b : SeatState View) → 0 < times s a.view.core.owned
+    → KnowsStill a.view.core a b → object_in b.view s ≡ object_in a.view s
+owned_same s a b own knows = knows s (holds_has a.view.core s (omega (arith, own)))
+
+-- the text that it knows of s it knows of the copy
+pub copy_known : (s t : SlotId) → t ≡ s → (text : Text) (a b : SeatState View)
+    → 0 < times s a.view.core.owned → b.view.client ≡ a.view.client → KnowsStill a.view.core a b
+    → Knows texts s text a → Knows texts t text b
+copy_known s t is text a b own same knows known =
+    subst (λ (x : SlotId). Knows texts x text b) (sym is)
+    (knows_on s text a b same (owned_same s a b own knows) known)
+
+-- it was pushed
+pub copy_counts : {T E : Type 0} (s t : SlotId) → t ≡ s → (a b c : SeatState View) (r : Result T E)
+    (done : T) → r ≡ Ok done → 0 < times s a.view.core.owned → b.view.client ≡ a.view.client
+    → KnowsStill a.view.core a b
+    → OnOk r ((text : Text) → Knows texts t text b
+    → Counts (text_bytes text ∷ []) [] b.view.client c.view.client)
+    → (text : Text) → Knows texts s text a
+    → Counts (text_bytes text ∷ []) [] a.view.client c.view.client
+copy_counts s t is a b c r done ok own same knows counts text known =
+    let got = subst (λ x. OnOk x ((u : Text) → Knows texts t u b
+    → Counts (text_bytes u ∷ []) [] b.view.client c.view.client)) ok counts in
+    subst (λ (v : View). Counts (text_bytes text ∷ []) [] v c.view.client) same
+    (got text (copy_known s t is text a b own same knows known))
+
+pub copy_owns : {T E : Type 0} (t : SlotId) (a b c : SeatState View) (r : Result T E) (done : T)
+    → r ≡ Ok done → Owns (a.view.core.owned ++ t ∷ []) a b
+    → OnOk r (Owns (without t b.view.core.owned) b c) → Owns a.view.core.owned a c
+copy_owns t a b c r done ok first second =
+    owns_back t a.view.core.owned a b c first
+    (subst (λ x. OnOk x (Owns (without t b.view.core.owned) b c)) ok second) (λ x. refl)
+
+-- it was handed back and given up
+pub back_owns : {T E : Type 0} (fits : List ℕ → Type 0) (d : DomainState WordsLaw) (t u : SlotId)
+    (a b c e : SeatState View) (r : Result T E) (error : E) → r ≡ Err error → u ≡ t
+    → 0 < times t b.view.core.owned → Owns (a.view.core.owned ++ t ∷ []) a b
+    → OnErr r (Owns b.view.core.owned b c) → DropsStrong fits d u c e
+    → KnowsStill (without_strong u c.view.core) c e → Owns a.view.core.owned a e
+back_owns fits d t u a b c e r error bad is own first kept drops knows =
+    let mid = subst (λ x. OnErr x (Owns b.view.core.owned b c)) bad kept in
+    let last = gave_item fits d u u refl b c e mid drops knows
+    (subst (λ (x : SlotId). 0 < times x b.view.core.owned) (sym is) own) in
+    owns_back t a.view.core.owned a b e first
+    (subst (λ (x : SlotId). Owns (without x b.view.core.owned) b e) is last) (λ x. refl)

@@ -1,0 +1,63 @@
+use Rattle.std.proofs.Common.{[], ap, subst, sym}
+use Rattle.counted_handles.specs.Handles.{Handle}
+use Rattle.words_law.specs.Views.{View}
+use Rattle.word_lanes.specs.Counting.{Counts}
+use Rattle.word_lanes.proofs.Copied.{back_owns, copy_counts, copy_known, copy_owns, copy_ready, owns_copy}
+use Rattle.word_lanes.proofs.Counted.{counts_none}
+use Rattle.word_lanes.proofs.Kept.{owns_drop}
+use Rattle.word_lanes.proofs.copying.offer_copy.Goals as goal
+
+pub returns-in_default-clause-refused : goal.returns-in_default-clause-refused
+returns-in_default-clause-refused g c =
+    subst (λ (v : View). Counts [] [] c.args.seat.now.view.client v)
+    (sym c.copy_strong.ensures.client) (counts_none c.args.seat.now.view.client)
+
+pub offer-requires-clause-ready : goal.offer-requires-clause-ready
+offer-requires-clause-ready g c =
+    copy_ready c.args.seat.now c.copy_strong.new.seat c.requires.ready
+    (owns_copy _ c.args.domain.now c.args.record.now.slot c.in-Ok.copy.slot
+    c.in-Ok.ensures.copied.0 c.args.seat.now c.copy_strong.new.seat c.in-Ok.ensures.copied.1
+    c.copy_strong.ensures.objects)
+    c.copy_strong.ensures.client (c.copy_strong.ensures.room c.requires.ready.room)
+    c.copy_strong.ensures.rest
+
+pub offer-requires-clause-known : goal.offer-requires-clause-known
+offer-requires-clause-known g c = (
+  c.requires.known.0,
+  copy_known c.args.record.now.slot c.in-Ok.copy.slot c.in-Ok.ensures.copied.0
+      c.requires.known.0 c.args.seat.now c.copy_strong.new.seat c.requires.owned
+      c.copy_strong.ensures.client c.copy_strong.ensures.objects c.requires.known.1,
+)
+
+pub returns-in-Ok-offer-clause-counts : goal.returns-in-Ok-offer-clause-counts
+returns-in-Ok-offer-clause-counts g c =
+    copy_counts c.args.record.now.slot c.in-Ok.copy.slot c.in-Ok.ensures.copied.0
+    c.args.seat.now c.copy_strong.new.seat c.offer.new.seat c.offer.result _
+    c.in-Ok-offer.is c.requires.owned c.copy_strong.ensures.client
+    c.copy_strong.ensures.objects c.offer.ensures.counts
+
+pub returns-in-Ok-offer-clause-owns : goal.returns-in-Ok-offer-clause-owns
+returns-in-Ok-offer-clause-owns g c =
+    copy_owns c.in-Ok.copy.slot c.args.seat.now c.copy_strong.new.seat c.offer.new.seat
+    c.offer.result _ c.in-Ok-offer.is
+    (owns_copy _ c.args.domain.now c.args.record.now.slot c.in-Ok.copy.slot
+    c.in-Ok.ensures.copied.0 c.args.seat.now c.copy_strong.new.seat c.in-Ok.ensures.copied.1
+    c.copy_strong.ensures.objects) c.offer.ensures.owns
+
+pub returns-in-Err-clause-owns : goal.returns-in-Err-clause-owns
+returns-in-Err-clause-owns g c =
+    back_owns _ c.args.domain.now c.in-Ok.copy.slot c.in-Err.refused.back.slot c.args.seat.now
+    c.copy_strong.new.seat c.offer.new.seat c.drop_strong.new.seat c.offer.result _ c.in-Err.is
+    (ap (λ (h : Handle). h.slot) c.in-Err.ensures.back) c.in-Ok.ensures.owned
+    (owns_copy _ c.args.domain.now c.args.record.now.slot c.in-Ok.copy.slot
+    c.in-Ok.ensures.copied.0 c.args.seat.now c.copy_strong.new.seat c.in-Ok.ensures.copied.1
+    c.copy_strong.ensures.objects) c.offer.ensures.kept c.drop_strong.ensures.dropped
+    c.drop_strong.ensures.objects
+
+pub returns-in-Err-clause-ready : goal.returns-in-Err-clause-ready
+returns-in-Err-clause-ready g c =
+    copy_ready c.offer.new.seat c.drop_strong.new.seat c.offer.ensures.ready
+    (owns_drop _ c.args.domain.now c.in-Err.refused.back.slot c.offer.new.seat
+    c.drop_strong.new.seat c.drop_strong.ensures.dropped c.drop_strong.ensures.objects)
+    c.drop_strong.ensures.client (c.drop_strong.ensures.room c.offer.ensures.ready.room)
+    c.drop_strong.ensures.rest

@@ -1,0 +1,49 @@
+//! A copy of a reference to a record goes on the queue.
+ghost use Rattle.std.specs.Prelude.{◌<◌, ◌∷◌, [], OnErr, OnOk};
+ghost use Rattle.plain_state.specs.Lists.{times};
+ghost use Rattle.directory_law.specs.Bytes.{text_bytes};
+ghost use Rattle.directory_law.specs.Payloads.{Text};
+ghost use Rattle.weak_intern.specs.Knowing.{Knows};
+ghost use Rattle.words_law.specs.Views.{View};
+ghost use Rattle.word_lanes.specs.Counting.{Counts};
+ghost use Rattle.word_lanes.specs.Ready.{IsReady, Owns};
+
+use crate::offering::offer;
+use crate::shared::Shared;
+use acquire_retire::{Domain, Seat};
+use control_word::{copy_strong, drop_strong};
+use counted_handles::Strong;
+use slot_store::MakeError;
+use std::sync::Wait;
+use words_protocol::WordsLaw;
+
+/// Pushes one reference more to a record whose text the seat knows, and keeps its own. Refused, it has pushed nothing.
+/// It may wait for other threads.
+pub fn offer_copy<R: Wait>(
+    rt: &R,
+    domain: &Domain<WordsLaw>,
+    seat: &mut Seat<WordsLaw>,
+    shared: &Shared,
+    record: &Strong,
+) -> Result<(), MakeError>
+    requires ready { IsReady domain.now shared.now seat.old }
+    requires owned { 0 < times record.now.slot seat.old.view.core.owned }
+    requires known { (text : Text) × Knows (λ (v : View). v.1) record.now.slot text seat.old }
+    ensures counts { OnOk result ((text : Text)
+        → Knows (λ (v : View). v.1) record.now.slot text seat.old
+        → Counts (text_bytes text ∷ []) [] seat.old.view.client seat.new.view.client) }
+    ensures refused { OnErr result (Counts [] [] seat.old.view.client seat.new.view.client) }
+    ensures owns { Owns seat.old.view.core.owned seat.old seat.new }
+    ensures ready { IsReady domain.now shared.now seat.new }
+{
+    let Ok(copy) = copy_strong(domain, seat, record) else {
+        return Err(MakeError::AddsSpent);
+    };
+    match offer(rt, domain, seat, shared, copy) {
+        Ok(()) => Ok(()),
+        Err(refused) => {
+            drop_strong(domain, seat, refused.back);
+            Err(refused.why)
+        }
+    }
+}
