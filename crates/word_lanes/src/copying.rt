@@ -24,19 +24,19 @@ pub fn offer_copy<R: Wait>(
     domain: &Domain<WordsLaw>,
     seat: &mut Seat<WordsLaw>,
     shared: &Shared,
-    record: &Strong,
+    handle: &Strong,
 ) -> Result<(), MakeError>
     requires ready { IsReady domain.now shared.now seat.old }
-    requires owned { 0 < times record.now.slot seat.old.view.core.owned }
-    requires known { (text : Text) × Knows (λ (v : View). v.1) record.now.slot text seat.old }
+    requires owned { 0 < times handle.now.slot seat.old.view.core.owned }
+    requires known { (text : Text) × Knows (λ (v : View). v.1) handle.now.slot text seat.old }
     ensures counts { OnOk result ((text : Text)
-        → Knows (λ (v : View). v.1) record.now.slot text seat.old
+        → Knows (λ (v : View). v.1) handle.now.slot text seat.old
         → Counts (text_bytes text ∷ []) [] seat.old.view.client seat.new.view.client) }
     ensures refused { OnErr result (Counts [] [] seat.old.view.client seat.new.view.client) }
     ensures owns { Owns seat.old.view.core.owned seat.old seat.new }
     ensures ready { IsReady domain.now shared.now seat.new }
 {
-    let Ok(copy) = copy_strong(domain, seat, record) else {
+    let Ok(copy) = copy_strong(domain, seat, handle) else {
         return Err(MakeError::AddsSpent);
     };
     match offer(rt, domain, seat, shared, copy) {

@@ -15,7 +15,7 @@ returns-in_default-clause-refused g c =
 pub offer-requires-clause-ready : goal.offer-requires-clause-ready
 offer-requires-clause-ready g c =
     copy_ready c.args.seat.now c.copy_strong.new.seat c.requires.ready
-    (owns_copy _ c.args.domain.now c.args.record.now.slot c.in-Ok.copy.slot
+    (owns_copy _ c.args.domain.now c.args.handle.now.slot c.in-Ok.copy.slot
     c.in-Ok.ensures.copied.0 c.args.seat.now c.copy_strong.new.seat c.in-Ok.ensures.copied.1
     c.copy_strong.ensures.objects)
     c.copy_strong.ensures.client (c.copy_strong.ensures.room c.requires.ready.room)
@@ -24,14 +24,14 @@ offer-requires-clause-ready g c =
 pub offer-requires-clause-known : goal.offer-requires-clause-known
 offer-requires-clause-known g c = (
   c.requires.known.0,
-  copy_known c.args.record.now.slot c.in-Ok.copy.slot c.in-Ok.ensures.copied.0
+  copy_known c.args.handle.now.slot c.in-Ok.copy.slot c.in-Ok.ensures.copied.0
       c.requires.known.0 c.args.seat.now c.copy_strong.new.seat c.requires.owned
       c.copy_strong.ensures.client c.copy_strong.ensures.objects c.requires.known.1,
 )
 
 pub returns-in-Ok-offer-clause-counts : goal.returns-in-Ok-offer-clause-counts
 returns-in-Ok-offer-clause-counts g c =
-    copy_counts c.args.record.now.slot c.in-Ok.copy.slot c.in-Ok.ensures.copied.0
+    copy_counts c.args.handle.now.slot c.in-Ok.copy.slot c.in-Ok.ensures.copied.0
     c.args.seat.now c.copy_strong.new.seat c.offer.new.seat c.offer.result _
     c.in-Ok-offer.is c.requires.owned c.copy_strong.ensures.client
     c.copy_strong.ensures.objects c.offer.ensures.counts
@@ -40,7 +40,7 @@ pub returns-in-Ok-offer-clause-owns : goal.returns-in-Ok-offer-clause-owns
 returns-in-Ok-offer-clause-owns g c =
     copy_owns c.in-Ok.copy.slot c.args.seat.now c.copy_strong.new.seat c.offer.new.seat
     c.offer.result _ c.in-Ok-offer.is
-    (owns_copy _ c.args.domain.now c.args.record.now.slot c.in-Ok.copy.slot
+    (owns_copy _ c.args.domain.now c.args.handle.now.slot c.in-Ok.copy.slot
     c.in-Ok.ensures.copied.0 c.args.seat.now c.copy_strong.new.seat c.in-Ok.ensures.copied.1
     c.copy_strong.ensures.objects) c.offer.ensures.owns
 
@@ -49,7 +49,7 @@ returns-in-Err-clause-owns g c =
     back_owns _ c.args.domain.now c.in-Ok.copy.slot c.in-Err.refused.back.slot c.args.seat.now
     c.copy_strong.new.seat c.offer.new.seat c.drop_strong.new.seat c.offer.result _ c.in-Err.is
     (ap (λ (h : Handle). h.slot) c.in-Err.ensures.back) c.in-Ok.ensures.owned
-    (owns_copy _ c.args.domain.now c.args.record.now.slot c.in-Ok.copy.slot
+    (owns_copy _ c.args.domain.now c.args.handle.now.slot c.in-Ok.copy.slot
     c.in-Ok.ensures.copied.0 c.args.seat.now c.copy_strong.new.seat c.in-Ok.ensures.copied.1
     c.copy_strong.ensures.objects) c.offer.ensures.kept c.drop_strong.ensures.dropped
     c.drop_strong.ensures.objects
