@@ -74,8 +74,8 @@ impl Model for SnapHand {
 }
 
 impl SnapHand {
-    /// A handle of a snapshot, made anew.
-    pub(crate) fn of(slot: SlotId, counted: bool) -> SnapHand
+    /// A handle of a snapshot of this slot, counted or not, made anew.
+    pub fn of(slot: SlotId, counted: bool) -> SnapHand
         ensures { result ≡ (slot, counted) }
     {
         SnapHand { slot, counted }
