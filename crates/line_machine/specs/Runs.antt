@@ -10,21 +10,21 @@ use Rattle.line_words.specs.Refused.{refused_line}
 -- are refused there for a reason; the end of the text writes some bytes, and may be a refusal too.
 module _ {S : Type 0} (Takes : S → List (List ℕ) → List ℕ → S → Type 0)
     (Refuses : S → List (List ℕ) → Reason → Type 0) (Ends : S → List ℕ → Bool → Type 0) where
-  -- from the state s these lines, with their numbers, write these bytes; `refused` tells whether one is refused, after
-  -- which nothing is run
-  abbrev pub Goes : S → List (ℕ × List ℕ) → List ℕ → Bool → Type 0
-  Goes s [] bytes refused = Ends s bytes refused
-  Goes s (line ∷ lines) bytes refused =
+  -- from the state s these lines, with their numbers, write these bytes and lead to the state `last`; `refused` tells
+  -- whether one is refused, which leaves the state, and after which nothing is run
+  abbrev pub Goes : S → List (ℕ × List ℕ) → List ℕ → Bool → S → Type 0
+  Goes s [] bytes refused last = Ends s bytes refused × (last ≡ s)
+  Goes s (line ∷ lines) bytes refused last =
       MatchBool (is_blank (words_of line.1))
-      (Goes s lines bytes refused)
+      (Goes s lines bytes refused last)
       (((out : List ℕ) × (rest : List ℕ) × (next : S) × Takes s (words_of line.1) out next
-      × Goes next lines rest refused × (bytes ≡ out ++ rest))
+      × Goes next lines rest refused last × (bytes ≡ out ++ rest))
       ⊎ ((reason : Reason) × Refuses s (words_of line.1) reason
-      × (bytes ≡ refused_line line.0 reason) × (refused ≡ true)))
+      × (bytes ≡ refused_line line.0 reason) × (refused ≡ true) × (last ≡ s)))
 
   -- so does the whole text
-  abbrev pub IsRun : S → List ℕ → List ℕ → Bool → Type 0
-  IsRun s text bytes refused = Goes s (numbered_lines text) bytes refused
+  abbrev pub IsRun : S → List ℕ → List ℕ → Bool → S → Type 0
+  IsRun s text bytes refused last = Goes s (numbered_lines text) bytes refused last
 
   -- nothing is left open: in each state,
   pub record IsDefinite : Type 0 where

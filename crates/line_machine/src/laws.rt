@@ -4,11 +4,12 @@ ghost use Rattle.line_machine.specs.Runs.{IsDefinite, IsRun};
 
 use crate::machine::LineMachine;
 
-/// Where a machine leaves nothing open, a text has one output from each of its states: the bytes are one, and whether a
-/// line is refused.
+/// Where a machine leaves nothing open, a text has one output from each of its states: the bytes are one, whether a
+/// line is refused, and the state to which it leads.
 pub fn runs_are_one<M: LineMachine>()
     ensures { IsDefinite M.takes M.refuses M.ends → (s : M) (text bytes others : List ℕ)
-        (refused other : Bool) → IsRun M.takes M.refuses M.ends s text bytes refused
-        → IsRun M.takes M.refuses M.ends s text others other
-        → (bytes ≡ others) × (refused ≡ other) }
+        (refused other : Bool) (last end : M)
+        → IsRun M.takes M.refuses M.ends s text bytes refused last
+        → IsRun M.takes M.refuses M.ends s text others other end
+        → (bytes ≡ others) × (refused ≡ other) × (last ≡ end) }
 {}

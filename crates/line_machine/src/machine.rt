@@ -19,7 +19,7 @@ pub trait LineMachine {
     ghost ends: { Self → List ℕ → Bool → Type 0 };
 
     /// Takes the words of a line, and appends what it writes. Some reason comes exactly where the line is refused;
-    /// nothing is appended then.
+    /// nothing is appended then, and the state stays.
     fn take(
         &mut self,
         alloc: Global,
@@ -29,10 +29,11 @@ pub trait LineMachine {
         ensures taken { result ≡ Ok None → (out : List ℕ) × (text.new.items ≡ text.old.items ++ out)
             × takes self.old (texts_of words.now) out self.new }
         ensures refused { (reason : Reason) → result ≡ Ok (Some reason) →
-            (text.new.items ≡ text.old.items) × refuses self.old (texts_of words.now) reason };
+            (text.new.items ≡ text.old.items) × refuses self.old (texts_of words.now) reason }
+        ensures stays { (reason : Reason) → result ≡ Ok (Some reason) → self.new ≡ self.old };
 
     /// Appends what the end of the text writes. True exactly where it is a refusal.
-    fn end(&mut self, alloc: Global, text: &mut Vec<u8>) -> Result<bool, OutOfMemory>
+    fn end(&self, alloc: Global, text: &mut Vec<u8>) -> Result<bool, OutOfMemory>
         ensures { (refused : Bool) → result ≡ Ok refused →
-            (out : List ℕ) × (text.new.items ≡ text.old.items ++ out) × ends self.old out refused };
+            (out : List ℕ) × (text.new.items ≡ text.old.items ++ out) × ends self.now out refused };
 }

@@ -14,15 +14,16 @@ pub struct Written {
     pub refused: bool,
 }
 
-/// Runs the lines of the text in order, up to the first that is refused. Linear in the text, beside what the machine
-/// takes for each line.
+/// Runs the lines of the text in order, up to the first that is refused, which leaves the machine as it was. Linear in
+/// the text, beside what the machine takes for each line.
 pub fn run_lines<M: LineMachine>(
     alloc: Global,
     machine: &mut M,
     text: &[u8],
 ) -> Result<Written, OutOfMemory>
     ensures { IfOk result (λ written.
-        IsRun M.takes M.refuses M.ends machine.old text.now written.text.items written.refused) }
+        IsRun M.takes M.refuses M.ends machine.old text.now written.text.items written.refused
+        machine.new) }
 {
     let mut written = Vec::new(alloc);
     for line in Lines::new(text) {

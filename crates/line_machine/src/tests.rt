@@ -32,7 +32,7 @@ impl LineMachine for Dots {
         Ok(None)
     }
 
-    fn end(&mut self, _alloc: Global, text: &mut Vec<u8>) -> Result<bool, OutOfMemory> {
+    fn end(&self, _alloc: Global, text: &mut Vec<u8>) -> Result<bool, OutOfMemory> {
         text.extend_from_slice(b"end\n")?;
         Ok(false)
     }

@@ -27,13 +27,15 @@ use Rattle.acquire_retire.specs.Collecting.{move}
 use Rattle.acquire_retire.specs.Domains.{DomainState}
 use Rattle.acquire_retire.specs.Seats.{SeatState}
 use Rattle.control_word.specs.Resting.{IsAtRest}
-use Rattle.protected_loads.specs.Loads.{Announces, FindsNull, Misses, Protects, announced_by}
+use Rattle.protected_loads.specs.Loads.{Announces, FindsNull, Misses, Protects, announced_by, protected_by}
 use Rattle.protected_loads.proofs.Noting.{snapshot_gains}
 use Rattle.slot_store.proofs.Objects.{known_before}
 use Rattle.lone_heap.specs.Lone.{IsReady, known_plain}
+use Rattle.lone_heap.specs.Trails.{Shows}
 use Rattle.lone_heap.proofs.Holding.{IsMine, kept_of, knows_on, knows_ready, ready_noted, ready_still, walk_mine}
 use Rattle.lone_heap.proofs.Stepping.{law_before, step_does}
 use Rattle.lone_heap.proofs.Tidying.{Knows}
+use Rattle.lone_heap.proofs.Trailing.{becomes_goes, shows_all, shows_less}
 use Rattle.lone_heap.proofs.Writing.{check_writes}
 
 module _ {P V : Type 0} {fits : List ℕ → Type 0} (d : DomainState P) (place : EventPlace)
@@ -196,3 +198,18 @@ module _ {P V : Type 0} (fits : List ℕ → Type 0) (d : DomainState P) (place 
           subst (λ (k : Kind). entry_in Disposal x (k, s) ≡ 0) (sym strong) refl in
           let now = ap (λ (v : CoreView). entry_times Disposal x (valid_of v.notes)) under.core in
           omega arith)
+
+-- whichever it found, its trail goes on
+pub acquired_goes : {P V E : Type 0} (fits : List ℕ → Type 0) (d : DomainState P)
+    (place : EventPlace) (next : OwnPart → OwnPart → V → PlainAct → ℕ → V)
+    (allows : Plain → Plain → ℕ → V → V → Type 0) (old new : SeatState V) (j : ℕ)
+    (r : Result (Option SlotId) E) (found : Option SlotId) → r ≡ Ok found
+    → (r ≡ Ok None → FindsNull fits d place next allows old new)
+    → IfSome found (λ s. Protects fits d j place next allows s old new)
+    → Shows [] old.view.core new.view.core
+acquired_goes fits d place next allows old new j r None is null under =
+    becomes_goes d old new (null is).becomes
+acquired_goes fits d place next allows old new j r (Some s) is null under =
+    shows_less (protected_by j place s) old.view.core new.view.core
+    (shows_all (protected_by j place s) old.view.core new.view.core
+    (ap (λ (v : CoreView). v.trail) under.core))

@@ -3,27 +3,32 @@ use Rattle.std.proofs.Common.{◌≡◌, ⊎_elim, ℕ, ◌<◌, Bool, true, fal
 use Rattle.std.specs.Prelude.{◌==◌, slice_index, if◌then◌else◌}
 use Rattle.plain_state.specs.declared.act.PlainAct.{PlainAct}
 use Rattle.plain_state.specs.declared.act.PlainAct.TheVariants as plain
+use Rattle.plain_state.specs.declared.slot.PlainSlot.{PlainSlot}
 use Rattle.plain_state.specs.declared.slot.SlotId.{SlotId}
 use Rattle.plain_state.specs.References.{strong_refs, weak_refs}
 use Rattle.plain_state.specs.State.{Plain, slot_at}
 use Rattle.plain_state.specs.Steps.{Does}
 use Rattle.plain_store.specs.Settling.{IsSettled}
 use Rattle.plain_protocol.specs.Owns.{OwnPart}
+use Rattle.counter_word.specs.Words.{has_zero, value}
 use Rattle.core_events.specs.declared.act.Act.TheVariants as act
 use Rattle.core_events.specs.declared.outcome.Outcome.TheVariants as outcome
 use Rattle.core_events.specs.declared.view.CoreView.{CoreView}
 use Rattle.core_events.specs.declared.view.Phase.{Phase}
 use Rattle.core_events.specs.declared.view.Phase.TheVariants as phase
+use Rattle.core_events.specs.Counts.{strong}
 use Rattle.core_events.specs.Runs.{Core}
 use Rattle.core_events.specs.Shows.{shows}
 use Rattle.core_events.specs.ShownSteps.{on_slot, shown_number}
 use Rattle.core_events.specs.Steps.{HasRoom}
 use Rattle.core_events.specs.Views.{Holds, slot_of}
+use Rattle.core_shows.proofs.Bridge.{shown_slot}
 use Rattle.core_invariant.proofs.Held.{held_named}
 use Rattle.core_invariant.proofs.Steady.{named_in_range}
 use Rattle.acquire_retire.specs.Collecting.{move}
 use Rattle.acquire_retire.specs.Domains.{DomainState}
 use Rattle.acquire_retire.specs.Seats.{SeatState}
+use Rattle.acquire_retire.specs.Wholes.{known_core}
 use Rattle.acquire_retire.specs.Calls.{IsSameView, same_view}
 use Rattle.control_word.specs.Calls.{CountsStrong, CountsWeak, counted_by}
 use Rattle.control_word.specs.Moves.{Becomes, last_core}
@@ -31,8 +36,14 @@ use Rattle.control_word.specs.Resting.{IsAtRest}
 use Rattle.slot_store.specs.Calls.{SeesWord}
 use Rattle.slot_store.proofs.Objects.{known_before}
 use Rattle.lone_heap.specs.Lone.{IsReady, known_plain}
+use Rattle.lone_heap.specs.Trails.{Shows}
+use Rattle.lone_heap.proofs.Trailing.{becomes_shows}
 use Rattle.lone_heap.proofs.Holding.{kept_of, knows_on, knows_ready, ready_still, walk_mine}
 use Rattle.lone_heap.proofs.Stepping.{law_before, step_does}
+
+again_zero : (w n : ℕ) → outcome.Again ≡ (if w == 0 then outcome.Again else outcome.Number n)
+    → w ≡ 0
+again_zero w n is = grind arith
 
 -- an answer that asks for a second step found the word 0
 again_so : (b : Bool) (n : ℕ) → outcome.Again ≡ (if b then outcome.Again else outcome.Number n)
@@ -107,6 +118,23 @@ module _ {P V : Type 0} {fits : List ℕ → Type 0} (d : DomainState P)
     {next : OwnPart → OwnPart → V → PlainAct → ℕ → V}
     {allows : Plain → Plain → ℕ → V → V → Type 0} (s : SlotId) (n : ℕ)
     (old new : SeatState V) (ready : IsReady d old) where
+  -- a slot that a seat holds is one of the domain's
+  pub held_there : CountsStrong fits d next allows s n old new → Holds old.view.core s
+      → s.0 < d.shape.slots
+  held_there counts holds = of counts.again counts.becomes
+    where
+      of : (again : Bool)
+          → Becomes fits d next allows (counted_by s n again) old.view.core old new
+          → s.0 < d.shape.slots
+      of false by =
+          named_in_range d.shape old.view.core.seat old.view.core s
+          (law_before d (act.Count s) old by.walks.0 _ by.walks.1)
+          (held_named s old.view.core holds)
+      of true by =
+          named_in_range d.shape old.view.core.seat old.view.core s
+          (law_before d (act.Count s) old by.walks.0 _ by.walks.1)
+          (held_named s old.view.core holds)
+
   told_by : (again : Bool)
       → (by : Becomes fits d next allows (counted_by s n again) old.view.core old new)
       → strong_refs (shows d.shape (last_core by)) s ≡ n → IsSettled (known_plain d old)
@@ -152,3 +180,52 @@ module _ {P V : Type 0} {fits : List ℕ → Type 0} (d : DomainState P)
       let on = walk_mine fits d next allows (counted_by s n counts.again) old new
       (knows_ready d old ready) ready.mine counts.becomes.walks in
       ready_still d old new ready on.0 on.1 (ap kept_of counts.becomes.core) rest (room ready.room)
+
+-- what a mark finds where nothing more may go, and the object has no zero mark
+no_mark : (p q : Plain) (m : ℕ) (s : SlotId) → IsSettled p → (slot_at p s).marked ≡ false
+    → strong_refs p s ≡ 0 → Does p 0 (plain.Mark s) m q → ⊥
+no_mark p q m s settled unmarked none does = ⊎_elim
+    (λ same. absurd (cc (sym unmarked ∙ same.1 (does.1.0 ∙ none))))
+    (λ marks. let some = settled.ended s marks.0 in absurd (omega arith))
+    does.1.1
+
+module _ {P V : Type 0} {fits : List ℕ → Type 0} (d : DomainState P)
+    {next : OwnPart → OwnPart → V → PlainAct → ℕ → V}
+    {allows : Plain → Plain → ℕ → V → V → Type 0} (s : SlotId) (n : ℕ)
+    (old new : SeatState V) (ready : IsReady d old) (settled : IsSettled (known_plain d old))
+    (there : s.0 < d.shape.slots) where
+  -- so a count of its references asks for no second step
+  never_again : Becomes fits d next allows (counted_by s n true) old.view.core old new → ⊥
+  never_again by =
+      let mid = by.walks.0 in
+      let step = by.walks.1 in
+      let more = by.walks.2.1 in
+      let later = by.walks.2.0 in
+      let knows = knows_on d (act.Count s) old mid _ (knows_ready d old ready) step in
+      let count = step_does d (act.Count s) old mid _ step ready.alone.0 ready.known in
+      let is = again_zero step.word _ step.answers in
+      let none : strong_refs (known_plain d old) s ≡ 0 = sym count.1.1 ∙ ap value is in
+      let word : strong d.shape (known_core old.view) s ≡ 0 =
+      ap (λ (c : Core). strong d.shape c s) (known_before step.told ready.known)
+      ∙ sym step.told.happened.found ∙ is in
+      let unmarked : (slot_at (known_plain d old) s).marked ≡ false =
+      ap (λ (x : PlainSlot). x.marked) (shown_slot d.shape (known_core old.view) s there)
+      ∙ ap has_zero word in
+      let zero' : mid.view.core.phase ≡ phase.Zero s =
+      ap (λ (v : CoreView). v.phase) step.told.core
+      ∙ zeroed (step.word == 0) s old.view.core (again_so (step.word == 0) _ step.answers) in
+      let does = subst (λ (x : Phase × Plain).
+      Does x.1 0 (on_slot plain.Mark (slot_of x.0)) (shown_number act.Mark more.word)
+      (known_plain d later)) (λ i. (zero' i, count.1.2 i))
+      (step_does d act.Mark mid later _ more knows.root knows.known) in
+      no_mark (known_plain d old) (known_plain d later) _ s settled unmarked none does
+
+  pub strong_shows : CountsStrong fits d next allows s n old new
+      → Shows (move (act.Count s) (outcome.Number n) ∷ []) old.view.core new.view.core
+  strong_shows counts = of counts.again counts.becomes
+    where
+      of : (again : Bool)
+          → Becomes fits d next allows (counted_by s n again) old.view.core old new
+          → Shows (move (act.Count s) (outcome.Number n) ∷ []) old.view.core new.view.core
+      of false by = becomes_shows d old new by
+      of true by = absurd (never_again by)

@@ -1,8 +1,10 @@
 pub mod Owing
 pub mod Stepping
+pub mod Trailing
 pub mod Tidying
 pub mod Turns
 pub mod Holding
+pub mod References
 pub mod Makes
 pub mod Counted
 pub mod Settled

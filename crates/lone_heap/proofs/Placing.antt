@@ -37,9 +37,11 @@ use Rattle.retiring_stores.specs.Scanning.{Collected, IsBelow, IsDue, ScansWhere
 use Rattle.retiring_stores.proofs.Opened.{stores}
 use Rattle.slot_store.proofs.Objects.{known_before}
 use Rattle.lone_heap.specs.Lone.{IsReady, ThenTidies, known_plain}
+use Rattle.lone_heap.specs.Trails.{Shows, ShowsTry}
 use Rattle.lone_heap.proofs.Holding.{IsMine, kept_of, knows_on, knows_ready, mine_after, ready_still, walk_mine}
 use Rattle.lone_heap.proofs.Stepping.{step_does}
-use Rattle.lone_heap.proofs.Tidying.{Knows, due_reaches}
+use Rattle.lone_heap.proofs.Tidying.{Knows, Reaches, due_reaches}
+use Rattle.lone_heap.proofs.Trailing.{becomes_shows, shows_all, shows_first, shows_then}
 
 -- the phase of a seat that gave up a reference, and what its calls leave as it was
 given_phase : (k : Kind) (given : Option SlotId) (v : CoreView)
@@ -122,12 +124,20 @@ module _ {P V : Type 0} {fits : List ℕ → Type 0} (d : DomainState P)
     put_knows = knows_on d m.act old mid m.outcome (knows_ready d old ready) e.puts.step
 
     -- what the scan did, if there was one, is to tidy
+    scanned : Reaches d mid new
+    scanned =
+        due_reaches fits d mid new put_knows
+        (ap (λ (v : CoreView). v.phase) e.puts.core
+        ∙ given_phase (place_kind place) given old.view.core ∙ ready.rest.idle.0) e.scans
+
     put_tidies : (Q : Plain → Type 0) → Q (known_plain d mid) → ThenTidies Q (known_plain d new)
-    put_tidies Q put =
-        let idle : mid.view.core.phase ≡ phase.Idle =
-        ap (λ (v : CoreView). v.phase) e.puts.core
-        ∙ given_phase (place_kind place) given old.view.core ∙ ready.rest.idle.0 in
-        (known_plain d mid, put, (due_reaches fits d mid new put_knows idle e.scans).tidies)
+    put_tidies Q put = (known_plain d mid, put, scanned.tidies)
+
+    pub put_shows : Shows (m ∷ []) old.view.core new.view.core
+    put_shows =
+        shows_first (m ∷ []) old.view.core mid.view.core new.view.core
+        (shows_all (m ∷ []) old.view.core mid.view.core
+        (ap (λ (v : CoreView). v.trail) e.puts.core)) scanned.goes
 
     pub exchange_ready : IsAtRest d new → HasRoom new.view.core → IsReady d new
     exchange_ready rest room =
@@ -207,6 +217,18 @@ module _ {P V : Type 0} {fits : List ℕ → Type 0} (d : DomainState P)
         loses.becomes.walks in
         ready_still d old new ready on.0 on.1 (ap kept_of loses.becomes.core) rest room
 
+-- a try shows itself after whatever came before it
+pub try_after : (place : EventPlace) (expected given : Option SlotId) (done : Bool)
+    (u v w : CoreView) → Shows [] u v → ShowsTry place expected given done v w
+    → ShowsTry place expected given done u w
+try_after place expected given true u v w first is =
+    shows_then [] (move (act.Cas place expected given) outcome.Done ∷ []) u v w first is
+try_after place expected given false u v w first (found, is) = (
+  found,
+  shows_then [] (move (act.Cas place expected given) (outcome.LostTo found) ∷ []) u v w
+      first is,
+)
+
 -- whichever it found
 module _ {P V : Type 0} (fits : List ℕ → Type 0) (d : DomainState P)
     (next : OwnPart → OwnPart → V → PlainAct → ℕ → V)
@@ -235,3 +257,16 @@ module _ {P V : Type 0} (fits : List ℕ → Type 0) (d : DomainState P)
       expected replaced.0 rest room
   tried_ready expected (Err found) replaced lost rest room =
       lost_ready d place given old new ready expected found lost rest room
+
+  pub tried_shows : (expected : Option SlotId) (r : Result (Unit {0}) (Option SlotId)) (done : Bool)
+      → done ≡ is_ok r
+      → IfOk r (λ u. Replaces fits d next allows place given expected old new × IsBelow d new)
+      → IfErr r (λ found. Loses fits d next allows place given expected found old new)
+      → ShowsTry place expected given done old.view.core new.view.core
+  tried_shows expected (Ok u) done is replaced lost =
+      subst (λ (b : Bool). ShowsTry place expected given b old.view.core new.view.core) (sym is)
+      (put_shows d place given old new ready (move (act.Cas place expected given) outcome.Done)
+      expected replaced.0)
+  tried_shows expected (Err found) done is replaced lost =
+      subst (λ (b : Bool). ShowsTry place expected given b old.view.core new.view.core) (sym is)
+      (found, becomes_shows d old new lost.becomes)

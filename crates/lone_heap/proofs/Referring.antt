@@ -31,10 +31,12 @@ use Rattle.control_word.specs.Resting.{IsAtRest}
 use Rattle.protected_loads.specs.References.{Loads, Refers, counted_as, counting, kept_by, loaded_by, with_reference}
 use Rattle.protected_loads.proofs.Noting.{written}
 use Rattle.lone_heap.specs.Lone.{IsReady, known_plain}
+use Rattle.lone_heap.specs.Trails.{Shows}
 use Rattle.lone_heap.proofs.Acquiring.{checks_here, four, null_knows, null_shown, protected_knows, seen_here}
 use Rattle.lone_heap.proofs.Holding.{IsMine, kept_of, knows_on, ready_still, walk_mine}
 use Rattle.lone_heap.proofs.Stepping.{step_does}
 use Rattle.lone_heap.proofs.Tidying.{Knows}
+use Rattle.lone_heap.proofs.Trailing.{becomes_goes, shows_all, shows_less}
 use Rattle.lone_heap.proofs.Writing.{Writes, add_writes, check_writes, end_writes, weak_gain_writes, writes_on}
 
 -- an add leaves the notes
@@ -241,3 +243,15 @@ module _ {P V : Type 0} (fits : List ℕ → Type 0) (d : DomainState P) (place 
         let on = new_knows d place old new ready s refers in
         ready_still d old new ready on.0 on.1
         (ap kept_of refers.core ∙ counted_kept (place_kind place) s old.view.core) rest room
+
+-- whatever a load found, its trail goes on
+pub loads_go : {P V : Type 0} (fits : List ℕ → Type 0) (d : DomainState P) (place : EventPlace)
+    (next : OwnPart → OwnPart → V → PlainAct → ℕ → V)
+    (allows : Plain → Plain → ℕ → V → V → Type 0) (old new : SeatState V)
+    (found : Option SlotId) → Loads fits d place next allows found old new
+    → Shows [] old.view.core new.view.core
+loads_go fits d place next allows old new None finds = becomes_goes d old new finds.becomes
+loads_go fits d place next allows old new (Some s) refers =
+    shows_less (loaded_by place s) old.view.core new.view.core
+    (shows_all (loaded_by place s) old.view.core new.view.core
+    (ap (λ (v : CoreView). v.trail) refers.core))

@@ -27,9 +27,16 @@ use Rattle.slot_store.proofs.Turning.{nothing_in}
 use Rattle.domain_audit.specs.Lone.{IsLone}
 use Rattle.domain_audit.proofs.Showing.{lone_state}
 use Rattle.lone_heap.specs.Lone.{IsReady, known_plain}
+use Rattle.lone_heap.specs.Trails.{Shows}
 use Rattle.lone_heap.proofs.Holding.{IsMine, kept_of, knows_ready, ready_still}
 use Rattle.lone_heap.proofs.Tidying.{Knows}
 use Rattle.lone_heap.proofs.Turns.{settle_all, settle_part}
+
+pub settle_goes : {P V : Type 0} {fits : List ℕ → Type 0} (d : DomainState P)
+    (weight : List ℕ → ℕ) (total : ℕ) (old new : SeatState V) → IsReady d old
+    → Settles fits d weight total old new → Shows [] old.view.core new.view.core
+settle_goes {fits = fits} d weight total old new ready s =
+    (settle_all fits d weight total old new (knows_ready d old ready) ready.rest.idle.0 s).reaches.goes
 
 module _ {P V : Type 0} {fits : List ℕ → Type 0} (d : DomainState P) (weight : List ℕ → ℕ)
     (total : ℕ) (old new : SeatState V) (ready : IsReady d old)

@@ -37,8 +37,10 @@ use Rattle.slot_store.proofs.OwnNotes.{AreOwn, own_scan}
 use Rattle.slot_store.proofs.Ripening.{split_read, word_read}
 use Rattle.slot_store.proofs.Tries.{append_nil}
 use Rattle.lone_heap.specs.Lone.{known_plain}
+use Rattle.lone_heap.specs.Trails.{Shows}
 use Rattle.lone_heap.proofs.Owing.{IsPaying, OwesSurplus, first_there, own_least, owed_surplus, paying_owes, scan_owes}
 use Rattle.lone_heap.proofs.Stepping.{law_before, seat_before, step_does}
+use Rattle.lone_heap.proofs.Trailing.{same_goes, shows_then, step_goes}
 
 module _ (p q : Plain) (m : ℕ) where
   scan_shown : (b : Bool) → Does p 0 (if b then plain.Split else plain.Still) m q → TidiesTo p q
@@ -77,18 +79,21 @@ module _ {P V : Type 0} (d : DomainState P) where
   pub record Reaches (old new : SeatState V) : Type 0 where
     pub tidies : TidiesTo (known_plain d old) (known_plain d new)
     pub knows : Knows new
+    pub goes : Shows [] old.view.core new.view.core
 
   pub reaches_on : (a b c : SeatState V) → Reaches a b → Reaches b c → Reaches a c
   reaches_on a b c one two = record {
     tidies =
         tidies_on (known_plain d a) (known_plain d b) (known_plain d c) one.tidies two.tidies;
     knows = two.knows;
+    goes = shows_then [] [] a.view.core b.view.core c.view.core one.goes two.goes;
   }
 
   pub reaches_same : (a b : SeatState V) → Knows a → b ≡ a → Reaches a b
   reaches_same a b knows same = record {
     tidies = tidies_none (known_plain d a) (known_plain d b) (ap (known_plain d) same);
     knows = subst Knows (sym same) knows;
+    goes = same_goes a b same;
   }
 
 -- these moves are those of payments
@@ -123,7 +128,11 @@ module _ {P V : Type 0} (fits : List ℕ → Type 0) (d : DomainState P) where
       → OwesSurplus old.view.core → Steps fits d same_view IsSameView a old new o
       → Reaches d old new
   pay_reaches a old new o pays knows owes step =
-      record { tidies = go a pays step; knows = knows_step a old new o knows step }
+      record {
+        tidies = go a pays step;
+        knows = knows_step a old new o knows step;
+        goes = step_goes d old new a o step;
+      }
     where
       go : (a : Act) → IsPaying a → Steps fits d same_view IsSameView a old new o
           → TidiesTo (known_plain d old) (known_plain d new)
@@ -185,6 +194,7 @@ module _ {P V : Type 0} (fits : List ℕ → Type 0) (d : DomainState P) where
         scan_shown (known_plain d old) (known_plain d new) _ (is_last d.shape old.view.core)
         (step_does d act.Scan old new o step knows.root knows.known);
     knows = knows_step act.Scan old new o knows step;
+    goes = step_goes d old new act.Scan o step;
   }
 
   scans_reach : (ws acc : List ℕ) (last stay go : ℕ) (ms : List Move) (old new : SeatState V)

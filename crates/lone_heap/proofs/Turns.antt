@@ -25,6 +25,7 @@ use Rattle.slot_store.specs.Reaping.{Answers, Clears, FindsRipe, Reaps, SeesAll,
 use Rattle.slot_store.specs.Settling.{Settles, Turn, Turns}
 use Rattle.lone_heap.specs.Lone.{known_plain}
 use Rattle.lone_heap.proofs.Stepping.{step_does}
+use Rattle.lone_heap.proofs.Trailing.{step_goes}
 use Rattle.lone_heap.proofs.Tidying.{Knows, Reaches, clear_shown, collect_reaches, due_reaches, give_shown, knows_step, reaches_on, reaches_same}
 
 -- of a field that a clear left null the slot was ripe
@@ -71,6 +72,7 @@ module _ {P V : Type 0} (fits : List ℕ → Type 0) (d : DomainState P) where
         tidies_one (known_plain d old) (known_plain d new) (plain.Destroy s) _ tt
         (step_does d (act.Destroy s) old new o step knows.root knows.known);
     knows = knows_step fits d (act.Destroy s) old new o knows step;
+    goes = step_goes d old new (act.Destroy s) o step;
   }
 
   finds_part : (s : SlotId) (old new : SeatState V) → Knows old → old.view.core.phase ≡ phase.Idle
@@ -96,6 +98,7 @@ module _ {P V : Type 0} (fits : List ℕ → Type 0) (d : DomainState P) where
         tidies =
             clear_shown (known_plain d old) (known_plain d mid) _ (is_ripe_field v x) x ripe does;
         knows = knows_step fits d (act.Swap x None) old mid _ knows step;
+        goes = step_goes d old mid (act.Swap x None) _ step;
       } in
       let still : mid.view.core.phase ≡ phase.Idle =
       ap (λ (u : CoreView). u.phase) swaps.puts.core ∙ idle in
@@ -121,6 +124,7 @@ module _ {P V : Type 0} (fits : List ℕ → Type 0) (d : DomainState P) where
       let one : Reaches d old mid = record {
         tidies = tidies_none (known_plain d old) (known_plain d mid) does.1.3;
         knows = knows_step fits d (act.See s i) old mid _ knows step;
+        goes = step_goes d old mid (act.See s i) _ step;
       } in
       reaches_on d old mid new one (sees_reach s payload (i + 1) n mid new one.knows walks.2)
 
@@ -151,6 +155,7 @@ module _ {P V : Type 0} (fits : List ℕ → Type 0) (d : DomainState P) where
         tidies =
             give_shown (known_plain d mid) (known_plain d new) _ (slot_of mid.view.core.phase) does;
         knows = knows_step fits d act.Free mid new _ one.knows frees;
+        goes = step_goes d mid new act.Free _ frees;
       } in
       record {
         reaches = reaches_on d old mid new one two;

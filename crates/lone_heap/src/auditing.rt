@@ -1,9 +1,10 @@
 //! The audit of a seat that is alone.
-ghost use Rattle.std.specs.Prelude.{◌≡◌, IfOk, length};
+ghost use Rattle.std.specs.Prelude.{◌≡◌, [], IfOk, length};
 ghost use Rattle.plain_store.specs.Settling.{IsSettled};
 ghost use Rattle.plain_audit.specs.Audits.{IsAudit};
 ghost use Rattle.deleter.specs.Weighing.{Weighs};
 ghost use Rattle.lone_heap.specs.Lone.{IsReady, known_plain};
+ghost use Rattle.lone_heap.specs.Trails.{Shows};
 
 use acquire_retire::{Domain, Seat};
 use deleter::Deleter;
@@ -29,6 +30,7 @@ pub fn audit_lone<P: Protocol, F: Fn(&[u64; 16]) -> u64>(
     ensures found { IfOk result
         (IsAudit P.Kind.weight rank.now (known_plain domain.now seat.old)) }
     ensures same { known_plain domain.now seat.new ≡ known_plain domain.now seat.old }
+    ensures trail { Shows [] seat.old.view.core seat.new.view.core }
     ensures notes { seat.new.view.core.notes ≡ seat.old.view.core.notes }
     ensures ready { IsReady domain.now seat.new }
 {

@@ -1,10 +1,11 @@
 //! References to what places hold.
-ghost use Rattle.std.specs.Prelude.{◌≡◌, ◌↔◌, IfOk, IsErr, OnErr};
+ghost use Rattle.std.specs.Prelude.{◌≡◌, ◌↔◌, [], IfOk, IsErr, OnErr};
 ghost use Rattle.plain_state.specs.declared.slot.Kind.TheVariants as kind;
 ghost use Rattle.plain_state.specs.Places.{IsOpen, place_kind};
 ghost use Rattle.plain_store.specs.Calls.{Loads, WeaklyLoads};
 ghost use Rattle.control_word.specs.Resting.{IsSpent};
 ghost use Rattle.lone_heap.specs.Lone.{IsReady, known_plain};
+ghost use Rattle.lone_heap.specs.Trails.{Shows};
 
 use acquire_retire::{Domain, EventPlace, Seat, SlotId};
 use counted_handles::{LoadError, Spent};
@@ -28,6 +29,7 @@ pub fn load<K: PayloadKind>(
         Loads (known_plain domain.now seat.old) place found (known_plain domain.now seat.new)) }
     ensures weakly { place_kind place ≡ kind.Weak → IfOk result (λ found. WeaklyLoads
         (known_plain domain.now seat.old) place found (known_plain domain.now seat.new)) }
+    ensures trail { Shows [] seat.old.view.core seat.new.view.core }
     ensures notes { seat.new.view.core.notes ≡ seat.old.view.core.notes }
     ensures ready { IsReady domain.now seat.new }
 {

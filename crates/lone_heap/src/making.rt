@@ -5,6 +5,7 @@ ghost use Rattle.control_word.specs.Resting.{IsSpent};
 ghost use Rattle.slot_store.specs.Calls.{HasNoMake};
 ghost use Rattle.slot_store.specs.declared.making.MakeError.TheVariants as refused;
 ghost use Rattle.lone_heap.specs.Lone.{IsReady, known_plain};
+ghost use Rattle.lone_heap.specs.Trails.{Shows, started_by};
 
 use acquire_retire::{Domain, Seat};
 use counted_handles::Strong;
@@ -32,6 +33,7 @@ pub fn make<K: PayloadKind>(
         → known_plain domain.now seat.new ≡ known_plain domain.now seat.old }
     ensures made { IfOk result (λ strong. Makes (known_plain domain.now seat.old) strong.slot
         payload.now (known_plain domain.now seat.new)) }
+    ensures trail { Shows (started_by result) seat.old.view.core seat.new.view.core }
     ensures notes { seat.new.view.core.notes ≡ seat.old.view.core.notes }
     ensures ready { IsReady domain.now seat.new }
 {

@@ -1,10 +1,11 @@
 //! What a seat that is alone puts into places.
-ghost use Rattle.std.specs.Prelude.{◌≡◌, IfSome};
+ghost use Rattle.std.specs.Prelude.{◌≡◌, [], IfSome};
 ghost use Rattle.plain_state.specs.Places.{Holds, IsOpen, place_kind};
 ghost use Rattle.plain_state.specs.State.{seat_at};
 ghost use Rattle.plain_store.specs.Calls.{MayGive, Puts, Tries};
 ghost use Rattle.core_events.specs.Steps.{IsContent};
 ghost use Rattle.lone_heap.specs.Lone.{IsReady, ThenTidies, known_plain};
+ghost use Rattle.lone_heap.specs.Trails.{Shows, ShowsPut, ShowsTry};
 
 use crate::telling::read;
 use acquire_retire::{Domain, EventPlace, Seat, SlotId};
@@ -25,6 +26,7 @@ pub fn put<K: PayloadKind>(
     requires given { MayGive (place_kind place) new (seat_at (known_plain domain.now seat.old) 0) }
     ensures puts { ThenTidies (Puts (known_plain domain.now seat.old) place new)
         (known_plain domain.now seat.new) }
+    ensures trail { ShowsPut place new seat.old.view.core seat.new.view.core }
     ensures notes { seat.new.view.core.notes ≡ seat.old.view.core.notes }
     ensures ready { IsReady domain.now seat.new }
 {
@@ -46,6 +48,7 @@ pub fn try_put<K: PayloadKind>(
     requires given { MayGive (place_kind place) new (seat_at (known_plain domain.now seat.old) 0) }
     ensures tries { ThenTidies (Tries (known_plain domain.now seat.old) place expected new result)
         (known_plain domain.now seat.new) }
+    ensures trail { ShowsTry place expected new result seat.old.view.core seat.new.view.core }
     ensures notes { seat.new.view.core.notes ≡ seat.old.view.core.notes }
     ensures ready { IsReady domain.now seat.new }
 {
@@ -59,6 +62,7 @@ fn find<P: Protocol>(domain: &Domain<P>, seat: &mut Seat<P>, slot: Option<SlotId
     requires held { IfSome slot (Holds (seat_at (known_plain domain.now seat.old) 0)) }
     ensures there { IsContent domain.now.shape slot }
     ensures same { known_plain domain.now seat.new ≡ known_plain domain.now seat.old }
+    ensures trail { Shows [] seat.old.view.core seat.new.view.core }
     ensures notes { seat.new.view.core.notes ≡ seat.old.view.core.notes }
     ensures ready { IsReady domain.now seat.new }
 {

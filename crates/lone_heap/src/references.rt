@@ -1,5 +1,5 @@
 //! References of a seat that is alone: one more, and one fewer.
-ghost use Rattle.std.specs.Prelude.{◌≡◌, ◌↔◌, IfOk, IsErr, OnErr, Err};
+ghost use Rattle.std.specs.Prelude.{◌≡◌, ◌↔◌, [], IfOk, IsErr, OnErr, OnOk, Err};
 ghost use Rattle.plain_state.specs.declared.act.PlainAct.TheVariants as act;
 ghost use Rattle.plain_state.specs.Steps.{Does};
 ghost use Rattle.plain_store.specs.Calls.{Gains, WeaklyGains};
@@ -7,6 +7,7 @@ ghost use Rattle.plain_store.specs.Heaps.{Owns, OwnsWeakly};
 ghost use Rattle.control_word.specs.Resting.{IsSpent};
 ghost use Rattle.control_word.specs.declared.upgrading.UpgradeError.TheVariants as refused;
 ghost use Rattle.lone_heap.specs.Lone.{IsReady, ThenTidies, known_plain};
+ghost use Rattle.lone_heap.specs.Trails.{Shows, found_ended, upgraded};
 
 use acquire_retire::{Domain, Seat};
 use control_word::{UpgradeError, copy_strong, copy_weak, drop_strong, drop_weak, upgrade, weaken};
@@ -27,6 +28,7 @@ pub fn copy<P: Protocol>(
     ensures refused { OnErr result (seat.new ≡ seat.old) }
     ensures gains { IfOk result (λ more. Gains (known_plain domain.now seat.old)
         handle.now.slot more.slot (known_plain domain.now seat.new)) }
+    ensures trail { Shows [] seat.old.view.core seat.new.view.core }
     ensures notes { seat.new.view.core.notes ≡ seat.old.view.core.notes }
     ensures ready { IsReady domain.now seat.new }
 {
@@ -46,6 +48,7 @@ pub fn weaken_lone<P: Protocol>(
     ensures refused { OnErr result (seat.new ≡ seat.old) }
     ensures gains { IfOk result (λ more. WeaklyGains (known_plain domain.now seat.old)
         handle.now.slot more.slot (known_plain domain.now seat.new)) }
+    ensures trail { Shows [] seat.old.view.core seat.new.view.core }
     ensures notes { seat.new.view.core.notes ≡ seat.old.view.core.notes }
     ensures ready { IsReady domain.now seat.new }
 {
@@ -65,6 +68,7 @@ pub fn copy_weakly<P: Protocol>(
     ensures refused { OnErr result (seat.new ≡ seat.old) }
     ensures gains { IfOk result (λ more. WeaklyGains (known_plain domain.now seat.old)
         weak.now.slot more.slot (known_plain domain.now seat.new)) }
+    ensures trail { Shows [] seat.old.view.core seat.new.view.core }
     ensures notes { seat.new.view.core.notes ≡ seat.old.view.core.notes }
     ensures ready { IsReady domain.now seat.new }
 {
@@ -86,6 +90,10 @@ pub fn upgrade_lone<K: PayloadKind>(
         weak.now.slot more.slot (known_plain domain.now seat.new)) }
     ensures ended { result ≡ Err refused.Ended → Does (known_plain domain.now seat.old) 0
         (act.Add weak.now.slot) 1 (known_plain domain.now seat.new) }
+    ensures shows_up { OnOk result
+        (Shows (upgraded weak.now.slot) seat.old.view.core seat.new.view.core) }
+    ensures shows_ended { result ≡ Err refused.Ended
+        → Shows (found_ended weak.now.slot) seat.old.view.core seat.new.view.core }
     ensures notes { seat.new.view.core.notes ≡ seat.old.view.core.notes }
     ensures ready { IsReady domain.now seat.new }
 {
@@ -98,6 +106,7 @@ pub fn give<P: Protocol>(domain: &Domain<P>, seat: &mut Seat<P>, handle: Strong)
     requires owned { Owns (known_plain domain.now seat.old) handle.slot }
     ensures gives { ThenTidies (Does (known_plain domain.now seat.old) 0 (act.Drop handle.slot) 0)
         (known_plain domain.now seat.new) }
+    ensures trail { Shows [] seat.old.view.core seat.new.view.core }
     ensures notes { seat.new.view.core.notes ≡ seat.old.view.core.notes }
     ensures ready { IsReady domain.now seat.new }
 {
@@ -111,6 +120,7 @@ pub fn give_weak<P: Protocol>(domain: &Domain<P>, seat: &mut Seat<P>, weak: Weak
     ensures gives { ThenTidies
         (Does (known_plain domain.now seat.old) 0 (act.WeakDrop weak.slot) 0)
         (known_plain domain.now seat.new) }
+    ensures trail { Shows [] seat.old.view.core seat.new.view.core }
     ensures notes { seat.new.view.core.notes ≡ seat.old.view.core.notes }
     ensures ready { IsReady domain.now seat.new }
 {

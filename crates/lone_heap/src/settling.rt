@@ -1,9 +1,10 @@
 //! A seat that is alone settles.
-ghost use Rattle.std.specs.Prelude.{◌≡◌};
+ghost use Rattle.std.specs.Prelude.{◌≡◌, []};
 ghost use Rattle.plain_settling.specs.Settling.{TidiesTo};
 ghost use Rattle.plain_store.specs.Settling.{IsSettled};
 ghost use Rattle.deleter.specs.Weighing.{Weighs};
 ghost use Rattle.lone_heap.specs.Lone.{IsReady, known_plain};
+ghost use Rattle.lone_heap.specs.Trails.{Shows};
 
 use acquire_retire::{Domain, Seat};
 use deleter::Deleter;
@@ -21,6 +22,7 @@ pub fn settle_all<P: Protocol, F: Fn(&[u64; 16]) -> u64>(
     requires weighs { Weighs P.Kind.fits P.Kind.weight F.Fn deleter.now }
     ensures tidies { TidiesTo (known_plain domain.now seat.old) (known_plain domain.now seat.new) }
     ensures settled { IsSettled (known_plain domain.now seat.new) }
+    ensures trail { Shows [] seat.old.view.core seat.new.view.core }
     ensures notes { seat.new.view.core.notes ≡ seat.old.view.core.notes }
     ensures ready { IsReady domain.now seat.new }
 {

@@ -1,5 +1,5 @@
 //! Snapshots of a seat that is alone: taken, kept by a reference, and ended.
-ghost use Rattle.std.specs.Prelude.{◌≡◌, ◌<◌, ◌↔◌, IfNone, IfOk, IfSome, IsErr, None, OnErr, Some, slice_set};
+ghost use Rattle.std.specs.Prelude.{◌≡◌, ◌<◌, ◌↔◌, [], IfNone, IfOk, IfSome, IsErr, None, OnErr, Some, slice_set};
 ghost use Rattle.plain_state.specs.declared.act.PlainAct.TheVariants as act;
 ghost use Rattle.plain_state.specs.declared.slot.Kind.TheVariants as kind;
 ghost use Rattle.plain_state.specs.Lists.{entry_times};
@@ -13,6 +13,7 @@ ghost use Rattle.core_events.specs.Views.{note_of};
 ghost use Rattle.acquire_retire.specs.Notes.{least_free};
 ghost use Rattle.control_word.specs.Resting.{IsSpent};
 ghost use Rattle.lone_heap.specs.Lone.{IsReady, known_plain};
+ghost use Rattle.lone_heap.specs.Trails.{Shows};
 ghost use Rattle.lone_heap.specs.Words.{AreNoted, note_for};
 
 use crate::loading::load;
@@ -43,6 +44,7 @@ pub fn snap<K: PayloadKind>(
     ensures takes { IfOk result (λ found.
         Takes (known_plain domain.now seat.old) place found (known_plain domain.now seat.new)) }
     ensures noted { AreNoted words.new seat.new }
+    ensures trail { Shows [] seat.old.view.core seat.new.view.core }
     ensures ready { IsReady domain.now seat.new }
 {
     let Some(word) = domain.free_note(seat) else {
@@ -76,6 +78,7 @@ fn protect<K: PayloadKind>(
     ensures still { IfNone result (seat.new.view.core.notes ≡ seat.old.view.core.notes) }
     ensures noted { IfSome result (λ slot. seat.new.view.core.notes
         ≡ slice_set seat.old.view.core.notes word (note_for (Some slot))) }
+    ensures trail { Shows [] seat.old.view.core seat.new.view.core }
     ensures ready { IsReady domain.now seat.new }
 {
     match acquire(domain, seat, word, place, AnyStep, AnyStep) {
@@ -98,6 +101,7 @@ pub fn keep<P: Protocol>(
     ensures gains { IfOk result (λ more. Gains (known_plain domain.now seat.old) slot more.slot
         (known_plain domain.now seat.new)) }
     ensures notes { seat.new.view.core.notes ≡ seat.old.view.core.notes }
+    ensures trail { Shows [] seat.old.view.core seat.new.view.core }
     ensures ready { IsReady domain.now seat.new }
 {
     if domain.adds_left(seat) == 0 {
@@ -116,6 +120,7 @@ pub fn end<P: Protocol>(domain: &Domain<P>, seat: &mut Seat<P>, words: &mut Word
     ensures ends { Does (known_plain domain.now seat.old) 0 (act.EndSnapshot kind.Strong slot) 0
         (known_plain domain.now seat.new) }
     ensures noted { AreNoted words.new seat.new }
+    ensures trail { Shows [] seat.old.view.core seat.new.view.core }
     ensures ready { IsReady domain.now seat.new }
 {
     let word = words.word_of(slot);

@@ -1,10 +1,11 @@
 //! What a seat that is alone is told of an object: a word, and how many references there are.
-ghost use Rattle.std.specs.Prelude.{◌≡◌, ◌<◌, slice_index};
+ghost use Rattle.std.specs.Prelude.{◌≡◌, ◌<◌, [], slice_index};
 ghost use Rattle.plain_state.specs.Places.{Holds};
 ghost use Rattle.plain_state.specs.References.{strong_refs, weak_refs};
 ghost use Rattle.plain_state.specs.State.{seat_at, slot_at};
 ghost use Rattle.plain_store.specs.Settling.{IsSettled};
 ghost use Rattle.lone_heap.specs.Lone.{IsReady, known_plain};
+ghost use Rattle.lone_heap.specs.Trails.{Shows, counted};
 
 use acquire_retire::{Domain, Seat, SlotId};
 use control_word::{strong_count, weak_count};
@@ -20,6 +21,7 @@ pub fn read<P: Protocol>(domain: &Domain<P>, seat: &mut Seat<P>, slot: SlotId, w
         ≡ slice_index (slot_at (known_plain domain.now seat.old) slot).payload word }
     ensures there { slot.0 < domain.now.shape.slots }
     ensures same { known_plain domain.now seat.new ≡ known_plain domain.now seat.old }
+    ensures trail { Shows [] seat.old.view.core seat.new.view.core }
     ensures notes { seat.new.view.core.notes ≡ seat.old.view.core.notes }
     ensures ready { IsReady domain.now seat.new }
 {
@@ -39,6 +41,7 @@ pub fn counts<K: PayloadKind>(
     ensures strong { result.0 ≡ strong_refs (known_plain domain.now seat.old) slot }
     ensures weak { result.1 ≡ weak_refs (known_plain domain.now seat.old) slot }
     ensures same { known_plain domain.now seat.new ≡ known_plain domain.now seat.old }
+    ensures trail { Shows (counted slot result) seat.old.view.core seat.new.view.core }
     ensures notes { seat.new.view.core.notes ≡ seat.old.view.core.notes }
     ensures ready { IsReady domain.now seat.new }
 {

@@ -27,7 +27,8 @@ returns-in-Some-2 g c =
     c.loop-line.line-iterator c.next.new.self (c.in-Some.line.number, c.in-Some.line.bytes.now)
     (texts_of c.deref-in-loop-line.result.now) c.in-Some-2.reason
     (search rules) (search rules) (search rules) (c.take.ensures.refused c.in-Some-2.reason (search rules))
-    (search rules) c.loop-line.invariant
+    (search rules) c.loop-line.invariant c.take.new.self
+    (c.take.ensures.stays c.in-Some-2.reason (search rules))
 
 -- src/run.rt:28:5
 pub loop-line-preserved : goal.loop-line-preserved

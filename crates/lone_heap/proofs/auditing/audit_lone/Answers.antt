@@ -2,6 +2,7 @@ use Rattle.std.proofs.Common.{ap, length, ◌∙◌, sym}
 use Rattle.plain_state.specs.State.{PlainSeat}
 use Rattle.core_events.specs.declared.view.CoreView.{CoreView}
 use Rattle.lone_heap.proofs.Audited.{audits, ranks_there, stays_ready, stays_same}
+use Rattle.lone_heap.proofs.Trailing.{becomes_goes}
 use Rattle.lone_heap.proofs.auditing.audit_lone.Goals as goal
 
 pub audit_domain-requires-clause-none_dying : goal.audit_domain-requires-clause-none_dying
@@ -33,3 +34,8 @@ returns-clause-ready g c =
     stays_ready g.P.Kind.PayloadKind.fits c.args.domain.now c.args.seat.now
     c.audit_domain.new.seat c.requires.ready c.audit_domain.ensures.stays
     c.audit_domain.ensures.rest c.audit_domain.ensures.whole c.audit_domain.ensures.room
+
+pub returns-clause-trail : goal.returns-clause-trail
+returns-clause-trail g c =
+    becomes_goes c.args.domain.now c.args.seat.now c.audit_domain.new.seat
+    c.audit_domain.ensures.stays.1

@@ -3,7 +3,7 @@ use Rattle.core_events.specs.Words.{slot_in}
 use Rattle.acquire_retire.specs.Calls.{IsSameView, same_view}
 use Rattle.lone_heap.proofs.Acquiring.{misses_none}
 use Rattle.lone_heap.proofs.Placing.{readable_here}
-use Rattle.lone_heap.proofs.Referring.{loads_ready, loads_shown, weakly_loads_shown}
+use Rattle.lone_heap.proofs.Referring.{loads_go, loads_ready, loads_shown, weakly_loads_shown}
 use Rattle.lone_heap.proofs.loading.load.Goals as goal
 
 pub try_load-requires-clause-place : goal.try_load-requires-clause-place
@@ -32,3 +32,8 @@ returns-in-Ok-clause-ready g c =
     loads_ready g.K.PayloadKind.fits c.args.domain.now c.args.place same_view IsSameView
     c.args.seat.now c.try_load.new.seat c.requires.ready c.in-Ok.found c.in-Ok.ensures.loaded
     c.try_load.ensures.rest (c.try_load.ensures.room c.requires.ready.room)
+
+pub returns-in-Ok-clause-trail : goal.returns-in-Ok-clause-trail
+returns-in-Ok-clause-trail g c =
+    loads_go g.K.PayloadKind.fits c.args.domain.now c.args.place same_view IsSameView
+    c.args.seat.now c.try_load.new.seat c.in-Ok.found c.in-Ok.ensures.loaded

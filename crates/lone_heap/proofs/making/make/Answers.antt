@@ -4,7 +4,7 @@ use Rattle.acquire_retire.specs.Calls.{IsSameView, same_view}
 use Rattle.acquire_retire.proofs.Wholes.{then_ok}
 use Rattle.slot_store.specs.Calls.{Makes}
 use Rattle.lone_heap.specs.Lone.{known_plain}
-use Rattle.lone_heap.proofs.Makes.{full_none, full_same, made_ready, make_shown}
+use Rattle.lone_heap.proofs.Makes.{full_none, full_same, made_ready, made_shows, make_shown}
 use Rattle.lone_heap.proofs.making.make.Goals as goal
 
 pub returns-clause-full : goal.returns-clause-full
@@ -34,4 +34,10 @@ pub returns-clause-ready : goal.returns-clause-ready
 returns-clause-ready g c =
     made_ready g.K.PayloadKind.fits c.args.domain.now same_view IsSameView c.args.payload.now c.make.result c.args.seat.now
     c.make.new.seat c.requires.ready c.make.ensures.rest c.make.ensures.room c.make.ensures.no_make c.make.ensures.no_add
+    c.make.ensures.full c.make.ensures.made
+
+pub returns-clause-trail : goal.returns-clause-trail
+returns-clause-trail g c =
+    made_shows g.K.PayloadKind.fits c.args.domain.now same_view IsSameView c.args.payload.now
+    c.make.result c.args.seat.now c.make.new.seat c.make.ensures.no_make c.make.ensures.no_add
     c.make.ensures.full c.make.ensures.made

@@ -3,7 +3,7 @@ use Rattle.plain_state.specs.Places.{place_kind}
 use Rattle.core_events.specs.declared.act.Act.TheVariants as act
 use Rattle.core_events.specs.declared.outcome.Outcome.TheVariants as outcome
 use Rattle.acquire_retire.specs.Collecting.{move}
-use Rattle.lone_heap.proofs.Placing.{exchange_ready, give_here, open_here, put_shown}
+use Rattle.lone_heap.proofs.Placing.{exchange_ready, give_here, open_here, put_shown, put_shows}
 use Rattle.lone_heap.proofs.places.put.Goals as goal
 
 pub exchange-requires-clause-may : goal.exchange-requires-clause-may
@@ -30,3 +30,12 @@ returns-clause-ready g c =
     c.requires.ready
     (move (act.Swap c.args.place c.args.new) (outcome.Found c.exchange.result)) c.exchange.result
     c.exchange.ensures.exchanged c.exchange.ensures.rest c.exchange.ensures.room
+
+pub returns-clause-trail : goal.returns-clause-trail
+returns-clause-trail g c = (
+  c.exchange.result,
+  put_shows c.args.domain.now c.args.place c.args.new c.args.seat.now c.exchange.new.seat
+      c.requires.ready
+      (move (act.Swap c.args.place c.args.new) (outcome.Found c.exchange.result)) c.exchange.result
+      c.exchange.ensures.exchanged,
+)

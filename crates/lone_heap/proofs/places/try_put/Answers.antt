@@ -5,7 +5,7 @@ use Rattle.plain_state.specs.State.{Plain, seat_at}
 use Rattle.plain_store.specs.Calls.{MayGive, Tries}
 use Rattle.acquire_retire.specs.Calls.{IsSameView, same_view}
 use Rattle.lone_heap.specs.Lone.{ThenTidies, known_plain}
-use Rattle.lone_heap.proofs.Placing.{give_here, open_here, tried_ready, tried_shown}
+use Rattle.lone_heap.proofs.Placing.{give_here, open_here, tried_ready, tried_shown, tried_shows, try_after}
 use Rattle.lone_heap.proofs.places.try_put.Goals as goal
 
 pub compare_exchange-requires-clause-may : goal.compare_exchange-requires-clause-may
@@ -40,3 +40,12 @@ returns-clause-ready g c =
 
 pub returns-clause-notes : goal.returns-clause-notes
 returns-clause-notes g c = c.compare_exchange.ensures.notes ∙ c.find.ensures.notes
+
+pub returns-clause-trail : goal.returns-clause-trail
+returns-clause-trail g c =
+    try_after c.args.place c.args.expected c.args.new c.is_ok.result c.args.seat.now.view.core
+    c.find.new.seat.view.core c.compare_exchange.new.seat.view.core c.find.ensures.trail
+    (tried_shows g.K.PayloadKind.fits c.args.domain.now same_view IsSameView c.args.place c.args.new
+    c.find.new.seat c.compare_exchange.new.seat c.find.ensures.ready c.args.expected
+    c.compare_exchange.result c.is_ok.result c.is_ok.ensures.value
+    c.compare_exchange.ensures.replaced c.compare_exchange.ensures.lost)

@@ -5,7 +5,9 @@ use Rattle.acquire_retire.specs.Calls.{IsSameView, same_view}
 use Rattle.acquire_retire.proofs.Wholes.{then_ok}
 use Rattle.control_word.specs.Calls.{GainsStrong}
 use Rattle.lone_heap.specs.Lone.{known_plain}
-use Rattle.lone_heap.proofs.Holding.{gains_shown, gains_ready, ready_result}
+use Rattle.lone_heap.proofs.Holding.{ready_result}
+use Rattle.lone_heap.proofs.References.{gains_shown, gains_ready}
+use Rattle.lone_heap.proofs.Trailing.{becomes_goes, result_goes}
 use Rattle.lone_heap.proofs.references.copy.Goals as goal
 
 pub returns-clause-gains : goal.returns-clause-gains
@@ -33,3 +35,13 @@ returns-clause-ready g c =
     (λ more is.
     gains_ready c.args.domain.now c.args.handle.now.slot c.args.seat.now c.copy_strong.new.seat
     c.requires.ready c.copy_strong.ensures.rest c.copy_strong.ensures.room is.1)
+
+pub returns-clause-trail : goal.returns-clause-trail
+returns-clause-trail g c =
+    result_goes
+    (λ (more : Handle). (more.slot ≡ c.args.handle.now.slot)
+    × GainsStrong g.P.Kind.PayloadKind.fits c.args.domain.now same_view IsSameView
+    c.args.handle.now.slot c.args.seat.now c.copy_strong.new.seat)
+    c.copy_strong.result c.args.seat.now c.copy_strong.new.seat
+    c.copy_strong.ensures.copied c.copy_strong.ensures.refused
+    (λ more is. becomes_goes c.args.domain.now c.args.seat.now c.copy_strong.new.seat is.1)

@@ -4,7 +4,9 @@ use Rattle.counted_handles.specs.Handles.{Handle}
 use Rattle.acquire_retire.proofs.Wholes.{then_ok}
 use Rattle.control_word.specs.Calls.{GainsWeak}
 use Rattle.lone_heap.specs.Lone.{known_plain}
-use Rattle.lone_heap.proofs.Holding.{weak_gains_shown, weak_gains_ready, ready_result}
+use Rattle.lone_heap.proofs.Holding.{ready_result}
+use Rattle.lone_heap.proofs.References.{weak_gains_shown, weak_gains_ready}
+use Rattle.lone_heap.proofs.Trailing.{becomes_goes, result_goes}
 use Rattle.lone_heap.proofs.references.copy_weakly.Goals as goal
 
 pub returns-clause-gains : goal.returns-clause-gains
@@ -32,3 +34,13 @@ returns-clause-ready g c =
     (λ more is.
     weak_gains_ready c.args.domain.now c.args.weak.now.slot c.args.seat.now c.copy_weak.new.seat
     c.requires.ready c.copy_weak.ensures.rest c.copy_weak.ensures.room is.1)
+
+pub returns-clause-trail : goal.returns-clause-trail
+returns-clause-trail g c =
+    result_goes
+    (λ (more : Handle). (more.slot ≡ c.args.weak.now.slot)
+    × GainsWeak g.P.Kind.PayloadKind.fits c.args.domain.now
+    c.args.weak.now.slot c.args.seat.now c.copy_weak.new.seat)
+    c.copy_weak.result c.args.seat.now c.copy_weak.new.seat
+    c.copy_weak.ensures.gained c.copy_weak.ensures.refused
+    (λ more is. becomes_goes c.args.domain.now c.args.seat.now c.copy_weak.new.seat is.1)

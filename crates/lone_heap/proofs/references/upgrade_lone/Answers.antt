@@ -5,7 +5,9 @@ use Rattle.acquire_retire.specs.Calls.{IsSameView, same_view}
 use Rattle.acquire_retire.proofs.Wholes.{then_ok}
 use Rattle.control_word.specs.Calls.{GainsStrong}
 use Rattle.lone_heap.specs.Lone.{known_plain}
-use Rattle.lone_heap.proofs.Holding.{dead_shown, gains_shown, upgrade_ready}
+use Rattle.lone_heap.proofs.References.{dead_shown, gains_shown, upgrade_ready}
+use Rattle.lone_heap.specs.Trails.{Shows, upgraded}
+use Rattle.lone_heap.proofs.Trailing.{becomes_shows}
 use Rattle.lone_heap.proofs.references.upgrade_lone.Goals as goal
 
 pub returns-clause-up : goal.returns-clause-up
@@ -32,3 +34,21 @@ pub returns-clause-ready : goal.returns-clause-ready
 returns-clause-ready g c =
     upgrade_ready c.args.domain.now c.args.weak.now.slot c.upgrade.result c.args.seat.now
     c.upgrade.new.seat c.requires.ready c.upgrade.ensures.rest c.upgrade.ensures.room c.upgrade.ensures.upgraded c.upgrade.ensures.refused c.upgrade.ensures.ended
+
+pub returns-clause-shows_up : goal.returns-clause-shows_up
+returns-clause-shows_up g c =
+    then_ok
+    (λ (more : Handle). (more.slot ≡ c.args.weak.now.slot)
+    × GainsStrong g.K.PayloadKind.fits c.args.domain.now same_view IsSameView
+    c.args.weak.now.slot c.args.seat.now c.upgrade.new.seat)
+    (λ (more : Handle). Shows (upgraded c.args.weak.now.slot) c.args.seat.now.view.core
+    c.upgrade.new.seat.view.core)
+    c.upgrade.result
+    (λ more is. becomes_shows c.args.domain.now c.args.seat.now c.upgrade.new.seat is.1)
+    c.upgrade.ensures.upgraded
+
+pub returns-clause-shows_ended : goal.returns-clause-shows_ended
+returns-clause-shows_ended g c =
+    λ is.
+    becomes_shows c.args.domain.now c.args.seat.now c.upgrade.new.seat
+    (c.upgrade.ensures.ended is).becomes

@@ -4,7 +4,9 @@ use Rattle.counted_handles.specs.Handles.{Handle}
 use Rattle.acquire_retire.proofs.Wholes.{then_ok}
 use Rattle.control_word.specs.Calls.{GainsWeak}
 use Rattle.lone_heap.specs.Lone.{known_plain}
-use Rattle.lone_heap.proofs.Holding.{weak_gains_shown, weak_gains_ready, ready_result}
+use Rattle.lone_heap.proofs.Holding.{ready_result}
+use Rattle.lone_heap.proofs.References.{weak_gains_shown, weak_gains_ready}
+use Rattle.lone_heap.proofs.Trailing.{becomes_goes, result_goes}
 use Rattle.lone_heap.proofs.references.weaken_lone.Goals as goal
 
 pub returns-clause-gains : goal.returns-clause-gains
@@ -32,3 +34,13 @@ returns-clause-ready g c =
     (λ more is.
     weak_gains_ready c.args.domain.now c.args.handle.now.slot c.args.seat.now c.weaken.new.seat
     c.requires.ready c.weaken.ensures.rest c.weaken.ensures.room is.1)
+
+pub returns-clause-trail : goal.returns-clause-trail
+returns-clause-trail g c =
+    result_goes
+    (λ (more : Handle). (more.slot ≡ c.args.handle.now.slot)
+    × GainsWeak g.P.Kind.PayloadKind.fits c.args.domain.now
+    c.args.handle.now.slot c.args.seat.now c.weaken.new.seat)
+    c.weaken.result c.args.seat.now c.weaken.new.seat
+    c.weaken.ensures.gained c.weaken.ensures.refused
+    (λ more is. becomes_goes c.args.domain.now c.args.seat.now c.weaken.new.seat is.1)

@@ -1,6 +1,6 @@
 use Rattle.std.proofs.Common.{ap}
 use Rattle.core_events.specs.declared.view.CoreView.{CoreView}
-use Rattle.lone_heap.proofs.Settled.{settle_ready, settle_settled, settle_tidies}
+use Rattle.lone_heap.proofs.Settled.{settle_goes, settle_ready, settle_settled, settle_tidies}
 use Rattle.lone_heap.proofs.settling.settle_all.Goals as goal
 
 pub returns-clause-tidies : goal.returns-clause-tidies
@@ -20,3 +20,8 @@ returns-clause-ready g c =
 
 pub returns-clause-notes : goal.returns-clause-notes
 returns-clause-notes g c = ap (λ (v : CoreView). v.notes) c.settle.ensures.same
+
+pub returns-clause-trail : goal.returns-clause-trail
+returns-clause-trail g c =
+    settle_goes c.args.domain.now g.P.Kind.PayloadKind.weight c.settle.result c.args.seat.now
+    c.settle.new.seat c.requires.ready c.settle.ensures.settles

@@ -1,8 +1,10 @@
 use Rattle.std.proofs.Common.{ap, ◌∙◌, sym, List}
 use Rattle.std.specs.Prelude.{slice_index_or, slice_set}
+use Rattle.core_events.specs.declared.act.Act.TheVariants as act
 use Rattle.core_events.specs.declared.view.Note.{Note}
 use Rattle.core_events.specs.declared.view.Note.TheVariants as note
 use Rattle.lone_heap.proofs.Snapping.{end_ready, end_shown, released_notes}
+use Rattle.lone_heap.proofs.Trailing.{step_goes}
 use Rattle.lone_heap.proofs.snapshots.end.Goals as goal
 
 pub returns-clause-ends : goal.returns-clause-ends
@@ -25,3 +27,8 @@ returns-clause-ready g c =
     c.word_of-word.ensures.some c.word_of-word.ensures.few noted
     ∙ ap (λ (ns : List Note). slice_set ns c.word_of-word.result note.Idle) c.requires.noted
     ∙ sym c.set.ensures)
+
+pub returns-clause-trail : goal.returns-clause-trail
+returns-clause-trail g c =
+    step_goes c.args.domain.now c.args.seat.now c.release.new.seat
+    (act.Release c.word_of-word.result) c.release.result c.release.ensures

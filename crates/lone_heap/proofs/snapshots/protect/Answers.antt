@@ -1,6 +1,6 @@
 use Rattle.std.proofs.Common.{arith}
 use Rattle.acquire_retire.specs.Calls.{IsSameView, same_view}
-use Rattle.lone_heap.proofs.Acquiring.{acquired_null, acquired_ready, acquired_under, misses_none}
+use Rattle.lone_heap.proofs.Acquiring.{acquired_goes, acquired_null, acquired_ready, acquired_under, misses_none}
 use Rattle.lone_heap.proofs.Placing.{readable_here}
 use Rattle.lone_heap.proofs.snapshots.protect.Goals as goal
 
@@ -33,3 +33,9 @@ returns-clause-ready g c =
     c.requires.strong
     (c.acquire.ensures.rest (λ slot is zero. omega (arith, c.requires.some)))
     (c.acquire.ensures.room c.requires.ready.room)
+
+pub returns-clause-trail : goal.returns-clause-trail
+returns-clause-trail g c =
+    acquired_goes g.K.PayloadKind.fits c.args.domain.now c.args.place same_view IsSameView
+    c.args.seat.now c.acquire.new.seat c.args.word c.acquire.result c.in-Ok.found c.in-Ok.is
+    c.acquire.ensures.null c.in-Ok.ensures.protected

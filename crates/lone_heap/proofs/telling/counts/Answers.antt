@@ -1,8 +1,13 @@
-use Rattle.std.proofs.Common.{ap, ◌∙◌}
+use Rattle.std.proofs.Common.{ap, ◌∙◌, subst, [], ◌∷◌}
+use Rattle.plain_state.specs.Places.{Holds}
 use Rattle.plain_state.specs.References.{weak_refs}
-use Rattle.plain_state.specs.State.{Plain}
+use Rattle.plain_state.specs.State.{Plain, PlainSeat}
+use Rattle.core_events.specs.declared.act.Act.TheVariants as act
+use Rattle.core_events.specs.declared.outcome.Outcome.TheVariants as outcome
+use Rattle.acquire_retire.specs.Collecting.{move}
 use Rattle.lone_heap.specs.Lone.{IsReady}
-use Rattle.lone_heap.proofs.Counted.{strong_ready, strong_told, weak_is, weak_ready, weak_same}
+use Rattle.lone_heap.proofs.Counted.{held_there, strong_ready, strong_shows, strong_told, weak_is, weak_ready, weak_same}
+use Rattle.lone_heap.proofs.Trailing.{becomes_shows, shows_then}
 use Rattle.lone_heap.proofs.telling.counts.Given as given
 use Rattle.lone_heap.proofs.telling.counts.Goals as goal
 
@@ -44,3 +49,19 @@ returns-clause-ready g c =
     c.weak_count-weak.new.seat (ready g c) c.weak_count-weak.result
     c.weak_count-weak.ensures.counted c.weak_count-weak.ensures.rest
     c.weak_count-weak.ensures.room
+
+pub returns-clause-trail : goal.returns-clause-trail
+returns-clause-trail g c =
+    shows_then
+    (move (act.Count c.args.slot) (outcome.Number c.strong_count-strong.result) ∷ [])
+    (move (act.Wcount c.args.slot) (outcome.Word c.weak_count-weak.result) ∷ [])
+    c.args.seat.now.view.core c.strong_count-strong.new.seat.view.core
+    c.weak_count-weak.new.seat.view.core
+    (strong_shows c.args.domain.now c.args.slot c.strong_count-strong.result c.args.seat.now
+    c.strong_count-strong.new.seat c.requires.ready c.requires.settled
+    (held_there c.args.domain.now c.args.slot c.strong_count-strong.result c.args.seat.now
+    c.strong_count-strong.new.seat c.requires.ready c.strong_count-strong.ensures.counted
+    (subst (λ (v : PlainSeat). Holds v c.args.slot) c.requires.ready.mine c.requires.holds))
+    c.strong_count-strong.ensures.counted)
+    (becomes_shows c.args.domain.now c.strong_count-strong.new.seat c.weak_count-weak.new.seat
+    c.weak_count-weak.ensures.counted.becomes)

@@ -2,6 +2,7 @@ use Rattle.std.proofs.Common.{subst}
 use Rattle.plain_state.specs.Places.{Holds}
 use Rattle.plain_state.specs.State.{PlainSeat}
 use Rattle.lone_heap.proofs.Counted.{sees_ready, sees_same, sees_there, sees_word}
+use Rattle.lone_heap.proofs.Trailing.{becomes_goes}
 use Rattle.lone_heap.proofs.telling.read.Goals as goal
 
 pub returns-clause-word : goal.returns-clause-word
@@ -24,3 +25,7 @@ returns-clause-there g c =
     sees_there c.args.domain.now c.args.slot c.args.seat.now c.read.new.seat c.requires.ready
     c.args.word c.read.result c.read.ensures.seen
     (subst (λ (v : PlainSeat). Holds v c.args.slot) c.requires.ready.mine c.requires.holds)
+
+pub returns-clause-trail : goal.returns-clause-trail
+returns-clause-trail g c =
+    becomes_goes c.args.domain.now c.args.seat.now c.read.new.seat c.read.ensures.seen.becomes
