@@ -1,20 +1,14 @@
 -- What a seat that is alone knows after steps, and that it is as ready as it was.
-use Rattle.std.proofs.Common.{◌≡◌, ℕ, Bool, true, false, List, [], ◌∷◌, length, refl, ap, sym, ◌∙◌, subst, arith}
-use Rattle.std.specs.Prelude.{nat_lt, Result, Ok, Err, IfOk, OnErr, if◌then◌else◌}
+use Rattle.std.proofs.Common.{◌≡◌, ℕ, List, [], ◌∷◌, length, ap, sym, ◌∙◌, subst, arith}
+use Rattle.std.specs.Prelude.{Result, Ok, Err, IfOk, OnErr}
 use Rattle.plain_state.specs.declared.act.PlainAct.{PlainAct}
-use Rattle.plain_state.specs.declared.act.PlainAct.TheVariants as plain
 use Rattle.plain_state.specs.declared.slot.Kind.TheVariants.{Disposal}
 use Rattle.plain_state.specs.declared.slot.SlotId.{SlotId}
 use Rattle.plain_state.specs.Lists.{entry_times}
 use Rattle.plain_state.specs.State.{Plain, seat_at}
-use Rattle.plain_state.specs.Steps.{Does}
-use Rattle.plain_store.specs.Calls.{Gains, WeaklyGains}
 use Rattle.plain_protocol.specs.Owns.{OwnPart}
-use Rattle.counter_word.specs.Words.{ZERO}
 use Rattle.core_events.specs.declared.act.Act.{Act}
-use Rattle.core_events.specs.declared.act.Act.TheVariants as act
 use Rattle.core_events.specs.declared.outcome.Outcome.{Outcome}
-use Rattle.core_events.specs.declared.outcome.Outcome.TheVariants as outcome
 use Rattle.core_events.specs.declared.shape.Shape.{Shape}
 use Rattle.core_events.specs.declared.view.CoreView.{CoreView}
 use Rattle.core_events.specs.declared.view.LeftSeat.{LeftSeat}
@@ -25,22 +19,14 @@ use Rattle.core_events.specs.Shows.{show_seat, shows}
 use Rattle.core_events.specs.Steps.{HasRoom}
 use Rattle.core_events.specs.Views.{valid_of}
 use Rattle.core_shows.proofs.Bridge.{shown_seat}
-use Rattle.acquire_retire.specs.declared.payment.Payment.{Payment}
-use Rattle.acquire_retire.specs.declared.payment.Payment.TheVariants as payment
-use Rattle.acquire_retire.specs.Calls.{IsSameView, Steps, same_view}
-use Rattle.acquire_retire.specs.Collecting.{Walks, WalksBy, ends, move}
+use Rattle.acquire_retire.specs.Calls.{Steps}
+use Rattle.acquire_retire.specs.Collecting.{WalksBy}
 use Rattle.acquire_retire.specs.Domains.{DomainState}
 use Rattle.acquire_retire.specs.Seats.{SeatState}
-use Rattle.counted_handles.specs.Handles.{Handle}
-use Rattle.control_word.specs.declared.upgrading.UpgradeError.{UpgradeError}
-use Rattle.control_word.specs.declared.upgrading.UpgradeError.TheVariants as refused
-use Rattle.control_word.specs.Calls.{DropsStrong, DropsWeak, FindsEnded, GainsStrong, GainsWeak, dropped_by, weakly_dropped_by, with_ended, without_strong}
 use Rattle.control_word.specs.Resting.{IsAtRest}
 use Rattle.slot_store.proofs.Objects.{known_after, known_still, sound_later}
-use Rattle.lone_heap.specs.Lone.{IsReady, ThenTidies, known_plain}
-use Rattle.lone_heap.proofs.Owing.{owes_none}
-use Rattle.lone_heap.proofs.Stepping.{step_does}
-use Rattle.lone_heap.proofs.Tidying.{ArePaying, Knows, knows_step, pays_reach}
+use Rattle.lone_heap.specs.Lone.{IsReady, known_plain}
+use Rattle.lone_heap.proofs.Tidying.{Knows}
 
 -- what the calls of a seat leave as it was: its number, who has left, and its notes
 abbrev pub kept_of : CoreView → ℕ × ℕ × ℕ × List Note

@@ -4,7 +4,7 @@ pub mod Trailing
 pub mod Tidying
 pub mod Turns
 pub mod Holding
-pub mod References
+pub mod Owning
 pub mod Makes
 pub mod Counted
 pub mod Settled

@@ -19,7 +19,6 @@ use Rattle.core_events.specs.declared.act.Act.TheVariants as act
 use Rattle.core_events.specs.declared.outcome.Outcome.TheVariants as outcome
 use Rattle.core_events.specs.declared.view.CoreView.{CoreView}
 use Rattle.core_events.specs.declared.view.Move.{Move}
-use Rattle.core_events.specs.declared.view.Phase.TheVariants as phase
 use Rattle.core_events.specs.Runs.{Core}
 use Rattle.core_events.specs.Shows.{shows}
 use Rattle.core_events.specs.Steps.{CanGive, HasRoom, without_given}

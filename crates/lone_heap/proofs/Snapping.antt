@@ -31,7 +31,7 @@ use Rattle.lone_heap.specs.declared.words.Words.{Words}
 use Rattle.lone_heap.specs.Lone.{IsReady, known_plain}
 use Rattle.lone_heap.specs.Words.{note_for, notes_for}
 use Rattle.lone_heap.proofs.Holding.{knows_ready, ready_noted, walk_mine}
-use Rattle.lone_heap.proofs.References.{gains_ready, gains_shown}
+use Rattle.lone_heap.proofs.Owning.{gains_ready, gains_shown}
 use Rattle.lone_heap.proofs.Stepping.{step_does}
 
 -- no word protects a weak snapshot

@@ -6,7 +6,7 @@ use Rattle.acquire_retire.proofs.Wholes.{then_ok}
 use Rattle.control_word.specs.Calls.{GainsStrong}
 use Rattle.lone_heap.specs.Lone.{known_plain}
 use Rattle.lone_heap.proofs.Holding.{ready_result}
-use Rattle.lone_heap.proofs.References.{gains_shown, gains_ready}
+use Rattle.lone_heap.proofs.Owning.{gains_shown, gains_ready}
 use Rattle.lone_heap.proofs.Trailing.{becomes_goes, result_goes}
 use Rattle.lone_heap.proofs.references.copy.Goals as goal
 

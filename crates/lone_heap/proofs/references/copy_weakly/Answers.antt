@@ -5,7 +5,7 @@ use Rattle.acquire_retire.proofs.Wholes.{then_ok}
 use Rattle.control_word.specs.Calls.{GainsWeak}
 use Rattle.lone_heap.specs.Lone.{known_plain}
 use Rattle.lone_heap.proofs.Holding.{ready_result}
-use Rattle.lone_heap.proofs.References.{weak_gains_shown, weak_gains_ready}
+use Rattle.lone_heap.proofs.Owning.{weak_gains_shown, weak_gains_ready}
 use Rattle.lone_heap.proofs.Trailing.{becomes_goes, result_goes}
 use Rattle.lone_heap.proofs.references.copy_weakly.Goals as goal
 

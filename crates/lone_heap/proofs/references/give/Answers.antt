@@ -1,4 +1,4 @@
-use Rattle.lone_heap.proofs.References.{drop_ready, drop_shown}
+use Rattle.lone_heap.proofs.Owning.{drop_ready, drop_shown}
 use Rattle.lone_heap.proofs.Trailing.{becomes_goes}
 use Rattle.lone_heap.proofs.references.give.Goals as goal
 

@@ -1,4 +1,4 @@
-use Rattle.lone_heap.proofs.References.{weak_drop_ready, weak_drop_shown}
+use Rattle.lone_heap.proofs.Owning.{weak_drop_ready, weak_drop_shown}
 use Rattle.lone_heap.proofs.Trailing.{becomes_goes}
 use Rattle.lone_heap.proofs.references.give_weak.Goals as goal
 

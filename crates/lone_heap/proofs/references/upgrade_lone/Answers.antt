@@ -5,7 +5,7 @@ use Rattle.acquire_retire.specs.Calls.{IsSameView, same_view}
 use Rattle.acquire_retire.proofs.Wholes.{then_ok}
 use Rattle.control_word.specs.Calls.{GainsStrong}
 use Rattle.lone_heap.specs.Lone.{known_plain}
-use Rattle.lone_heap.proofs.References.{dead_shown, gains_shown, upgrade_ready}
+use Rattle.lone_heap.proofs.Owning.{dead_shown, gains_shown, upgrade_ready}
 use Rattle.lone_heap.specs.Trails.{Shows, upgraded}
 use Rattle.lone_heap.proofs.Trailing.{becomes_shows}
 use Rattle.lone_heap.proofs.references.upgrade_lone.Goals as goal
