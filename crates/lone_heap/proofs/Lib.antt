@@ -6,6 +6,7 @@ pub mod Turns
 pub mod Holding
 pub mod Owning
 pub mod Makes
+pub mod Starting
 pub mod Counted
 pub mod Settled
 pub mod Opened

@@ -42,8 +42,6 @@ use Rattle.slot_store.specs.Calls.{Makes, begun_by, filled_by}
 use Rattle.slot_store.specs.Searching.{IsShownTaken, Misses, Try, bits_of, taken_by}
 use Rattle.slot_store.proofs.Objects.{known_before}
 use Rattle.slot_store.proofs.Tries.{append_nil}
-use Rattle.lone_heap.specs.Trails.{Shows, started_by}
-use Rattle.lone_heap.proofs.Trailing.{becomes_goes, same_goes, shows_end}
 use Rattle.lone_heap.specs.Lone.{IsReady, known_plain}
 use Rattle.lone_heap.proofs.Holding.{kept_of, knows_on, knows_ready, ready_still, walk_mine}
 use Rattle.lone_heap.proofs.Stepping.{step_does}
@@ -294,21 +292,3 @@ module _ {P V : Type 0} (fits : List ℕ → Type 0) (d : DomainState P) where
       subst (IsReady d) (sym (no_add refl)) ready
   made_ready next allows payload (Err refused.Full) old new ready rest room no_make no_add full made =
       full_ready old new ready (full refl) rest room
-
-  -- the trail shows the start of a make that gave a reference
-  pub made_shows : (next : OwnPart → OwnPart → V → PlainAct → ℕ → V)
-      (allows : Plain → Plain → ℕ → V → V → Type 0) (payload : List ℕ)
-      (r : Result Handle MakeError) (old new : SeatState V)
-      → (r ≡ Err refused.MakesSpent → new ≡ old) → (r ≡ Err refused.AddsSpent → new ≡ old)
-      → (r ≡ Err refused.Full → Misses fits d old new)
-      → IfOk r (λ strong. Makes fits d next allows payload strong.slot old new)
-      → Shows (started_by r) old.view.core new.view.core
-  made_shows next allows payload (Ok h) old new no_make no_add full made =
-      shows_end (begun_by made.begins.tries h.slot payload) (move act.Start outcome.Plain ∷ [])
-      old.view.core new.view.core (ap (λ (v : CoreView). v.trail) made.core)
-  made_shows next allows payload (Err refused.MakesSpent) old new no_make no_add full made =
-      same_goes old new (no_make refl)
-  made_shows next allows payload (Err refused.AddsSpent) old new no_make no_add full made =
-      same_goes old new (no_add refl)
-  made_shows next allows payload (Err refused.Full) old new no_make no_add full made =
-      becomes_goes d old new (full refl).goes.becomes

@@ -4,7 +4,8 @@ use Rattle.acquire_retire.specs.Calls.{IsSameView, same_view}
 use Rattle.acquire_retire.proofs.Wholes.{then_ok}
 use Rattle.slot_store.specs.Calls.{Makes}
 use Rattle.lone_heap.specs.Lone.{known_plain}
-use Rattle.lone_heap.proofs.Makes.{full_none, full_same, made_ready, made_shows, make_shown}
+use Rattle.lone_heap.proofs.Makes.{full_none, full_same, made_ready, make_shown}
+use Rattle.lone_heap.proofs.Starting.{made_shows}
 use Rattle.lone_heap.proofs.making.make.Goals as goal
 
 pub returns-clause-full : goal.returns-clause-full
