@@ -92,4 +92,6 @@ steps_are_definite =
 
 pub steps_write_one : (text bytes others : List ℕ) (refused other : Bool)
     → IsSteps text bytes refused → IsSteps text others other → (bytes ≡ others) × (refused ≡ other)
-steps_write_one = runs_are_one Takes Refuses Ends steps_are_definite None
+steps_write_one text bytes others refused other first second =
+    let same = runs_are_one Takes Refuses Ends steps_are_definite None text bytes others refused
+    other first.0 second.0 first.1 second.1 in (same.0, same.1)

@@ -73,4 +73,5 @@ Ends (Some r) out refused = (out ≡ closing r) × (refused ≡ false)
 
 -- the text writes these bytes; `refused` tells whether a line of it is refused
 abbrev pub IsSteps : List ℕ → List ℕ → Bool → Type 0
-IsSteps text bytes refused = IsRun Takes Refuses Ends None text bytes refused
+IsSteps text bytes refused =
+    (last : Option Running) × IsRun Takes Refuses Ends None text bytes refused last

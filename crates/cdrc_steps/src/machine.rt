@@ -22,6 +22,7 @@ impl Running {
         ensures refused { (reason : Reason) → result ≡ Ok (Some reason) →
             (text.new.items ≡ text.old.items)
             × Refuses (Some self.old) (texts_of words.now) reason }
+        ensures stays { (reason : Reason) → result ≡ Ok (Some reason) → self.new ≡ self.old }
     {
         let shape = self.core.shape();
         let event = match event_line(words) {
@@ -52,6 +53,7 @@ impl StepMachine {
         ensures taken { result ≡ Ok None → Takes self.old (texts_of words.now) [] self.new }
         ensures refused { (reason : Reason) → result ≡ Ok (Some reason) →
             Refuses self.old (texts_of words.now) reason }
+        ensures stays { (reason : Reason) → result ≡ Ok (Some reason) → self.new ≡ self.old }
     {
         let shape = match shape_line(words) {
             Ok(shape) => shape,
@@ -87,7 +89,7 @@ impl LineMachine for StepMachine {
         }
     }
 
-    fn end(&mut self, _alloc: Global, text: &mut Vec<u8>) -> Result<bool, OutOfMemory> {
+    fn end(&self, _alloc: Global, text: &mut Vec<u8>) -> Result<bool, OutOfMemory> {
         match &self.running {
             None => {
                 push_refused(text, 1, Reason::Syntax)?;
