@@ -1,5 +1,5 @@
 -- What tidies a heap tidies it also where the seat has no handles any more.
-use Rattle.std.proofs.Common.{◌≡◌, ⊎_elim, inl, inr, ℕ, ◌+◌, ◌<◌, ◌≤◌, false, List, [], ◌∷◌, ◌++◌, length, refl, ap, sym, ◌∙◌, subst, arith}
+use Rattle.std.proofs.Common.{◌≡◌, ⊎_elim, inl, inr, ℕ, ◌+◌, ◌<◌, ◌≤◌, true, false, List, [], ◌∷◌, ◌++◌, length, refl, ap, sym, ◌∙◌, subst, arith, None}
 use Rattle.std.proofs.lemmas.List.{length-set, set-set}
 use Rattle.plain_state.specs.declared.act.EventPlace.{EventPlace}
 use Rattle.plain_state.specs.declared.act.EventPlace.TheVariants.{Cell, Field, WeakCell, WeakField}
@@ -12,7 +12,7 @@ use Rattle.plain_state.specs.declared.slot.SlotId.{SlotId}
 use Rattle.plain_state.specs.declared.slot.Stage.TheVariants.{Ended, Free, Husk}
 use Rattle.plain_state.specs.Lawful.{Covers, IsCovered}
 use Rattle.plain_state.specs.Lists.{Entry, Loses, entry_times, times}
-use Rattle.plain_state.specs.Places.{CanDispose, IsDyingField, field_of}
+use Rattle.plain_state.specs.Places.{CanDispose, field_of, with_field}
 use Rattle.plain_state.specs.References.{deferrals, over_seats, snapshot_times, strong_refs, weak_refs}
 use Rattle.plain_state.specs.State.{Plain, PlainSeat, new_seat, seat_at, slot_at, with_seat, with_slot}
 use Rattle.plain_state.specs.Steps.{Does, IsReordering, IsSeat, joined}
@@ -108,3 +108,145 @@ module _ (p : Plain) (there : 0 < length p.seats) where
         omega arith,
         ap (λ (v : PlainSeat). v.left) bare_seat ∙ here,
       )
+
+  -- a slot that may be destroyed may be so then
+  disposes : (s : SlotId) → CanDispose p 0 s → CanDispose (without_handles p) 0 s
+  disposes s (dies, under) =
+      let less = less_snapshots Disposal s in (
+        subst (λ (v : PlainSeat). 0 < times s v.dying) (sym bare_seat) dies,
+        omega arith,
+      )
+
+-- ---- the steps
+
+bare_eject : (p q : Plain) (k : Kind) (s : SlotId) (found : ℕ) → Tidies p (act.Eject k s)
+    → Does p 0 (act.Eject k s) found q
+    → Tidies (without_handles p) (act.Eject k s)
+    × Does (without_handles p) 0 (act.Eject k s) found (without_handles q)
+bare_eject p q k s found many (here, (es, loses, z, e, covered)) =
+    let seat = bare_seat p here.0 in
+    let none = entry_none k s in
+    let size = length-set p.seats 0 (record (seat_at p 0) { deferred = es }) in
+    let same = ap (λ (x : Plain). length x.seats) e in
+    let surplus : IsSurplus (bare (seat_at p 0)) k s = omega arith in (
+      subst (λ (v : PlainSeat). IsSurplus v k s) (sym seat) surplus,
+      (
+        bare_is_seat p here.0 here.1,
+        (
+          es,
+          subst (λ (v : PlainSeat). Loses v.deferred (k, s) es) (sym seat) loses,
+          z,
+          ap without_handles e
+              ∙ changed p here.0 (λ (v : PlainSeat). record v { deferred = es }) (λ v. refl),
+          bare_covered q (omega (arith, here.0)) covered,
+        ),
+      ),
+    )
+
+bare_split : (p q : Plain) (found : ℕ) → Does p 0 act.Split found q
+    → Does (without_handles p) 0 act.Split found (without_handles q)
+bare_split p q found (here, (z, (es, order, e))) = (
+  bare_is_seat p here.0 here.1,
+  (
+    z,
+    (
+      es,
+      subst (λ (v : PlainSeat). IsReordering v.deferred es) (sym (bare_seat p here.0)) order,
+      ap without_handles e
+          ∙ changed p here.0 (λ (v : PlainSeat). record v { deferred = es }) (λ v. refl),
+    ),
+  ),
+)
+
+bare_end : (p q : Plain) (s : SlotId) (found : ℕ) → Does p 0 (act.End s) found q
+    → Does (without_handles p) 0 (act.End s) found (without_handles q)
+bare_end p q s found (here, (live, dead, z, e)) = (
+  bare_is_seat p here.0 here.1,
+  (
+    live,
+    ⊎_elim (λ marked. inl marked)
+        (λ (none : strong_refs p s ≡ 0). let less = less_strong p here.0 s in inr (omega arith))
+        dead,
+    z,
+    ap without_handles e
+        ∙ ap
+        (λ (r : Plain). with_slot r s (record (slot_at p s) { stage = Ended; marked = true }))
+        (changed p here.0 (λ (v : PlainSeat). record v { dying = v.dying ++ s ∷ [] }) (λ v. refl)),
+  ),
+)
+
+bare_clear : (p q : Plain) (place : EventPlace) (found : ℕ) → Does p 0 (act.Clear place) found q
+    → Does (without_handles p) 0 (act.Clear place) found (without_handles q)
+bare_clear p q (Cell i) found (here, (dying, z, e)) = absurd dying
+bare_clear p q (WeakCell i) found (here, (dying, z, e)) = absurd dying
+bare_clear p q (Field s i) found (here, (dying, z, e)) = (
+  bare_is_seat p here.0 here.1,
+  (
+    (dying.0, disposes p here.0 s dying.1),
+    z,
+    ap without_handles e
+        ∙ ap (λ (r : Plain). with_slot r s (with_field i None (slot_at p s)))
+        (changed p here.0
+        (λ (v : PlainSeat).
+        record v { deferred = joined Strong (field_of i (slot_at p s)) v.deferred })
+        (λ v. refl)),
+  ),
+)
+bare_clear p q (WeakField s) found (here, (dying, z, e)) = (
+  bare_is_seat p here.0 here.1,
+  (
+    disposes p here.0 s dying,
+    z,
+    ap without_handles e
+        ∙ ap (λ (r : Plain). with_slot r s (record (slot_at p s) { weak_field = None }))
+        (changed p here.0
+        (λ (v : PlainSeat).
+        record v { deferred = joined Weak (slot_at p s).weak_field v.deferred })
+        (λ v. refl)),
+  ),
+)
+
+bare_destroy : (p q : Plain) (s : SlotId) (found : ℕ) → Does p 0 (act.Destroy s) found q
+    → Does (without_handles p) 0 (act.Destroy s) found (without_handles q)
+bare_destroy p q s found (here, (nulls, under, z, (xs, loses, e))) =
+    let less = less_snapshots p here.0 Disposal s in (
+      bare_is_seat p here.0 here.1,
+      (
+        nulls,
+        omega arith,
+        z,
+        (
+          xs,
+          subst (λ (v : PlainSeat). Loses v.dying s xs) (sym (bare_seat p here.0)) loses,
+          ap without_handles e
+              ∙ ap (λ (r : Plain). with_slot r s (record (slot_at p s) { stage = Husk }))
+              (changed p here.0 (λ (v : PlainSeat). record v { dying = xs }) (λ v. refl)),
+        ),
+      ),
+    )
+
+bare_give : (p q : Plain) (s : SlotId) (found : ℕ) → Does p 0 (act.Give s) found q
+    → Does (without_handles p) 0 (act.Give s) found (without_handles q)
+bare_give p q s found (here, (husk, none, z, e)) =
+    let less = less_weak p here.0 s in
+    (bare_is_seat p here.0 here.1, (husk, omega arith, z, ap without_handles e))
+
+bare_step : (p q : Plain) (a : PlainAct) (found : ℕ) → Tidies p a → Does p 0 a found q
+    → Tidies (without_handles p) a × Does (without_handles p) 0 a found (without_handles q)
+bare_step p q (act.Eject k s) found may does = bare_eject p q k s found may does
+bare_step p q act.Split found may does = (tt, bare_split p q found does)
+bare_step p q (act.End s) found may does = (tt, bare_end p q s found does)
+bare_step p q (act.Clear place) found may does = (tt, bare_clear p q place found does)
+bare_step p q (act.Destroy s) found may does = (tt, bare_destroy p q s found does)
+bare_step p q (act.Give s) found may does = (tt, bare_give p q s found does)
+bare_step p q _ found may does = absurd may
+
+bare_by : (acts : List PlainAct) (p q : Plain) → TidiesBy acts p q
+    → TidiesBy acts (without_handles p) (without_handles q)
+bare_by [] p q same = ap without_handles same
+bare_by (a ∷ more) p q (m, found, may, does, by) =
+    let one = bare_step p m a found may does in
+    (without_handles m, found, one.0, one.1, bare_by more m q by)
+
+pub bare_tidies : (p q : Plain) → TidiesTo p q → TidiesTo (without_handles p) (without_handles q)
+bare_tidies p q by = (by.0, bare_by by.0 p q by.1)
