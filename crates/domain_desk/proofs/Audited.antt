@@ -6,7 +6,7 @@ use Rattle.plain_audit.specs.Audits.{IsAudit}
 use Rattle.plain_state.specs.declared.slot.SlotId.{SlotId}
 use Rattle.plain_state.specs.State.{Plain}
 use Rattle.acquire_retire.specs.Seats.{SeatState}
-use Rattle.lone_heap.specs.Lone.{IsReady, known_plain}
+use Rattle.lone_heap.specs.Lone.{known_plain}
 use Rattle.script_lines.specs.declared.command.Command.TheVariants as command
 use Rattle.script_desk.specs.declared.said.Said.TheVariants as said
 use Rattle.script_desk.specs.declared.said.Shown.{Shown}
@@ -16,6 +16,7 @@ use Rattle.script_desk.specs.Effects.{Acts}
 use Rattle.script_desk.specs.Kinds.{script_weight}
 use Rattle.script_desk.proofs.Auditing.{IsThere, audit_told, walk_there}
 use Rattle.domain_desk.specs.Desks.{DeskState, IsKept, desk_of, plain_of}
+use Rattle.domain_desk.proofs.Keeping.{IsStill}
 use Rattle.domain_desk.proofs.Told.{later, same_desk}
 
 -- the ranks are as many as the slots
@@ -25,7 +26,7 @@ ranked_here i d is ranks read are same =
     ap length same ∙ are.0 ∙ ap (λ (x : DeskState _). length (plain_of x).slots) (sym is)
 
 module _ {P : Type 0} (i d : DeskState P) (is : i ≡ d) (kept : IsKept d)
-    (seat : SeatState (Unit {0})) (ready : IsReady i.domain seat)
+    (seat : SeatState (Unit {0})) (still : IsStill i seat)
     (same : known_plain i.domain seat ≡ plain_of i) (read : List ℕ) (found : Audit)
     (audit : IsAudit script_weight read (plain_of i) found) where
   pub walk_here : (walk : List SlotId) → walk ≡ found.walk.items
@@ -38,11 +39,11 @@ module _ {P : Type 0} (i d : DeskState P) (is : i ≡ d) (kept : IsKept d)
       → AreRanks (desk_of d) ranks → read ≡ ranks → shown.live ≡ found.live
       → shown.deferred ≡ found.deferred → shown.cyclic ≡ found.cyclic → shown.bytes ≡ found.bytes
       → map string_bytes shown.walk.items
-      ≡ map (λ s. (maker_of (desk_of (later i d is kept seat ready)) s).name) walk
+      ≡ map (λ s. (maker_of (desk_of (later i d is kept seat still)) s).name) walk
       → walk ≡ found.walk.items
-      → Acts (desk_of d) command.Audit (said.Audited shown) (desk_of (later i d is kept seat ready))
+      → Acts (desk_of d) command.Audit (said.Audited shown) (desk_of (later i d is kept seat still))
   audit_acts ranks shown walk are read_are live deferred cyclic bytes names items =
-      let desk = same_desk i d is kept seat ready same in (
+      let desk = same_desk i d is kept seat still same in (
         audit_told (plain_of i) i.names i.makers i.makes (desk_of d) (ap desk_of is) found ranks read
             shown are read_are audit
             (record {

@@ -14,7 +14,9 @@ use Rattle.plain_store.specs.Settling.{Settles as PlainSettles}
 use Rattle.plain_settling.specs.Settling.{Tidies, TidiesBy, TidiesTo}
 use Rattle.plain_settling.proofs.Settling.{tidies_none, tidies_on}
 use Rattle.acquire_retire.specs.Seats.{SeatState}
+use Rattle.lone_heap.specs.declared.words.Words.{Words}
 use Rattle.lone_heap.specs.Lone.{IsReady, ThenTidies, known_plain}
+use Rattle.lone_heap.specs.Words.{AreNoted}
 use Rattle.script_lines.specs.declared.command.Command.{Command}
 use Rattle.script_lines.specs.declared.command.Command.TheVariants as command
 use Rattle.script_desk.specs.declared.handle.Handle.{Handle}
@@ -59,6 +61,10 @@ tidied_by (a ∷ more) p q (m, found, may, does, by) =
 pub tidied_same : (p q : Plain) → TidiesTo p q → HasSame p q
 tidied_same p q by = tidied_by by.0 p q by.1
 
+-- after a call the seat is ready, and under the snapshots that it was under
+abbrev pub IsStill : {P : Type 0} → DeskState P → SeatState (Unit {0}) → Type 0
+IsStill i seat = IsReady i.domain seat × (seat.view.core.notes ≡ i.seat.view.core.notes)
+
 module _ {P : Type 0} (i d : DeskState P) (is : i ≡ d) (kept : IsKept d) where
   pub has_kept : IsKept i
   has_kept = subst IsKept (sym is) kept
@@ -77,21 +83,6 @@ module _ {P : Type 0} (i d : DeskState P) (is : i ≡ d) (kept : IsKept d) where
       (subst (λ (x : DeskState P). OwnsWeakly (plain_of x) s) (sym is)
       (has_bound (plain_of d) d.names name (Weak s) kept.kept.holds named))
 
-  -- what a name was bound to
-  pub was_strong : (name : List ℕ) (s t : SlotId) (found : Option Handle)
-      → found ≡ bound i.names name → bound d.names name ≡ Some (Strong s) → t ≡ s
-      → found ≡ Some (Strong t)
-  was_strong name s t found was named same =
-      was ∙ ap (λ (x : DeskState P). bound x.names name) is ∙ named
-      ∙ ap (λ (x : SlotId). Some (Strong x)) (sym same)
-
-  pub was_weak : (name : List ℕ) (s t : SlotId) (found : Option Handle)
-      → found ≡ bound i.names name → bound d.names name ≡ Some (Weak s) → t ≡ s
-      → found ≡ Some (Weak t)
-  was_weak name s t found was named same =
-      was ∙ ap (λ (x : DeskState P). bound x.names name) is ∙ named
-      ∙ ap (λ (x : SlotId). Some (Weak x)) (sym same)
-
   pub named_so : (name : List ℕ) (h : Handle) → bound i.names name ≡ Some h
       → bound d.names name ≡ Some h
   named_so name h e = ap (λ (x : DeskState P). bound x.names name) (sym is) ∙ e
@@ -99,29 +90,55 @@ module _ {P : Type 0} (i d : DeskState P) (is : i ≡ d) (kept : IsKept d) where
   pub ready_here : IsReady i.domain i.seat
   ready_here = has_kept.ready
 
-  module _ (seat : SeatState (Unit {0})) (names : Names) (ready : IsReady i.domain seat) where
+  module _ (seat : SeatState (Unit {0})) (words : Words) (names : Names)
+      (ready : IsReady i.domain seat) (noted : AreNoted words seat) where
+    abbrev after : DeskState P
+    after = record i { seat = seat; words = words; names = names }
+
+    of_kept : Kept (plain_of after) names i.makers i.cells i.weak_cells → IsKept after
+    of_kept k = record { ready = ready; noted = noted; kept = k }
+
+    pub kept_gained : (h : Handle) → HasMore (plain_of i) h (plain_of after)
+        → CountsMore (values_of i.names) h (values_of names) → IsKept after
+    kept_gained h more counts =
+        of_kept (kept_more (plain_of i) i.names i.makers _ _ has_kept.kept (plain_of after) h names more
+        counts)
+
+    -- a handle that was given up, and its name
+    pub kept_given : (h : Handle)
+        → ThenTidies (Does (plain_of i) 0 (giving h) 0) (plain_of after)
+        → CountsMore (values_of names) h (values_of i.names) → IsKept after
+    kept_given h gives counts =
+        let one = kept_fewer (plain_of i) i.names i.makers _ _ has_kept.kept gives.0 h names
+        (gives_fewer (plain_of i) gives.0 h gives.1) counts in
+        of_kept (kept_same gives.0 names i.makers _ _ one (plain_of after)
+        (tidied_same gives.0 (plain_of after) gives.2))
+
+  -- the same after a call that leaves the snapshots
+  module _ (seat : SeatState (Unit {0})) (names : Names) (still : IsStill i seat) where
     abbrev later : DeskState P
     later = record i { seat = seat; names = names }
 
-    pub of_kept : Kept (plain_of later) names i.makers i.cells i.weak_cells → IsKept later
-    of_kept k = record { ready = ready; kept = k }
+    noted_so : AreNoted i.words seat
+    noted_so = still.1 ∙ has_kept.noted
+
+    pub still_kept : Kept (plain_of later) names i.makers i.cells i.weak_cells → IsKept later
+    still_kept = of_kept seat i.words names still.0 noted_so
 
     pub kept_with : HasSame (plain_of i) (plain_of later) → names ≡ i.names → IsKept later
     kept_with same names_are =
-        of_kept (subst (λ (ns : Names). Kept (plain_of later) ns i.makers i.cells i.weak_cells)
+        still_kept (subst (λ (ns : Names). Kept (plain_of later) ns i.makers i.cells i.weak_cells)
         (sym names_are)
         (kept_same (plain_of i) i.names i.makers _ _ has_kept.kept (plain_of later) same))
 
-    pub kept_gained : (h : Handle) → HasMore (plain_of i) h (plain_of later)
+    pub still_gained : (h : Handle) → HasMore (plain_of i) h (plain_of later)
         → CountsMore (values_of i.names) h (values_of names) → IsKept later
-    kept_gained h more counts =
-        of_kept (kept_more (plain_of i) i.names i.makers _ _ has_kept.kept (plain_of later) h names more
-        counts)
+    still_gained = kept_gained seat i.words names still.0 noted_so
 
     pub kept_strong : (s t u v : SlotId) → Gains (plain_of i) s t (plain_of later) → u ≡ t → v ≡ u
         → CountsMore (values_of i.names) (Strong v) (values_of names) → IsKept later
     kept_strong s t u v gains first second counts =
-        kept_gained (Strong v)
+        still_gained (Strong v)
         (subst (λ (x : SlotId). HasMore (plain_of i) (Strong x) (plain_of later))
         (sym (second ∙ first)) (gains_more (plain_of i) (plain_of later) s t gains))
         counts
@@ -129,57 +146,13 @@ module _ {P : Type 0} (i d : DeskState P) (is : i ≡ d) (kept : IsKept d) where
     pub kept_weak : (s t u v : SlotId) → WeaklyGains (plain_of i) s t (plain_of later) → u ≡ t → v ≡ u
         → CountsMore (values_of i.names) (Weak v) (values_of names) → IsKept later
     kept_weak s t u v gains first second counts =
-        kept_gained (Weak v)
+        still_gained (Weak v)
         (subst (λ (x : SlotId). HasMore (plain_of i) (Weak x) (plain_of later))
         (sym (second ∙ first)) (weakly_gains_more (plain_of i) (plain_of later) s t gains))
         counts
 
-    -- a handle that was given up, and its name
-    module _ (h : Handle) (gives : ThenTidies (Does (plain_of i) 0 (giving h) 0) (plain_of later))
-        (found : Option Handle) (named : found ≡ Some h)
-        (fewer : IfSome found (λ x. CountsMore (values_of names) x (values_of i.names))) where
-      pub kept_given : IsKept later
-      kept_given =
-          let counts = subst (λ (o : Option Handle).
-          IfSome o (λ x. CountsMore (values_of names) x (values_of i.names))) named fewer in
-          let one = kept_fewer (plain_of i) i.names i.makers _ _ has_kept.kept gives.0 h names
-          (gives_fewer (plain_of i) gives.0 h gives.1) counts in
-          of_kept (kept_same gives.0 names i.makers _ _ one (plain_of later)
-          (tidied_same gives.0 (plain_of later) gives.2))
-
-    module _ (name : List ℕ) (s : SlotId) (binds : Binds i.names name None names) where
-      pub drop_begins : bound d.names name ≡ Some (Strong s) → (t : SlotId) → t ≡ s
-          → ThenTidies (Does (plain_of i) 0 (act.Drop t) 0) (plain_of later)
-          → Begins (desk_of d) (command.Drop name) said.Nothing (desk_of later)
-      drop_begins named t same gives =
-          let gives = subst (λ (x : SlotId).
-          ThenTidies (Does (plain_of i) 0 (act.Drop x) 0) (plain_of later)) same gives in
-          subst (λ (x : DeskState P). bound x.names name ≡ Some (Strong s)
-          → Begins (desk_of x) (command.Drop name) said.Nothing (desk_of later)) is
-          (λ was. (
-            record { plain = gives.0; names = names; makers = i.makers; makes = i.makes },
-            (refl, (s, was, gives.1, (binds, (refl, refl)))),
-            record { tidies = gives.2; names = refl; makers = (refl, refl) },
-          ))
-          named
-
-      pub weak_drop_begins : bound d.names name ≡ Some (Weak s) → (t : SlotId) → t ≡ s
-          → ThenTidies (Does (plain_of i) 0 (act.WeakDrop t) 0) (plain_of later)
-          → Begins (desk_of d) (command.DropWeak name) said.Nothing (desk_of later)
-      weak_drop_begins named t same gives =
-          let gives = subst (λ (x : SlotId).
-          ThenTidies (Does (plain_of i) 0 (act.WeakDrop x) 0) (plain_of later)) same gives in
-          subst (λ (x : DeskState P). bound x.names name ≡ Some (Weak s)
-          → Begins (desk_of x) (command.DropWeak name) said.Nothing (desk_of later)) is
-          (λ was. (
-            record { plain = gives.0; names = names; makers = i.makers; makes = i.makes },
-            (refl, (s, was, gives.1, (binds, (refl, refl)))),
-            record { tidies = gives.2; names = refl; makers = (refl, refl) },
-          ))
-          named
-
   -- an object that was made, and its maker
-  module _ (seat : SeatState (Unit {0})) (names : Names) (ready : IsReady i.domain seat)
+  module _ (seat : SeatState (Unit {0})) (names : Names) (still : IsStill i seat)
       (payload : List ℕ) (s u v : SlotId) (makes : Makes (plain_of i) s payload (known_plain i.domain seat))
       (first : u ≡ s) (second : v ≡ u) (at : SlotId) (third : at ≡ v) (maker : Maker) (count : ℕ) where
     abbrev made : DeskState P
@@ -193,7 +166,8 @@ module _ {P : Type 0} (i d : DeskState P) (is : i ≡ d) (kept : IsKept d) where
         let more = subst (λ (x : SlotId). HasMore (plain_of i) (Strong x) (plain_of made)) (sym of_hand)
         (makes_more (plain_of i) (plain_of made) s payload makes) in
         record {
-          ready = ready;
+          ready = still.0;
+          noted = noted_so seat names still;
           kept =
               kept_made (plain_of made) names i.makers _ _ at.0 maker
               (kept_more (plain_of i) i.names i.makers _ _ has_kept.kept (plain_of made) (Strong v)
@@ -210,14 +184,14 @@ module _ {P : Type 0} (i d : DeskState P) (is : i ≡ d) (kept : IsKept d) where
         (third ∙ of_hand) next is_maker
 
   -- a settle
-  module _ (seat : SeatState (Unit {0})) (ready : IsReady i.domain seat)
+  module _ (seat : SeatState (Unit {0})) (still : IsStill i seat)
       (tidies : TidiesTo (plain_of i) (known_plain i.domain seat)) where
     abbrev settled : DeskState P
     settled = record i { seat = seat }
 
     pub settle_kept : IsKept settled
     settle_kept =
-        of_kept seat i.names ready
+        still_kept seat i.names still
         (kept_same (plain_of i) i.names i.makers _ _ has_kept.kept (plain_of settled)
         (tidied_same (plain_of i) (plain_of settled) tidies))
 

@@ -1,4 +1,8 @@
 pub mod Keeping
+pub mod GivenUp
+pub mod Snapping
+pub mod Bare
+pub mod Closing
 pub mod Opened
 pub mod Placing
 pub mod Replacing

@@ -5,7 +5,7 @@ use Rattle.plain_state.specs.declared.act.EventPlace.{EventPlace}
 use Rattle.plain_state.specs.declared.slot.SlotId.{SlotId}
 use Rattle.plain_store.specs.Calls.{Loads, WeaklyLoads}
 use Rattle.acquire_retire.specs.Seats.{SeatState}
-use Rattle.lone_heap.specs.Lone.{IsReady, known_plain}
+use Rattle.lone_heap.specs.Lone.{known_plain}
 use Rattle.script_desk.specs.declared.handle.Handle.TheVariants.{Strong, Weak}
 use Rattle.script_desk.specs.declared.said.Said.TheVariants as said
 use Rattle.script_desk.specs.Desks.{Binds, Desk, Names}
@@ -14,11 +14,11 @@ use Rattle.script_desk.specs.Holding.{CountsMore}
 use Rattle.script_desk.proofs.Gaining.{loads_more, weakly_loads_more}
 use Rattle.script_desk.proofs.Told.{loads_told, weakly_loads_told}
 use Rattle.domain_desk.specs.Desks.{DeskState, IsKept, desk_of, plain_of}
-use Rattle.domain_desk.proofs.Keeping.{kept_gained}
+use Rattle.domain_desk.proofs.Keeping.{IsStill, still_gained}
 use Rattle.domain_desk.proofs.Told.{told_kept}
 
 module _ {P : Type 0} (i d : DeskState P) (is : i ≡ d) (kept : IsKept d) (at : EventPlace)
-    (new : List ℕ) (seat : SeatState (Unit {0})) (ready : IsReady i.domain seat) where
+    (new : List ℕ) (seat : SeatState (Unit {0})) (still : IsStill i seat) where
   abbrev looked : DeskState P
   looked = record i { seat = seat }
 
@@ -29,7 +29,7 @@ module _ {P : Type 0} (i d : DeskState P) (is : i ≡ d) (kept : IsKept d) (at :
       (inr (refl, l, (refl, (refl, refl))))
 
   pub null_kept : Loads (plain_of i) at None (plain_of looked) → IsKept looked
-  null_kept l = told_kept i d is kept seat ready l.1.1.2
+  null_kept l = told_kept i d is kept seat still l.1.1.2
 
   pub weak_null_told : WeaklyLoads (plain_of i) at None (plain_of looked)
       → LoadsWeak (desk_of d) at new said.Null (desk_of looked)
@@ -38,7 +38,7 @@ module _ {P : Type 0} (i d : DeskState P) (is : i ≡ d) (kept : IsKept d) (at :
       (inr (refl, l, (refl, (refl, refl))))
 
   pub weak_null_kept : WeaklyLoads (plain_of i) at None (plain_of looked) → IsKept looked
-  weak_null_kept l = told_kept i d is kept seat ready l.1.1.2
+  weak_null_kept l = told_kept i d is kept seat still l.1.1.2
 
   module _ (names : Names) (s t : SlotId) (same : t ≡ s) where
     abbrev later : DeskState P
@@ -55,7 +55,7 @@ module _ {P : Type 0} (i d : DeskState P) (is : i ≡ d) (kept : IsKept d) (at :
     pub loaded_kept : Loads (plain_of i) at (Some s) (plain_of later)
         → CountsMore (values_of i.names) (Strong t) (values_of names) → IsKept later
     loaded_kept l counts =
-        kept_gained i d is kept seat names ready (Strong s)
+        still_gained i d is kept seat names still (Strong s)
         (loads_more (plain_of i) (plain_of later) at s l).0
         (subst (λ (x : SlotId). CountsMore (values_of i.names) (Strong x) (values_of names)) same
         counts)
@@ -71,7 +71,7 @@ module _ {P : Type 0} (i d : DeskState P) (is : i ≡ d) (kept : IsKept d) (at :
     pub weakly_loaded_kept : WeaklyLoads (plain_of i) at (Some s) (plain_of later)
         → CountsMore (values_of i.names) (Weak t) (values_of names) → IsKept later
     weakly_loaded_kept l counts =
-        kept_gained i d is kept seat names ready (Weak s)
+        still_gained i d is kept seat names still (Weak s)
         (weakly_loads_more (plain_of i) (plain_of later) at s l)
         (subst (λ (x : SlotId). CountsMore (values_of i.names) (Weak x) (values_of names)) same
         counts)

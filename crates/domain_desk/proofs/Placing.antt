@@ -12,7 +12,7 @@ use Rattle.plain_state.specs.State.{Plain, seat_at}
 use Rattle.plain_state.specs.Steps.{Replaces}
 use Rattle.plain_store.specs.Calls.{MayGive, Puts, Tries}
 use Rattle.acquire_retire.specs.Seats.{SeatState}
-use Rattle.lone_heap.specs.Lone.{IsReady, ThenTidies, known_plain}
+use Rattle.lone_heap.specs.Lone.{ThenTidies, known_plain}
 use Rattle.script_lines.specs.declared.command.Command.TheVariants as command
 use Rattle.script_lines.specs.declared.command.TextPlace.{TextPlace}
 use Rattle.script_lines.specs.declared.command.TextPlace.TheVariants as text
@@ -33,7 +33,7 @@ use Rattle.script_desk.proofs.Steps.{same_then}
 use Rattle.script_desk.proofs.Sums.{has_bound, kept_fewer, kept_same}
 use Rattle.domain_desk.specs.Desks.{DeskState, IsKept, desk_of, plain_of, sizes_of}
 use Rattle.domain_desk.specs.Runs.{Begins}
-use Rattle.domain_desk.proofs.Keeping.{has_kept, of_kept, tidied_same}
+use Rattle.domain_desk.proofs.Keeping.{IsStill, has_kept, still_kept, tidied_same}
 
 -- the kind of a place, and of what it takes
 abbrev pub kind_at : TextPlace → Kind
@@ -143,7 +143,7 @@ module _ {P : Type 0} (i d : DeskState P) (is : i ≡ d) (kept : IsKept d) where
         (subst (HasHandle (plain_of d)) (sym is_taken) (has_of name h known.1)) refl
         (not_disposal place))
 
-    module _ (seat : SeatState (Unit {0})) (names : Names) (ready : IsReady i.domain seat)
+    module _ (seat : SeatState (Unit {0})) (names : Names) (still : IsStill i seat)
         (binds : Binds i.names name None names)
         (puts : ThenTidies (Puts (plain_of i) at (Some s)) (known_plain i.domain seat)) where
       abbrev later : DeskState P
@@ -183,13 +183,13 @@ module _ {P : Type 0} (i d : DeskState P) (is : i ≡ d) (kept : IsKept d) where
           (placed_kind d.names place at placed) puts.1.0.0 puts.1.1.2) in
           let one = kept_fewer (plain_of i) i.names i.makers _ _ (has_kept i d is kept).kept puts.0 h
           names less counts in
-          of_kept i d is kept seat names ready
+          still_kept i d is kept seat names still
           (kept_same puts.0 names i.makers _ _ one (plain_of later)
           (tidied_same puts.0 (plain_of later) puts.2))
 
   -- a place that is cleared
   module _ (place : TextPlace) (at : EventPlace) (placed : IsPlace d.names place at)
-      (seat : SeatState (Unit {0})) (ready : IsReady i.domain seat)
+      (seat : SeatState (Unit {0})) (still : IsStill i seat)
       (puts : ThenTidies (Puts (plain_of i) at None) (known_plain i.domain seat)) where
     abbrev cleared : DeskState P
     cleared = record i { seat = seat }
@@ -214,7 +214,7 @@ module _ {P : Type 0} (i d : DeskState P) (is : i ≡ d) (kept : IsKept d) where
 
     pub clear_kept : IsKept cleared
     clear_kept =
-        of_kept i d is kept seat i.names ready
+        still_kept i d is kept seat i.names still
         (kept_same (plain_of i) i.names i.makers _ _ (has_kept i d is kept).kept (plain_of cleared)
         (same_then (plain_of i) puts.0 (plain_of cleared)
         (replaces_same (plain_of i) puts.0 at puts.1.0.0 puts.1.1.2)

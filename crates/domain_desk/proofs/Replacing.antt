@@ -11,7 +11,7 @@ use Rattle.plain_state.specs.State.{Plain, seat_at}
 use Rattle.plain_state.specs.Steps.{Replaces}
 use Rattle.plain_store.specs.Calls.{MayGive, Tries}
 use Rattle.acquire_retire.specs.Seats.{SeatState}
-use Rattle.lone_heap.specs.Lone.{IsReady, ThenTidies, known_plain}
+use Rattle.lone_heap.specs.Lone.{ThenTidies, known_plain}
 use Rattle.script_lines.specs.declared.command.Command.TheVariants as command
 use Rattle.script_lines.specs.declared.command.TextPlace.{TextPlace}
 use Rattle.script_desk.specs.declared.handle.Handle.{Handle}
@@ -30,7 +30,7 @@ use Rattle.script_desk.proofs.Steps.{same_as, same_then}
 use Rattle.script_desk.proofs.Sums.{has_bound, kept_fewer, kept_same}
 use Rattle.domain_desk.specs.Desks.{DeskState, IsKept, desk_of, plain_of}
 use Rattle.domain_desk.specs.Runs.{Begins}
-use Rattle.domain_desk.proofs.Keeping.{has_kept, of_kept, tidied_same}
+use Rattle.domain_desk.proofs.Keeping.{IsStill, has_kept, still_kept, tidied_same}
 
 -- where the place held something else, nothing has changed
 tries_lost : (p q : Plain) (place : EventPlace) (old new : Option SlotId)
@@ -74,7 +74,7 @@ module _ {P : Type 0} (i d : DeskState P) (is : i ≡ d) (kept : IsKept d) (at :
   module _ (place : TextPlace) (placed : IsPlace d.names place at) (old new : Option (List ℕ))
       (expected slot : Option SlotId) (old_is : IsSlotOf d.names old expected)
       (new_is : IsSlotOf d.names new slot) (seat : SeatState (Unit {0}))
-      (ready : IsReady i.domain seat) where
+      (still : IsStill i seat) where
     module _ (tries : ThenTidies (Tries (plain_of i) at expected slot false)
         (known_plain i.domain seat)) where
       abbrev lost : DeskState P
@@ -101,7 +101,7 @@ module _ {P : Type 0} (i d : DeskState P) (is : i ≡ d) (kept : IsKept d) (at :
 
       pub lost_kept : IsKept lost
       lost_kept =
-          of_kept i d is kept seat i.names ready
+          still_kept i d is kept seat i.names still
           (kept_same (plain_of i) i.names i.makers _ _ (has_kept i d is kept).kept (plain_of lost)
           (same_then (plain_of i) tries.0 (plain_of lost)
           (same_as (plain_of i) tries.0
@@ -145,7 +145,7 @@ module _ {P : Type 0} (i d : DeskState P) (is : i ≡ d) (kept : IsKept d) (at :
             → IfSome (option_and_then (bound i.names) new)
             (λ h. CountsMore (values_of names) h (values_of i.names)) → IsKept done
         done_kept met counts =
-            of_kept i d is kept seat names ready
+            still_kept i d is kept seat names still
             (kept_same tries.0 names i.makers _ _ (of new new_is binds counts met) (plain_of done)
             (tidied_same tries.0 (plain_of done) tries.2))
           where

@@ -8,7 +8,7 @@ use Rattle.plain_state.specs.State.{Plain, PlainSeat, seat_at, slot_at}
 use Rattle.plain_state.specs.Steps.{Does}
 use Rattle.plain_store.specs.Settling.{IsSettled}
 use Rattle.acquire_retire.specs.Seats.{SeatState}
-use Rattle.lone_heap.specs.Lone.{IsReady, known_plain}
+use Rattle.lone_heap.specs.Lone.{known_plain}
 use Rattle.script_lines.specs.declared.command.Command.TheVariants as command
 use Rattle.script_desk.specs.declared.handle.Handle.{Handle}
 use Rattle.script_desk.specs.declared.said.Said.TheVariants as said
@@ -20,7 +20,7 @@ use Rattle.script_desk.specs.Holding.{HasSame}
 use Rattle.script_desk.proofs.Grows.{same_by}
 use Rattle.script_desk.proofs.Steps.{same_as}
 use Rattle.domain_desk.specs.Desks.{DeskState, IsKept, desk_of, plain_of, sizes_of}
-use Rattle.domain_desk.proofs.Keeping.{kept_with}
+use Rattle.domain_desk.proofs.Keeping.{IsStill, kept_with}
 
 -- an add that found the zero mark leaves what the seat has
 pub dead_same : (p q : Plain) (s : SlotId) → Does p 0 (act.Add s) 1 q → HasSame p q
@@ -31,12 +31,12 @@ dead_same p q s (here, (held, cases)) = ⊎_elim
     cases
 
 module _ {P : Type 0} (i d : DeskState P) (is : i ≡ d) (kept : IsKept d)
-    (seat : SeatState (Unit {0})) (ready : IsReady i.domain seat) where
+    (seat : SeatState (Unit {0})) (still : IsStill i seat) where
   abbrev pub later : DeskState P
   later = record i { seat = seat }
 
   pub kept_so : HasSame (plain_of i) (plain_of later) → IsKept later
-  kept_so same = kept_with i d is kept seat i.names ready same refl
+  kept_so same = kept_with i d is kept seat i.names still same refl
 
   module _ (same : known_plain i.domain seat ≡ plain_of i) where
     pub told_kept : IsKept later

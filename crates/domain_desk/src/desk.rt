@@ -4,18 +4,20 @@ ghost use Rattle.script_desk.specs.declared.kind.ScriptKind.{ScriptKind as Kind}
 ghost use Rattle.domain_desk.specs.Desks.{DeskState};
 
 use acquire_retire::{Domain, Seat};
+use lone_heap::Words;
 use plain_protocol::NoLaw;
 use script_desk::{Make, NameTable, ScriptKind};
 use std::alloc::Global;
 use std::marker::Model;
 
-/// A domain and its one seat, names that are bound to handles of it, and of each slot the make that made it last.
-/// Contracts see it as a value of `specs/Desks`.
+/// A domain and its one seat, which slots the seat's announcement words protect, names that are bound to handles of it,
+/// and of each slot the make that made it last. Contracts see it as a value of `specs/Desks`.
 #[derive(Drop)]
 pub struct DomainDesk {
     pub(crate) alloc: Global,
     pub(crate) domain: Domain<NoLaw<ScriptKind>>,
     pub(crate) seat: Seat<NoLaw<ScriptKind>>,
+    pub(crate) words: Words,
     pub(crate) names: NameTable,
     pub(crate) makers: Vec<Make>,
     pub(crate) makes: u64,
@@ -29,6 +31,7 @@ impl Model for DomainDesk {
     ghost view = { λ d. record {
       domain = d.domain;
       seat = d.seat;
+      words = d.words;
       names = d.names;
       makers = d.makers.items;
       makes = d.makes;

@@ -1,4 +1,4 @@
-//! What a script has between two commands, on a running domain: all commands but those on snapshots.
+//! What a script has between two commands, on a running domain.
 //!
 //! The rule: the domain has one seat, which has just what the handles need to which names are bound.
 //!
@@ -20,11 +20,13 @@
 mod auditing;
 mod desk;
 mod faults;
+mod giving;
 mod making;
 mod opening;
 mod places;
 mod references;
 mod running;
+mod snapshots;
 mod telling;
 #[cfg(test)]
 mod tests;

@@ -8,7 +8,7 @@ ghost use Rattle.domain_desk.specs.Desks.{IsKept, desk_of, plain_of};
 
 use crate::desk::DomainDesk;
 use acquire_retire::OpenError;
-use lone_heap::open;
+use lone_heap::begin;
 use script_desk::{NameTable, ScriptKind, no_makers};
 use std::alloc::Global;
 
@@ -28,7 +28,7 @@ impl DomainDesk {
         ensures makers { IfOk result (λ desk. (s : SlotId) → maker_of (desk_of desk) s ≡ nobody) }
         ensures kept { IfOk result (λ desk. IsKept desk) }
     {
-        let (domain, seat) = open::<ScriptKind>(alloc, slots, cells, weak_cells)?;
+        let (domain, seat, words) = begin::<ScriptKind>(alloc, slots, cells, weak_cells)?;
         let makers = match no_makers(alloc, slots) {
             Ok(makers) => makers,
             Err(_none) => return Err(OpenError::OutOfMemory),
@@ -37,6 +37,7 @@ impl DomainDesk {
             alloc,
             domain,
             seat,
+            words,
             names: NameTable::new(alloc),
             makers,
             makes: 0,

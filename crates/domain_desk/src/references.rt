@@ -1,18 +1,16 @@
-//! References: one more, one fewer.
+//! References: one more.
 ghost use Rattle.std.specs.Prelude.{◌≡◌, IfOk, OnOk, None};
 ghost use Rattle.script_lines.specs.declared.command.Command.TheVariants as command;
 ghost use Rattle.script_desk.specs.Desks.{bound};
 ghost use Rattle.script_desk.specs.Effects.{Acts};
 ghost use Rattle.script_desk.specs.Handles.{is_strong, is_weak};
 ghost use Rattle.script_desk.specs.Places.{IsBoundTo};
-ghost use Rattle.script_desk.specs.declared.said.Said.TheVariants as said;
 ghost use Rattle.domain_desk.specs.Desks.{IsKept, desk_of};
-ghost use Rattle.domain_desk.specs.Runs.{Begins};
 
 use crate::desk::DomainDesk;
 use control_word::UpgradeError;
 use counted_handles::{Strong, Weak};
-use lone_heap::{copy, copy_weakly, give, give_weak, upgrade_lone, weaken_lone};
+use lone_heap::{copy, copy_weakly, upgrade_lone, weaken_lone};
 use out_of_memory::OutOfMemory;
 use plain_store::{Hand, WeakHand};
 use script_desk::{Handle, Said};
@@ -99,31 +97,5 @@ impl DomainDesk {
             return Err(OutOfMemory);
         };
         Ok(Said::Up)
-    }
-
-    /// A strong reference is given up, and its name isn't bound any more.
-    pub(crate) fn drop(&mut self, name: &Name)
-        requires kept { IsKept self.old }
-        requires bound { IsBoundTo self.old.names name.now is_strong }
-        ensures begins { Begins (desk_of self.old) (command.Drop name.now) said.Nothing
-            (desk_of self.new) }
-        ensures kept { IsKept self.new }
-    {
-        let slot = self.names.strong_slot(name);
-        self.names.unbind(name);
-        give(&self.domain, &mut self.seat, Strong::of(slot));
-    }
-
-    /// A weak reference is given up, and its name isn't bound any more.
-    pub(crate) fn drop_weak(&mut self, name: &Name)
-        requires kept { IsKept self.old }
-        requires bound { IsBoundTo self.old.names name.now is_weak }
-        ensures begins { Begins (desk_of self.old) (command.DropWeak name.now) said.Nothing
-            (desk_of self.new) }
-        ensures kept { IsKept self.new }
-    {
-        let slot = self.names.weak_slot(name);
-        self.names.unbind(name);
-        give_weak(&self.domain, &mut self.seat, Weak::of(slot));
     }
 }

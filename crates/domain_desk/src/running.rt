@@ -7,7 +7,7 @@ ghost use Rattle.script_desk.specs.Effects.{Runs};
 ghost use Rattle.script_desk.specs.Faults.{IsFaultless};
 ghost use Rattle.script_desk.specs.Kinds.{IsScriptPayload, script_weight};
 ghost use Rattle.domain_desk.specs.Desks.{IsKept, desk_of, plain_of};
-ghost use Rattle.domain_desk.specs.Runs.{Begins, IsHere};
+ghost use Rattle.domain_desk.specs.Runs.{Begins};
 
 use crate::desk::DomainDesk;
 use deleter::Deleter;
@@ -25,7 +25,6 @@ impl DomainDesk {
         weigh: &Deleter<ScriptKind, F>,
     ) -> Result<Said, OutOfMemory>
         requires kept { IsKept self.old }
-        requires here { IsHere command.now }
         requires faultless { IsFaultless (scope_of (desk_of self.old)) command.now }
         requires settled { IsSettled (plain_of self.old) }
         requires weighs { Weighs IsScriptPayload script_weight F.Fn weigh.now }
@@ -44,7 +43,6 @@ impl DomainDesk {
         weigh: &Deleter<ScriptKind, F>,
     ) -> Result<Said, OutOfMemory>
         requires kept { IsKept self.old }
-        requires here { IsHere command.now }
         requires faultless { IsFaultless (scope_of (desk_of self.old)) command.now }
         requires settled { IsSettled (plain_of self.old) }
         requires weighs { Weighs IsScriptPayload script_weight F.Fn weigh.now }
@@ -60,6 +58,8 @@ impl DomainDesk {
             Command::Upgrade(name, new) => self.upgrade(name, new),
             Command::Load(place, new) => self.load(place, new),
             Command::Replace(place, old, new) => Ok(self.replace(place, old, new)),
+            Command::Snap(place, new) => self.snap(place, new),
+            Command::Keep(name, new) => self.keep(name, new),
             Command::Read(name, word) => Ok(self.read(name, *word as u32)),
             Command::Counts(name) => Ok(self.counts(name)),
             Command::Audit => self.audit(weigh),
@@ -71,15 +71,10 @@ impl DomainDesk {
                 self.clear(place);
                 Ok(Said::Nothing)
             }
-            Command::Drop(name) => {
-                self.drop(name);
+            Command::Drop(name) | Command::DropWeak(name) | Command::EndSnapshot(name) => {
+                self.give(name);
                 Ok(Said::Nothing)
             }
-            Command::DropWeak(name) => {
-                self.drop_weak(name);
-                Ok(Said::Nothing)
-            }
-            _ => unreachable!(),
         }
     }
 

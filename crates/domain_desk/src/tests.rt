@@ -1,7 +1,6 @@
 //! What no clause says: that each command succeeds with ample memory, and what it then answers.
 ghost use Rattle.plain_store.specs.Settling.{IsSettled};
 ghost use Rattle.domain_desk.specs.Desks.{IsKept, plain_of};
-ghost use Rattle.domain_desk.specs.Runs.{IsHere};
 
 use crate::desk::DomainDesk;
 use deleter::Deleter;
@@ -30,7 +29,6 @@ fn opened(rt: &impl Abort, alloc: Global, slots: u32, cells: u32, weak_cells: u3
 
 // What a command answers that isn't refused.
 fn said(rt: &impl Abort, desk: &mut DomainDesk, command: Command) -> Said
-    requires here { IsHere command }
     requires kept { IsKept desk.old }
     requires settled { IsSettled (plain_of desk.old) }
     ensures kept { IsKept desk.new }
@@ -48,7 +46,6 @@ fn said(rt: &impl Abort, desk: &mut DomainDesk, command: Command) -> Said
 
 // A command that answers nothing.
 fn quiet(rt: &impl Abort, desk: &mut DomainDesk, command: Command)
-    requires here { IsHere command }
     requires kept { IsKept desk.old }
     requires settled { IsSettled (plain_of desk.old) }
     ensures kept { IsKept desk.new }
@@ -79,6 +76,20 @@ fn counts(rt: &impl Abort, alloc: Global, desk: &mut DomainDesk, of: &str) -> (u
 {
     match said(rt, desk, Command::Counts(name(rt, alloc, of))) {
         Said::Counts(strong, weak) => (strong, weak),
+        answer => panic!(rt; "{answer:?}"),
+    }
+}
+
+// A snapshot of cell 0, and whether it is counted.
+fn is_counted(rt: &impl Abort, desk: &mut DomainDesk, new: Name) -> bool
+    requires kept { IsKept desk.old }
+    requires settled { IsSettled (plain_of desk.old) }
+    ensures kept { IsKept desk.new }
+    ensures settled { IsSettled (plain_of desk.new) }
+{
+    match said(rt, desk, Command::Snap(TextPlace::Cell(0), new)) {
+        Said::Counted => true,
+        Said::Snapped => false,
         answer => panic!(rt; "{answer:?}"),
     }
 }
@@ -178,5 +189,90 @@ fn a_cycle_is_shown_by_names(rt: HostRuntime) -> Result<(), Fail> {
     );
     assert_eq!(rt; shown.walk.len(), 2);
     assert!(rt; shown.walk[0].as_str() == "a" && shown.walk[1].as_str() == "b");
+    Ok(())
+}
+
+#[test]
+fn places_under_snapshots(rt: HostRuntime) -> Result<(), Fail> {
+    let alloc = rt.alloc();
+    let mut desk = opened(&rt, alloc, 2, 1, 1);
+    let of = |text: &str| name(&rt, alloc, text);
+    assert!(rt; make(&rt, alloc, &mut desk, "a", 5));
+    assert!(rt; make(&rt, alloc, &mut desk, "b", 6));
+    quiet(&rt, &mut desk, Command::Copy(of("a"), of("c")));
+    quiet(&rt, &mut desk, Command::Put(TextPlace::Cell(0), of("c")));
+    assert!(rt; !is_counted(&rt, &mut desk, of("p")));
+    assert!(rt; !is_counted(&rt, &mut desk, of("q")));
+    assert!(rt; !is_counted(&rt, &mut desk, of("r")));
+    assert!(rt; is_counted(&rt, &mut desk, of("t")));
+    assert_eq!(rt; counts(&rt, alloc, &mut desk, "t"), (3, 1));
+    quiet(&rt, &mut desk, Command::Keep(of("p"), of("k")));
+    assert_eq!(rt; counts(&rt, alloc, &mut desk, "k"), (4, 1));
+    let done = Command::Replace(TextPlace::Cell(0), Some(of("q")), Some(of("b")));
+    assert!(rt; matches!(said(&rt, &mut desk, done), Said::Done));
+    assert_eq!(rt; audit(&rt, &mut desk).deferred, 1);
+    quiet(&rt, &mut desk, Command::EndSnapshot(of("p")));
+    quiet(&rt, &mut desk, Command::EndSnapshot(of("q")));
+    quiet(&rt, &mut desk, Command::EndSnapshot(of("r")));
+    quiet(&rt, &mut desk, Command::EndSnapshot(of("t")));
+    assert_eq!(rt; counts(&rt, alloc, &mut desk, "a"), (2, 1));
+    Ok(())
+}
+
+#[test]
+fn an_ended_snapshot_frees_its_word(rt: HostRuntime) -> Result<(), Fail> {
+    let alloc = rt.alloc();
+    let mut desk = opened(&rt, alloc, 1, 1, 0);
+    let of = |text: &str| name(&rt, alloc, text);
+    let null = Command::Snap(TextPlace::Cell(0), of("n"));
+    assert!(rt; matches!(said(&rt, &mut desk, null), Said::Null));
+    assert!(rt; make(&rt, alloc, &mut desk, "a", 5));
+    quiet(&rt, &mut desk, Command::Put(TextPlace::Cell(0), of("a")));
+    assert!(rt; !is_counted(&rt, &mut desk, of("p")));
+    assert!(rt; !is_counted(&rt, &mut desk, of("q")));
+    assert!(rt; !is_counted(&rt, &mut desk, of("r")));
+    assert!(rt; is_counted(&rt, &mut desk, of("s")));
+    quiet(&rt, &mut desk, Command::EndSnapshot(of("q")));
+    assert!(rt; !is_counted(&rt, &mut desk, of("t")));
+    assert!(rt; is_counted(&rt, &mut desk, of("u")));
+    assert_eq!(rt; counts(&rt, alloc, &mut desk, "p"), (3, 1));
+    quiet(&rt, &mut desk, Command::Clear(TextPlace::Cell(0)));
+    quiet(&rt, &mut desk, Command::EndSnapshot(of("s")));
+    quiet(&rt, &mut desk, Command::EndSnapshot(of("u")));
+    assert_eq!(rt; audit(&rt, &mut desk).deferred, 1);
+    quiet(&rt, &mut desk, Command::EndSnapshot(of("p")));
+    quiet(&rt, &mut desk, Command::EndSnapshot(of("r")));
+    assert!(rt; !make(&rt, alloc, &mut desk, "b", 6));
+    quiet(&rt, &mut desk, Command::EndSnapshot(of("t")));
+    assert!(rt; make(&rt, alloc, &mut desk, "b", 6));
+    Ok(())
+}
+
+#[test]
+fn what_is_left_is_given_up(rt: HostRuntime) -> Result<(), Fail> {
+    let alloc = rt.alloc();
+    let mut desk = opened(&rt, alloc, 2, 1, 0);
+    let of = |text: &str| name(&rt, alloc, text);
+    assert!(rt; make(&rt, alloc, &mut desk, "a", 3));
+    assert!(rt; make(&rt, alloc, &mut desk, "b", 4));
+    quiet(&rt, &mut desk, Command::Put(TextPlace::Cell(0), of("b")));
+    assert!(rt; !is_counted(&rt, &mut desk, of("p")));
+    assert!(rt; !is_counted(&rt, &mut desk, of("q")));
+    assert!(rt; !is_counted(&rt, &mut desk, of("r")));
+    assert!(rt; is_counted(&rt, &mut desk, of("s")));
+    quiet(&rt, &mut desk, Command::Weaken(of("a"), of("w")));
+    let weigh: Deleter<ScriptKind, _> = Deleter::keep(|payload: &[u64; 16]| payload[0]);
+    let (domain, mut seat) = desk.close(&weigh);
+    let heap = domain.image(alloc, &mut seat)?;
+    assert!(rt; heap.deferred.is_empty());
+    assert_eq!(rt; heap.slots.len(), 2);
+    let (one, other) = (heap.slots[0], heap.slots[1]);
+    let (kept, gone) = if one.weak == 0 {
+        (other, one)
+    } else {
+        (one, other)
+    };
+    assert_eq!(rt; (kept.strong, kept.weak, kept.payload[0]), (1, 1, 4));
+    assert_eq!(rt; gone.weak, 0);
     Ok(())
 }

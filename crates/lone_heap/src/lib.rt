@@ -20,6 +20,7 @@
 #![tactic(auto)]
 
 mod auditing;
+mod beginning;
 mod loading;
 mod making;
 mod opening;
@@ -31,6 +32,7 @@ mod telling;
 mod words;
 
 pub use auditing::audit_lone;
+pub use beginning::begin;
 pub use loading::load;
 pub use making::make;
 pub use opening::open;

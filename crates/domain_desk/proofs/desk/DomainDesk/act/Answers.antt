@@ -6,10 +6,12 @@ use Rattle.script_desk.specs.declared.said.Said.{Said}
 use Rattle.script_desk.specs.Desks.{scope_of}
 use Rattle.script_desk.specs.Effects.{Acts}
 use Rattle.script_desk.specs.Faults.{need_of, place_needs, taken_by}
-use Rattle.script_desk.specs.Handles.{is_any, is_firm, is_strong, is_weak}
+use Rattle.script_desk.specs.Handles.{is_any, is_firm, is_snapshot, is_strong, is_weak}
+use Rattle.script_desk.proofs.Giving.{give_met}
 use Rattle.script_desk.proofs.Needs.{faultless_met, first_met, met_left, met_right}
 use Rattle.domain_desk.specs.Desks.{desk_of}
 use Rattle.domain_desk.specs.Runs.{Begins}
+use Rattle.domain_desk.proofs.GivenUp.{given_begins}
 use Rattle.domain_desk.proofs.Keeping.{acts_begin}
 use Rattle.domain_desk.proofs.desk.DomainDesk.act.Goals as goal
 
@@ -29,18 +31,6 @@ pub copy_weak-requires-clause-bound : goal.copy_weak-requires-clause-bound
 copy_weak-requires-clause-bound g c =
     first_met c.args.self.now.names c.in-CopyWeak.name is_weak []
     (rw c.in-CopyWeak.is at
-    (faultless_met (scope_of (desk_of c.args.self.now)) c.args.command.now c.requires.faultless))
-
-pub drop-requires-clause-bound : goal.drop-requires-clause-bound
-drop-requires-clause-bound g c =
-    first_met c.args.self.now.names c.in-Drop.name is_strong []
-    (rw c.in-Drop.is at
-    (faultless_met (scope_of (desk_of c.args.self.now)) c.args.command.now c.requires.faultless))
-
-pub drop_weak-requires-clause-bound : goal.drop_weak-requires-clause-bound
-drop_weak-requires-clause-bound g c =
-    first_met c.args.self.now.names c.in-DropWeak.name is_weak []
-    (rw c.in-DropWeak.is at
     (faultless_met (scope_of (desk_of c.args.self.now)) c.args.command.now c.requires.faultless))
 
 pub returns-in-Make-clause-begins : goal.returns-in-Make-clause-begins
@@ -233,3 +223,49 @@ returns-in-Audit-clause-begins g c =
     (sym c.in-Audit.is)
     (acts_begin (desk_of c.args.self.now) command.Audit answer (desk_of c.audit.new.self) acts))
     c.audit.ensures.acts
+
+pub keep-requires-clause-bound : goal.keep-requires-clause-bound
+keep-requires-clause-bound g c =
+    first_met c.args.self.now.names c.in-Keep.name is_snapshot []
+    (rw c.in-Keep.is at
+    (faultless_met (scope_of (desk_of c.args.self.now)) c.args.command.now c.requires.faultless))
+
+pub give-requires-clause-bound : goal.give-requires-clause-bound
+give-requires-clause-bound g c =
+    give_met (desk_of c.args.self.now) c.args.command.now c.in-Drop.name c.in-Drop.is
+    c.requires.faultless
+
+pub returns-in-Snap-clause-begins : goal.returns-in-Snap-clause-begins
+returns-in-Snap-clause-begins g c =
+    then_ok
+    (λ (answer : Said). Acts (desk_of c.args.self.now) (command.Snap c.in-Snap.place c.in-Snap.new)
+    answer (desk_of c.snap.new.self))
+    (λ (answer : Said). Begins (desk_of c.args.self.now) c.args.command.now answer
+    (desk_of c.snap.new.self))
+    c.snap.result
+    (λ answer acts.
+    subst (λ (x : Command). Begins (desk_of c.args.self.now) x answer (desk_of c.snap.new.self))
+    (sym c.in-Snap.is)
+    (acts_begin (desk_of c.args.self.now) (command.Snap c.in-Snap.place c.in-Snap.new) answer
+    (desk_of c.snap.new.self) acts))
+    c.snap.ensures.acts
+
+pub returns-in-Keep-clause-begins : goal.returns-in-Keep-clause-begins
+returns-in-Keep-clause-begins g c =
+    then_ok
+    (λ (answer : Said). Acts (desk_of c.args.self.now) (command.Keep c.in-Keep.name c.in-Keep.new)
+    answer (desk_of c.keep.new.self))
+    (λ (answer : Said). Begins (desk_of c.args.self.now) c.args.command.now answer
+    (desk_of c.keep.new.self))
+    c.keep.result
+    (λ answer acts.
+    subst (λ (x : Command). Begins (desk_of c.args.self.now) x answer (desk_of c.keep.new.self))
+    (sym c.in-Keep.is)
+    (acts_begin (desk_of c.args.self.now) (command.Keep c.in-Keep.name c.in-Keep.new) answer
+    (desk_of c.keep.new.self) acts))
+    c.keep.ensures.acts
+
+pub returns-in-Drop-clause-begins : goal.returns-in-Drop-clause-begins
+returns-in-Drop-clause-begins g c =
+    given_begins (desk_of c.args.self.now) (desk_of c.give.new.self) c.args.command.now
+    c.in-Drop.name c.in-Drop.is c.requires.faultless c.give.ensures.gives

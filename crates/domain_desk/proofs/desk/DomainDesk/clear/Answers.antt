@@ -9,9 +9,9 @@ put-requires-clause-opened c =
 pub returns-clause-begins : goal.returns-clause-begins
 returns-clause-begins c =
     clear_begins _ _ c.self.view_is c.requires.kept c.args.place.now c.place_of-at.result
-    (placed_so _ _ c.self.view_is _ _ c.place_of-at.ensures) c.put.new.seat c.put.ensures.ready c.put.ensures.puts
+    (placed_so _ _ c.self.view_is _ _ c.place_of-at.ensures) c.put.new.seat (c.put.ensures.ready, c.put.ensures.notes) c.put.ensures.puts
 
 pub returns-clause-kept : goal.returns-clause-kept
 returns-clause-kept c =
     clear_kept _ _ c.self.view_is c.requires.kept c.args.place.now c.place_of-at.result
-    (placed_so _ _ c.self.view_is _ _ c.place_of-at.ensures) c.put.new.seat c.put.ensures.ready c.put.ensures.puts
+    (placed_so _ _ c.self.view_is _ _ c.place_of-at.ensures) c.put.new.seat (c.put.ensures.ready, c.put.ensures.notes) c.put.ensures.puts

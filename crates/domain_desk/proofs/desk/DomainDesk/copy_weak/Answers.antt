@@ -9,5 +9,5 @@ copy_weakly-requires-clause-owned c =
 pub returns-clause-kept : goal.returns-clause-kept
 returns-clause-kept c =
     kept_weak _ _ c.self.view_is c.requires.kept c.copy_weakly.new.seat c.bind.new.self
-    c.in-Ok.ensures.ready _ _ _ _ c.in-Ok.ensures.gains c.slot.ensures c.of-hand.ensures
+    (c.in-Ok.ensures.ready, c.in-Ok.ensures.notes) _ _ _ _ c.in-Ok.ensures.gains c.slot.ensures c.of-hand.ensures
     c.in-Ok-bind.ensures.more

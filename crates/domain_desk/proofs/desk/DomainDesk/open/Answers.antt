@@ -11,6 +11,7 @@ returns-clause-makers c = all_nobody _ c.in-Ok.ensures.each
 pub returns-clause-kept : goal.returns-clause-kept
 returns-clause-kept c = record {
   ready = c.in_ok-domain.ensures.ready;
+  noted = c.in_ok-domain.ensures.noted;
   kept =
       opened_kept c.args.slots c.args.cells c.args.weak_cells _ c.in_ok-domain.ensures.empty _ _
       c.new.ensures c.in-Ok.ensures.size;

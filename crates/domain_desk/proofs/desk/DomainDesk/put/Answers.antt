@@ -15,12 +15,12 @@ pub returns-clause-begins : goal.returns-clause-begins
 returns-clause-begins c =
     put_begins _ _ c.self.view_is c.requires.kept c.args.place.now c.place_of-at.result
     (placed_so _ _ c.self.view_is _ _ c.place_of-at.ensures) c.args.name.now c.slot-slot.result (known_so _ _ c.self.view_is _ _ c.slot-slot.ensures) c.requires.bound
-    c.put.new.seat c.unbind.new.self c.put.ensures.ready c.unbind.ensures.binds
+    c.put.new.seat c.unbind.new.self (c.put.ensures.ready, c.put.ensures.notes) c.unbind.ensures.binds
     c.put.ensures.puts
 
 pub returns-clause-kept : goal.returns-clause-kept
 returns-clause-kept c =
     put_kept _ _ c.self.view_is c.requires.kept c.args.place.now c.place_of-at.result
     (placed_so _ _ c.self.view_is _ _ c.place_of-at.ensures) c.args.name.now c.slot-slot.result (known_so _ _ c.self.view_is _ _ c.slot-slot.ensures) c.requires.bound
-    c.put.new.seat c.unbind.new.self c.put.ensures.ready c.unbind.ensures.binds
+    c.put.new.seat c.unbind.new.self (c.put.ensures.ready, c.put.ensures.notes) c.unbind.ensures.binds
     c.put.ensures.puts c.unbind.result c.unbind.ensures.was c.unbind.ensures.fewer

@@ -9,11 +9,11 @@ read-requires-clause-holds c =
 
 pub returns-clause-acts : goal.returns-clause-acts
 returns-clause-acts c =
-    read_told _ _ c.self.view_is c.requires.kept c.read.new.seat c.read.ensures.ready
+    read_told _ _ c.self.view_is c.requires.kept c.read.new.seat (c.read.ensures.ready, c.read.ensures.notes)
     c.read.ensures.same c.args.name.now c.slot-slot.result (known_so _ _ c.self.view_is _ _ c.slot-slot.ensures) c.args.word
     c.read.result c.read.ensures.word
 
 pub returns-clause-kept : goal.returns-clause-kept
 returns-clause-kept c =
-    told_kept _ _ c.self.view_is c.requires.kept c.read.new.seat c.read.ensures.ready
+    told_kept _ _ c.self.view_is c.requires.kept c.read.new.seat (c.read.ensures.ready, c.read.ensures.notes)
     c.read.ensures.same

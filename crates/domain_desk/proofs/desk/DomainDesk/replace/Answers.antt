@@ -29,7 +29,7 @@ returns-then-not-try_put-clause-begins c =
     c.args.new.now c.slot_if_some-expected.result c.slot_if_some-slot.result
     (slot_so _ _ c.self.view_is _ _ c.slot_if_some-expected.ensures)
     (slot_so _ _ c.self.view_is _ _ c.slot_if_some-slot.ensures) c.try_put.new.seat
-    c.try_put.ensures.ready (tries_as _ _ _ _ _ _ _ is c.try_put.ensures.tries)
+    (c.try_put.ensures.ready, c.try_put.ensures.notes) (tries_as _ _ _ _ _ _ _ is c.try_put.ensures.tries)
 
 pub returns-then-not-try_put-clause-kept : goal.returns-then-not-try_put-clause-kept
 returns-then-not-try_put-clause-kept c =
@@ -40,7 +40,7 @@ returns-then-not-try_put-clause-kept c =
     c.args.new.now c.slot_if_some-expected.result c.slot_if_some-slot.result
     (slot_so _ _ c.self.view_is _ _ c.slot_if_some-expected.ensures)
     (slot_so _ _ c.self.view_is _ _ c.slot_if_some-slot.ensures) c.try_put.new.seat
-    c.try_put.ensures.ready (tries_as _ _ _ _ _ _ _ is c.try_put.ensures.tries)
+    (c.try_put.ensures.ready, c.try_put.ensures.notes) (tries_as _ _ _ _ _ _ _ is c.try_put.ensures.tries)
 
 pub returns-clause-begins : goal.returns-clause-begins
 returns-clause-begins c =
@@ -51,7 +51,7 @@ returns-clause-begins c =
     c.args.new.now c.slot_if_some-expected.result c.slot_if_some-slot.result
     (slot_so _ _ c.self.view_is _ _ c.slot_if_some-expected.ensures)
     (slot_so _ _ c.self.view_is _ _ c.slot_if_some-slot.ensures) c.try_put.new.seat
-    c.try_put.ensures.ready c.unbind_if_some.new.self
+    (c.try_put.ensures.ready, c.try_put.ensures.notes) c.unbind_if_some.new.self
     c.unbind_if_some.ensures.binds (tries_as _ _ _ _ _ _ _ is c.try_put.ensures.tries)
 
 pub returns-clause-kept : goal.returns-clause-kept
@@ -63,6 +63,6 @@ returns-clause-kept c =
     c.args.new.now c.slot_if_some-expected.result c.slot_if_some-slot.result
     (slot_so _ _ c.self.view_is _ _ c.slot_if_some-expected.ensures)
     (slot_so _ _ c.self.view_is _ _ c.slot_if_some-slot.ensures) c.try_put.new.seat
-    c.try_put.ensures.ready c.unbind_if_some.new.self
+    (c.try_put.ensures.ready, c.try_put.ensures.notes) c.unbind_if_some.new.self
     c.unbind_if_some.ensures.binds (tries_as _ _ _ _ _ _ _ is c.try_put.ensures.tries)
     c.requires.given c.unbind_if_some.ensures.fewer

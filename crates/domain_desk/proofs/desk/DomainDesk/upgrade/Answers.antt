@@ -10,5 +10,5 @@ upgrade_lone-requires-clause-owned c =
 pub returns-clause-kept : goal.returns-clause-kept
 returns-clause-kept c =
     kept_strong _ _ c.self.view_is c.requires.kept c.upgrade_lone.new.seat c.bind.new.self
-    c.upgrade_lone.ensures.ready _ _ _ _ c.in-Ok.ensures.up c.slot.ensures c.of-hand.ensures
+    (c.upgrade_lone.ensures.ready, c.upgrade_lone.ensures.notes) _ _ _ _ c.in-Ok.ensures.up c.slot.ensures c.of-hand.ensures
     c.in-Ok-bind.ensures.more

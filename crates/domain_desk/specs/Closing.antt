@@ -1,0 +1,9 @@
+-- What a seat has when all handles were given up.
+use Rattle.std.specs.Prelude.{◌≡◌, []}
+use Rattle.plain_state.specs.State.{PlainSeat}
+
+-- it owns nothing, owns nothing weakly, and is under no snapshot
+pub record HasNoHandles (v : PlainSeat) : Type 0 where
+  pub owned : v.owned ≡ []
+  pub weaks : v.weaks ≡ []
+  pub snapshots : v.snapshots ≡ []

@@ -1,0 +1,44 @@
+//! A domain of one seat is opened, with the words of the seat's snapshots.
+ghost use Rattle.std.specs.Prelude.{◌≡◌, IfOk};
+ghost use Rattle.plain_state.specs.State.{empty};
+ghost use Rattle.lone_heap.specs.Lone.{IsReady, known_plain};
+ghost use Rattle.lone_heap.specs.Words.{AreNoted};
+
+use crate::words::Words;
+use acquire_retire::{Domain, OpenError, Quota, Seat, Shape, open_domain};
+use plain_protocol::NoLaw;
+use plain_state::PayloadKind;
+use std::alloc::Global;
+
+/// How many retired entries the seat keeps before it scans, beside one for each announcement word.
+const BATCH: u32 = 4;
+
+/// What the seat may use up.
+const WIDE: Quota = Quota {
+    makes: 1 << 40,
+    adds: 1 << 40,
+};
+
+/// A domain with nothing in it, its one seat, and words that protect nothing. `BadShape` names the first size that is
+/// out of its range. It takes all the memory that the domain ever needs.
+pub fn begin<K: PayloadKind>(
+    alloc: Global,
+    slots: u32,
+    cells: u32,
+    weak_cells: u32,
+) -> Result<(Domain<NoLaw<K>>, Seat<NoLaw<K>>, Words), OpenError>
+    ensures empty { IfOk result (λ r. known_plain r.0 r.1 ≡ empty 1 slots cells weak_cells) }
+    ensures noted { IfOk result (λ r. AreNoted r.2 r.1) }
+    ensures ready { IfOk result (λ r. IsReady r.0 r.1) }
+{
+    let shape = Shape {
+        seats: 1,
+        slots,
+        cells,
+        weak_cells,
+        batch: BATCH,
+    };
+    let (domain, mut seats) = open_domain(alloc, shape, &[WIDE], NoLaw::new())?;
+    let seat = seats.remove(0);
+    Ok((domain, seat, Words::new()))
+}
