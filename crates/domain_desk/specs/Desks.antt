@@ -1,6 +1,7 @@
 -- What a script has between two commands on a domain, and the desk that this is.
 use Rattle.std.specs.Prelude.{ℕ, List}
 use Rattle.plain_state.specs.State.{Plain}
+use Rattle.core_events.specs.declared.view.CoreView.{CoreView}
 use Rattle.acquire_retire.specs.Domains.{DomainState}
 use Rattle.acquire_retire.specs.Seats.{SeatState}
 use Rattle.lone_heap.specs.declared.words.Words.{Words}
@@ -28,6 +29,10 @@ plain_of d = known_plain d.domain d.seat
 -- the same with the plain state that the seat knows
 abbrev pub desk_of : {P : Type 0} → DeskState P → Desk
 desk_of d = record { plain = plain_of d; names = d.names; makers = d.makers; makes = d.makes }
+
+-- what its seat has by its own view
+abbrev pub core_of : {P : Type 0} → DeskState P → CoreView
+core_of d = d.seat.view.core
 
 -- how many cells there are
 abbrev pub sizes_of : {P : Type 0} → DeskState P → Sizes

@@ -1,3 +1,4 @@
 pub mod Desks
 pub mod Runs
 pub mod Closing
+pub mod Marks

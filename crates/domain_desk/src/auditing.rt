@@ -8,7 +8,8 @@ ghost use Rattle.script_desk.specs.Audits.{AreRanks};
 ghost use Rattle.script_desk.specs.Desks.{maker_of};
 ghost use Rattle.script_desk.specs.Effects.{Acts};
 ghost use Rattle.script_desk.specs.Kinds.{IsScriptPayload, script_weight};
-ghost use Rattle.domain_desk.specs.Desks.{IsKept, desk_of, plain_of};
+ghost use Rattle.domain_desk.specs.Marks.{ShowsCommand};
+ghost use Rattle.domain_desk.specs.Desks.{core_of, desk_of, IsKept, plain_of};
 
 use crate::desk::DomainDesk;
 use deleter::Deleter;
@@ -28,6 +29,8 @@ impl DomainDesk {
         requires weighs { Weighs IsScriptPayload script_weight F.Fn weigh.now }
         ensures acts { IfOk result (λ answer.
             Acts (desk_of self.old) command.Audit answer (desk_of self.new)) }
+        ensures shows { IfOk result (λ answer.
+            ShowsCommand (command.Audit) answer (core_of self.old) (core_of self.new)) }
         ensures kept { OnOk result (IsKept self.new) }
     {
         let ranks = self.ranks()?;

@@ -1,5 +1,5 @@
 //! Handles are given up, one by its name, and all of them at the end.
-ghost use Rattle.std.specs.Prelude.{◌≡◌};
+ghost use Rattle.std.specs.Prelude.{◌≡◌, []};
 ghost use Rattle.plain_state.specs.State.{seat_at};
 ghost use Rattle.plain_state.specs.Steps.{Does};
 ghost use Rattle.plain_settling.specs.Settling.{TidiesTo};
@@ -14,7 +14,8 @@ ghost use Rattle.script_desk.specs.Holding.{HasHandle, giving};
 ghost use Rattle.script_desk.specs.Kinds.{IsScriptPayload, script_weight};
 ghost use Rattle.script_desk.specs.Places.{IsBoundTo};
 ghost use Rattle.domain_desk.specs.Closing.{HasNoHandles};
-ghost use Rattle.domain_desk.specs.Desks.{IsKept, desk_of, plain_of};
+ghost use Rattle.lone_heap.specs.Trails.{Shows};
+ghost use Rattle.domain_desk.specs.Desks.{core_of, IsKept, desk_of, plain_of};
 ghost use Rattle.domain_desk.specs.Runs.{GivesNamed};
 
 use crate::desk::DomainDesk;
@@ -37,6 +38,7 @@ fn end_snapshot(
     requires ready { IsReady domain.now seat.old }
     requires noted { AreNoted words.old seat.old }
     requires has { HasSnapshot (known_plain domain.now seat.old) hand.0 hand.1 }
+    ensures trail { Shows [] seat.old.view.core seat.new.view.core }
     ensures ends { ThenTidies (Does (known_plain domain.now seat.old) 0 (ending hand.0 hand.1) 0)
         (known_plain domain.now seat.new) }
     ensures noted { AreNoted words.new seat.new }
@@ -59,6 +61,7 @@ fn give_up(
     requires ready { IsReady domain.now seat.old }
     requires noted { AreNoted words.old seat.old }
     requires has { HasHandle (known_plain domain.now seat.old) handle }
+    ensures trail { Shows [] seat.old.view.core seat.new.view.core }
     ensures gives { ThenTidies (Does (known_plain domain.now seat.old) 0 (giving handle) 0)
         (known_plain domain.now seat.new) }
     ensures noted { AreNoted words.new seat.new }
@@ -77,6 +80,7 @@ impl DomainDesk {
         requires kept { IsKept self.old }
         requires bound { IsBoundTo self.old.names name.now is_any }
         ensures gives { GivesNamed (desk_of self.old) name.now (desk_of self.new) }
+        ensures trail { Shows [] (core_of self.old) (core_of self.new) }
         ensures kept { IsKept self.new }
     {
         match self.names.unbind(name) {
@@ -97,6 +101,7 @@ impl DomainDesk {
         ensures tidies { TidiesTo (without_handles (plain_of self)) (known_plain result.0 result.1) }
         ensures settled { IsSettled (known_plain result.0 result.1) }
         ensures none { HasNoHandles (seat_at (known_plain result.0 result.1) 0) }
+        ensures trail { Shows [] (core_of self) result.1.view.core }
         ensures ready { IsReady result.0 result.1 }
     {
         let DomainDesk {

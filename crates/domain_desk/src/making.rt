@@ -2,7 +2,8 @@
 ghost use Rattle.std.specs.Prelude.{◌≡◌, ◌≤◌, ◌^◌, IfOk, OnOk, None};
 ghost use Rattle.script_desk.specs.Desks.{bound};
 ghost use Rattle.script_desk.specs.Effects.{MakesOne};
-ghost use Rattle.domain_desk.specs.Desks.{IsKept, desk_of};
+ghost use Rattle.domain_desk.specs.Marks.{ShowsCommand};
+ghost use Rattle.domain_desk.specs.Desks.{core_of, desk_of, IsKept};
 
 use crate::desk::DomainDesk;
 use lone_heap::{MakeError, make};
@@ -19,6 +20,8 @@ impl DomainDesk {
         requires unbound { bound self.old.names name.now ≡ None }
         ensures makes { IfOk result (λ answer.
             MakesOne (desk_of self.old) name.now weight answer (desk_of self.new)) }
+        ensures shows { IfOk result (λ answer.
+            ShowsCommand (command.Make name.now weight) answer (core_of self.old) (core_of self.new)) }
         ensures kept { OnOk result (IsKept self.new) }
     {
         let number = self.makes;

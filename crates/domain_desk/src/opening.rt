@@ -1,38 +1,39 @@
 //! A desk is opened.
-ghost use Rattle.std.specs.Prelude.{◌≡◌, [], IfOk};
+ghost use Rattle.std.specs.Prelude.{◌≡◌, ◌≤◌, [], IfOk};
 ghost use Rattle.plain_state.specs.declared.slot.SlotId.{SlotId};
 ghost use Rattle.plain_state.specs.State.{empty};
 ghost use Rattle.plain_store.specs.Settling.{IsSettled};
 ghost use Rattle.script_desk.specs.Desks.{maker_of, nobody};
-ghost use Rattle.domain_desk.specs.Desks.{IsKept, desk_of, plain_of};
+ghost use Rattle.domain_desk.specs.Desks.{IsKept, core_of, desk_of, plain_of};
 
 use crate::desk::DomainDesk;
-use acquire_retire::OpenError;
-use lone_heap::begin;
+use lone_heap::open;
+use out_of_memory::OutOfMemory;
 use script_desk::{NameTable, ScriptKind, no_makers};
 use std::alloc::Global;
 
 impl DomainDesk {
-    /// A desk with an empty heap and no names. `BadShape` names the first size that is out of its range: 1 to 4,194,304
-    /// slots, at most 65,536 strong cells and 4,194,304 weak ones. Linear in them.
+    /// A desk with an empty heap and no names: 1 to 4,194,304 slots, at most 65,536 strong cells and 4,194,304 weak
+    /// ones. Linear in them.
     pub fn open(
         alloc: Global,
         slots: u32,
         cells: u32,
         weak_cells: u32,
-    ) -> Result<DomainDesk, OpenError>
+    ) -> Result<DomainDesk, OutOfMemory>
+        requires slots { (1 ≤ slots) × (slots ≤ 4194304) }
+        requires cells { cells ≤ 65536 }
+        requires weak_cells { weak_cells ≤ 4194304 }
         ensures plain { IfOk result (λ desk. plain_of desk ≡ empty 1 slots cells weak_cells) }
         ensures settled { IfOk result (λ desk. IsSettled (plain_of desk)) }
         ensures names { IfOk result (λ desk. desk.names ≡ []) }
         ensures makes { IfOk result (λ desk. desk.makes ≡ 0) }
         ensures makers { IfOk result (λ desk. (s : SlotId) → maker_of (desk_of desk) s ≡ nobody) }
+        ensures trail { IfOk result (λ desk. (core_of desk).trail ≡ []) }
         ensures kept { IfOk result (λ desk. IsKept desk) }
     {
-        let (domain, seat, words) = begin::<ScriptKind>(alloc, slots, cells, weak_cells)?;
-        let makers = match no_makers(alloc, slots) {
-            Ok(makers) => makers,
-            Err(_none) => return Err(OpenError::OutOfMemory),
-        };
+        let (domain, seat, words) = open::<ScriptKind>(alloc, slots, cells, weak_cells)?;
+        let makers = no_makers(alloc, slots)?;
         Ok(DomainDesk {
             alloc,
             domain,

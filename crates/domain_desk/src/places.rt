@@ -1,5 +1,5 @@
 //! Places: put, cleared, loaded, replaced.
-ghost use Rattle.std.specs.Prelude.{◌≡◌, false, IfOk, OnOk, None};
+ghost use Rattle.std.specs.Prelude.{◌≡◌, false, IfOk, OnOk, None, []};
 ghost use Rattle.plain_state.specs.declared.slot.Kind.TheVariants as kind;
 ghost use Rattle.plain_state.specs.Places.{IsOpen, place_kind};
 ghost use Rattle.script_lines.specs.declared.command.Command.TheVariants as command;
@@ -9,7 +9,9 @@ ghost use Rattle.script_desk.specs.Effects.{Acts, LoadsStrong, LoadsWeak};
 ghost use Rattle.script_desk.specs.Faults.{IsPlaceInRange, is_weak_place, need_of, place_needs, taken_by};
 ghost use Rattle.script_desk.specs.Handles.{is_firm, is_strong};
 ghost use Rattle.script_desk.specs.Places.{AreMet, IsBoundTo};
-ghost use Rattle.domain_desk.specs.Desks.{IsKept, desk_of, plain_of, sizes_of};
+ghost use Rattle.lone_heap.specs.Trails.{Shows};
+ghost use Rattle.domain_desk.specs.Marks.{ShowsCommand};
+ghost use Rattle.domain_desk.specs.Desks.{core_of, desk_of, IsKept, plain_of, sizes_of};
 ghost use Rattle.domain_desk.specs.Runs.{Begins};
 
 use crate::desk::DomainDesk;
@@ -29,6 +31,7 @@ impl DomainDesk {
         requires bound { IsBoundTo self.old.names name.now (taken_by place.now) }
         ensures begins { Begins (desk_of self.old) (command.Put place.now name.now) said.Nothing
             (desk_of self.new) }
+        ensures shows { ShowsCommand (command.Put place.now name.now) said.Nothing (core_of self.old) (core_of self.new) }
         ensures kept { IsKept self.new }
     {
         let at = place_of(&self.names, self.sizes(), place);
@@ -44,6 +47,7 @@ impl DomainDesk {
         requires needs { AreMet self.old.names (place_needs place.now) }
         ensures begins { Begins (desk_of self.old) (command.Clear place.now) said.Nothing
             (desk_of self.new) }
+        ensures shows { ShowsCommand (command.Clear place.now) said.Nothing (core_of self.old) (core_of self.new) }
         ensures kept { IsKept self.new }
     {
         let at = place_of(&self.names, self.sizes(), place);
@@ -58,6 +62,8 @@ impl DomainDesk {
         requires unbound { bound self.old.names new.now ≡ None }
         ensures acts { IfOk result (λ answer. Acts (desk_of self.old)
             (command.Load place.now new.now) answer (desk_of self.new)) }
+        ensures shows { IfOk result (λ answer.
+            ShowsCommand (command.Load place.now new.now) answer (core_of self.old) (core_of self.new)) }
         ensures kept { OnOk result (IsKept self.new) }
     {
         let at = place_of(&self.names, self.sizes(), place);
@@ -74,6 +80,7 @@ impl DomainDesk {
         requires unbound { bound self.old.names new.now ≡ None }
         ensures loads { IfOk result (λ answer.
             LoadsStrong (desk_of self.old) at new.now answer (desk_of self.new)) }
+        ensures trail { OnOk result (Shows [] (core_of self.old) (core_of self.new)) }
         ensures kept { OnOk result (IsKept self.new) }
     {
         let Ok(found) = load(&self.domain, &mut self.seat, at) else {
@@ -96,6 +103,7 @@ impl DomainDesk {
         requires unbound { bound self.old.names new.now ≡ None }
         ensures loads { IfOk result (λ answer.
             LoadsWeak (desk_of self.old) at new.now answer (desk_of self.new)) }
+        ensures trail { OnOk result (Shows [] (core_of self.old) (core_of self.new)) }
         ensures kept { OnOk result (IsKept self.new) }
     {
         let Ok(found) = load(&self.domain, &mut self.seat, at) else {
@@ -126,6 +134,7 @@ impl DomainDesk {
         requires given { AreMet self.old.names (need_of new.now is_strong) }
         ensures begins { Begins (desk_of self.old) (command.Replace place.now old.now new.now)
             result (desk_of self.new) }
+        ensures shows { ShowsCommand (command.Replace place.now old.now new.now) result (core_of self.old) (core_of self.new) }
         ensures kept { IsKept self.new }
     {
         let at = place_of(&self.names, self.sizes(), place);

@@ -5,7 +5,8 @@ ghost use Rattle.script_desk.specs.Desks.{bound};
 ghost use Rattle.script_desk.specs.Effects.{Acts};
 ghost use Rattle.script_desk.specs.Handles.{is_strong, is_weak};
 ghost use Rattle.script_desk.specs.Places.{IsBoundTo};
-ghost use Rattle.domain_desk.specs.Desks.{IsKept, desk_of};
+ghost use Rattle.domain_desk.specs.Marks.{ShowsCommand};
+ghost use Rattle.domain_desk.specs.Desks.{core_of, desk_of, IsKept};
 
 use crate::desk::DomainDesk;
 use control_word::UpgradeError;
@@ -24,6 +25,8 @@ impl DomainDesk {
         requires unbound { bound self.old.names new.now ≡ None }
         ensures acts { IfOk result (λ answer. Acts (desk_of self.old)
             (command.Copy name.now new.now) answer (desk_of self.new)) }
+        ensures shows { IfOk result (λ answer.
+            ShowsCommand (command.Copy name.now new.now) answer (core_of self.old) (core_of self.new)) }
         ensures kept { OnOk result (IsKept self.new) }
     {
         let slot = self.names.strong_slot(name);
@@ -44,6 +47,8 @@ impl DomainDesk {
         requires unbound { bound self.old.names new.now ≡ None }
         ensures acts { IfOk result (λ answer. Acts (desk_of self.old)
             (command.Weaken name.now new.now) answer (desk_of self.new)) }
+        ensures shows { IfOk result (λ answer.
+            ShowsCommand (command.Weaken name.now new.now) answer (core_of self.old) (core_of self.new)) }
         ensures kept { OnOk result (IsKept self.new) }
     {
         let slot = self.names.strong_slot(name);
@@ -64,6 +69,8 @@ impl DomainDesk {
         requires unbound { bound self.old.names new.now ≡ None }
         ensures acts { IfOk result (λ answer. Acts (desk_of self.old)
             (command.CopyWeak name.now new.now) answer (desk_of self.new)) }
+        ensures shows { IfOk result (λ answer.
+            ShowsCommand (command.CopyWeak name.now new.now) answer (core_of self.old) (core_of self.new)) }
         ensures kept { OnOk result (IsKept self.new) }
     {
         let slot = self.names.weak_slot(name);
@@ -84,6 +91,8 @@ impl DomainDesk {
         requires unbound { bound self.old.names new.now ≡ None }
         ensures acts { IfOk result (λ answer. Acts (desk_of self.old)
             (command.Upgrade name.now new.now) answer (desk_of self.new)) }
+        ensures shows { IfOk result (λ answer.
+            ShowsCommand (command.Upgrade name.now new.now) answer (core_of self.old) (core_of self.new)) }
         ensures kept { OnOk result (IsKept self.new) }
     {
         let slot = self.names.weak_slot(name);

@@ -1,12 +1,14 @@
 //! A command is run.
-ghost use Rattle.std.specs.Prelude.{IfOk, OnOk};
+ghost use Rattle.std.specs.Prelude.{IfOk, OnOk, []};
 ghost use Rattle.deleter.specs.Weighing.{Weighs};
 ghost use Rattle.plain_store.specs.Settling.{IsSettled};
 ghost use Rattle.script_desk.specs.Desks.{Tidied, scope_of};
 ghost use Rattle.script_desk.specs.Effects.{Runs};
 ghost use Rattle.script_desk.specs.Faults.{IsFaultless};
 ghost use Rattle.script_desk.specs.Kinds.{IsScriptPayload, script_weight};
-ghost use Rattle.domain_desk.specs.Desks.{IsKept, desk_of, plain_of};
+ghost use Rattle.lone_heap.specs.Trails.{Shows};
+ghost use Rattle.domain_desk.specs.Marks.{ShowsCommand};
+ghost use Rattle.domain_desk.specs.Desks.{core_of, desk_of, IsKept, plain_of};
 ghost use Rattle.domain_desk.specs.Runs.{Begins};
 
 use crate::desk::DomainDesk;
@@ -30,6 +32,8 @@ impl DomainDesk {
         requires weighs { Weighs IsScriptPayload script_weight F.Fn weigh.now }
         ensures runs { IfOk result (λ answer.
             Runs (desk_of self.old) command.now answer (desk_of self.new)) }
+        ensures shows { IfOk result (λ answer.
+            ShowsCommand (command.now) answer (core_of self.old) (core_of self.new)) }
         ensures kept { OnOk result (IsKept self.new) }
     {
         let said = self.act(command, weigh)?;
@@ -48,6 +52,8 @@ impl DomainDesk {
         requires weighs { Weighs IsScriptPayload script_weight F.Fn weigh.now }
         ensures begins { IfOk result (λ answer.
             Begins (desk_of self.old) command.now answer (desk_of self.new)) }
+        ensures shows { IfOk result (λ answer.
+            ShowsCommand (command.now) answer (core_of self.old) (core_of self.new)) }
         ensures kept { OnOk result (IsKept self.new) }
     {
         match command {
@@ -83,6 +89,7 @@ impl DomainDesk {
         requires weighs { Weighs IsScriptPayload script_weight F.Fn weigh.now }
         ensures tidied { Tidied (desk_of self.old) (desk_of self.new) }
         ensures settled { IsSettled (plain_of self.new) }
+        ensures trail { Shows [] (core_of self.old) (core_of self.new) }
         ensures kept { IsKept self.new }
     {
         settle_all(&self.domain, &mut self.seat, weigh);

@@ -6,7 +6,8 @@ ghost use Rattle.script_desk.specs.Effects.{Acts, snapped};
 ghost use Rattle.script_desk.specs.Faults.{IsPlaceInRange, is_weak_place, place_needs};
 ghost use Rattle.script_desk.specs.Handles.{is_snapshot};
 ghost use Rattle.script_desk.specs.Places.{AreMet, IsBoundTo};
-ghost use Rattle.domain_desk.specs.Desks.{IsKept, desk_of, sizes_of};
+ghost use Rattle.domain_desk.specs.Marks.{ShowsCommand};
+ghost use Rattle.domain_desk.specs.Desks.{core_of, desk_of, IsKept, sizes_of};
 
 use crate::desk::DomainDesk;
 use lone_heap::{keep, snap};
@@ -36,6 +37,8 @@ impl DomainDesk {
         requires unbound { bound self.old.names new.now ≡ None }
         ensures acts { IfOk result (λ answer. Acts (desk_of self.old)
             (command.Snap place.now new.now) answer (desk_of self.new)) }
+        ensures shows { IfOk result (λ answer.
+            ShowsCommand (command.Snap place.now new.now) answer (core_of self.old) (core_of self.new)) }
         ensures kept { OnOk result (IsKept self.new) }
     {
         let at = place_of(&self.names, self.sizes(), place);
@@ -59,6 +62,8 @@ impl DomainDesk {
         requires unbound { bound self.old.names new.now ≡ None }
         ensures acts { IfOk result (λ answer. Acts (desk_of self.old)
             (command.Keep name.now new.now) answer (desk_of self.new)) }
+        ensures shows { IfOk result (λ answer.
+            ShowsCommand (command.Keep name.now new.now) answer (core_of self.old) (core_of self.new)) }
         ensures kept { OnOk result (IsKept self.new) }
     {
         let slot = self.names.slot(name);

@@ -6,7 +6,8 @@ ghost use Rattle.script_lines.specs.declared.command.Command.TheVariants as comm
 ghost use Rattle.script_desk.specs.Effects.{Acts};
 ghost use Rattle.script_desk.specs.Handles.{is_any};
 ghost use Rattle.script_desk.specs.Places.{IsBoundTo};
-ghost use Rattle.domain_desk.specs.Desks.{IsKept, desk_of, plain_of};
+ghost use Rattle.domain_desk.specs.Marks.{ShowsCommand};
+ghost use Rattle.domain_desk.specs.Desks.{core_of, desk_of, IsKept, plain_of};
 
 use crate::desk::DomainDesk;
 use lone_heap::{counts, read};
@@ -21,6 +22,7 @@ impl DomainDesk {
         requires word { word < 16 }
         ensures acts { Acts (desk_of self.old) (command.Read name.now word) result
             (desk_of self.new) }
+        ensures shows { ShowsCommand (command.Read name.now word) result (core_of self.old) (core_of self.new) }
         ensures kept { IsKept self.new }
     {
         let slot = self.names.slot(name);
@@ -34,6 +36,7 @@ impl DomainDesk {
         requires bound { IsBoundTo self.old.names name.now is_any }
         ensures acts { Acts (desk_of self.old) (command.Counts name.now) result
             (desk_of self.new) }
+        ensures shows { ShowsCommand (command.Counts name.now) result (core_of self.old) (core_of self.new) }
         ensures kept { IsKept self.new }
     {
         let slot = self.names.slot(name);

@@ -1,12 +1,17 @@
 -- A domain of one seat, as it is opened.
-use Rattle.std.proofs.Common.{◌≡◌, ℕ, refl, ap, sym, ◌∙◌, subst, arith}
-use Rattle.std.proofs.lemmas.List.Elements.{All-get_or}
+use Rattle.std.proofs.Common.{◌≡◌, ◌≤◌, ℕ, [], ◌∷◌, refl, ap, sym, ◌∙◌, subst, arith}
+use Rattle.std.proofs.lemmas.List.Elements.{All-cons, All-get_or, All-nil}
 use Rattle.std.specs.Prelude.{slice_index_or}
 use Rattle.plain_state.specs.declared.slot.Kind.TheVariants.{Disposal}
 use Rattle.plain_state.specs.State.{Plain, empty, seat_at}
 use Rattle.plain_state.proofs.Kit.{entry_none}
 use Rattle.atomic_table.specs.Seated.{TableId}
-use Rattle.core_events.specs.Runs.{AreTerms, IsShape}
+use Rattle.core_events.specs.declared.shape.Quota.{Quota}
+use Rattle.core_events.specs.declared.shape.Shape.{Shape}
+use Rattle.core_events.specs.declared.shape.ShapeField.{ShapeField}
+use Rattle.core_events.specs.declared.shape.ShapeField.TheVariants.{Seats, Slots, Cells, WeakCells, Batch, Quotas}
+use Rattle.core_events.specs.Runs.{AreTerms, IsQuota, IsShape}
+use Rattle.core_functions.specs.Fields.{IsFirstBad, IsInRange}
 use Rattle.core_events.specs.Steps.{HasRoom}
 use Rattle.core_events.specs.Views.{Terms}
 use Rattle.domain_rule.proofs.StartShown.{start_shown}
@@ -80,3 +85,24 @@ module _ {P V : Type 0} (first : ℕ → V) (d : DomainState P) (protocol : P)
 
   pub seat_ready : (s : SeatState V) → s ≡ slice_index_or (opened_seats first d) 0 s → IsReady d s
   seat_ready s got = subst (IsReady d) (sym (opened_first s got)) opened_ready
+
+-- with sizes in their ranges no field of the shape is bad
+module _ (slots cells weak_cells : ℕ) (some : (1 ≤ slots) × (slots ≤ 4194304)) (few : cells ≤ 65536)
+    (few_weak : weak_cells ≤ 4194304) (q : Quota) (quota : IsQuota q) where
+  abbrev lone_shape : Shape
+  lone_shape =
+      record { seats = 1; slots = slots; cells = cells; weak_cells = weak_cells; batch = 4 }
+
+  abbrev lone_terms : Terms
+  lone_terms = record { quotas = q ∷ []; grants = [] }
+
+  in_range : (f : ShapeField) → IsInRange lone_shape lone_terms f
+  in_range Seats = (omega arith, omega arith)
+  in_range Slots = some
+  in_range Cells = few
+  in_range WeakCells = few_weak
+  in_range Batch = (omega arith, omega arith)
+  in_range Quotas = (refl, All-cons IsQuota q [] quota (All-nil IsQuota), omega arith)
+
+  pub never_bad : (f : ShapeField) → IsFirstBad lone_shape lone_terms f → ⊥
+  never_bad f bad = bad.1 (in_range f)

@@ -36,16 +36,23 @@ abbrev pub counted : SlotId → ℕ × ℕ → List Move
 counted s n =
     move (act.Count s) (outcome.Number n.0) ∷ move (act.Wcount s) (outcome.Word n.1) ∷ []
 
+-- an exchange of the place, which held `held`
+abbrev pub exchanged : EventPlace → Option SlotId → Option SlotId → List Move
+exchanged place new held = move (act.Swap place new) (outcome.Found held) ∷ []
+
+-- a compare and exchange that was done, and one that found something else
+abbrev pub replaced : EventPlace → Option SlotId → Option SlotId → List Move
+replaced place old new = move (act.Cas place old new) outcome.Done ∷ []
+
+abbrev pub lost : EventPlace → Option SlotId → Option SlotId → Option SlotId → List Move
+lost place old new found = move (act.Cas place old new) (outcome.LostTo found) ∷ []
+
 -- the trail shows an exchange of the place, whatever it held
 abbrev pub ShowsPut : EventPlace → Option SlotId → CoreView → CoreView → Type 0
-ShowsPut place new v w =
-    (held : Option SlotId)
-    × Shows (move (act.Swap place new) (outcome.Found held) ∷ []) v w
+ShowsPut place new v w = (held : Option SlotId) × Shows (exchanged place new held) v w
 
 -- it shows a compare and exchange that was done, or one that found something else
 abbrev pub ShowsTry : EventPlace → Option SlotId → Option SlotId → Bool → CoreView → CoreView
     → Type 0
-ShowsTry place old new true v w = Shows (move (act.Cas place old new) outcome.Done ∷ []) v w
-ShowsTry place old new false v w =
-    (found : Option SlotId)
-    × Shows (move (act.Cas place old new) (outcome.LostTo found) ∷ []) v w
+ShowsTry place old new true v w = Shows (replaced place old new) v w
+ShowsTry place old new false v w = (found : Option SlotId) × Shows (lost place old new found) v w

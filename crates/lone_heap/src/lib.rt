@@ -8,7 +8,7 @@
 //! promised at all.
 //!
 //! ```text
-//! let (domain, mut seat) = open::<FirstWord>(alloc, 4, 1, 0)?;
+//! let (domain, mut seat, words) = open::<FirstWord>(alloc, 4, 1, 0)?;
 //! let one = make(&domain, &mut seat, &payload)?;
 //! let two = copy(&domain, &mut seat, &one)?;        // one owned reference more
 //! counts(&domain, &mut seat, one.slot());           // (2, 1)
@@ -20,7 +20,6 @@
 #![tactic(auto)]
 
 mod auditing;
-mod beginning;
 mod loading;
 mod making;
 mod opening;
@@ -32,7 +31,6 @@ mod telling;
 mod words;
 
 pub use auditing::audit_lone;
-pub use beginning::begin;
 pub use loading::load;
 pub use making::make;
 pub use opening::open;
