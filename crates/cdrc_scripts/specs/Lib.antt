@@ -1,3 +1,3 @@
 pub mod SaidLines
 pub mod Meaning
-pub mod Settled
+pub mod Domains

@@ -66,4 +66,5 @@ Ends (Some d) out refused = (out ≡ []) × (refused ≡ false)
 
 -- the text writes these bytes; `refused` tells whether a line of it is refused
 abbrev pub IsScript : List ℕ → List ℕ → Bool → Type 0
-IsScript text bytes refused = IsRun Takes Refuses Ends None text bytes refused
+IsScript text bytes refused =
+    (last : Option Desk) × IsRun Takes Refuses Ends None text bytes refused last

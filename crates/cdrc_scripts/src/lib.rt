@@ -1,4 +1,4 @@
-//! Scripts of pointer commands: what the command `script` writes of a text.
+//! Scripts of pointer commands: what the command `script` writes of a text, on a running domain of one seat.
 //!
 //! The rule: the first line opens a heap, and each later line is a command of one seat on names. A command makes its
 //! plain steps, the heap settles, and the command's line is written; the first line that isn't spelled so, leaves a
@@ -8,7 +8,7 @@
 //! Nothing is promised of which slot a make takes. Handles that are left at the end are dropped.
 //!
 //! ```text
-//! let written = script(alloc, b"heap 1 0 0\nmake a 7\nread a 0\n")?;
+//! let done = script(alloc, b"heap 1 0 0\nmake a 7\nread a 0\n")?;  // done.written, done.seat
 //! // make a ok
 //! // read a 0 7
 //! ```
@@ -24,4 +24,4 @@ mod shown;
 mod tests;
 
 pub use line_machine::Written;
-pub use run::script;
+pub use run::{Scripted, script};

@@ -1,15 +1,16 @@
 //! The lines of a script: the numbers of its heap, and its commands.
-ghost use Rattle.std.specs.Prelude.{◌≡◌, ◌≢◌, ℕ, IfOk, IfSome, Ok, Err, None};
+ghost use Rattle.std.specs.Prelude.{◌≡◌, ◌≢◌, ℕ, [], IfOk, IfSome, Ok, Err, None};
 ghost use Rattle.line_words.specs.Words.{texts_of};
-ghost use Rattle.plain_store.specs.Settling.{IsSettled};
 ghost use Rattle.script_lines.specs.Spelling.{Spells, SpellsCommand};
 ghost use Rattle.script_lines.specs.declared.command.ScriptLine.TheVariants.{Heap, Command as OnHeap};
 ghost use Rattle.script_lines.specs.declared.command.Command.{Command as OneCommand};
 ghost use Rattle.script_lines.specs.declared.refused.CommandRefused.TheVariants.{Syntax};
+ghost use Rattle.domain_desk.specs.Desks.{core_of, desk_of};
+ghost use Rattle.cdrc_scripts.specs.Domains.{IsSettledDesk};
 ghost use Rattle.cdrc_scripts.specs.Meaning.{IsHeapInRange, IsOpened};
 
+use domain_desk::DomainDesk;
 use out_of_memory::OutOfMemory;
-use script_desk::Desk;
 use script_lines::{Command, CommandRefused, ScriptLine, script_line};
 use std::alloc::Global;
 
@@ -78,11 +79,12 @@ pub(crate) fn command_of(alloc: Global, words: &[&[u8]]) -> Result<Command, Comm
 }
 
 /// The desk of a heap with these numbers and nothing in it. None exactly where a number leaves its range.
-pub(crate) fn open(alloc: Global, numbers: HeapNumbers) -> Result<Option<Desk>, OutOfMemory>
+pub(crate) fn open(alloc: Global, numbers: HeapNumbers) -> Result<Option<DomainDesk>, OutOfMemory>
     ensures opened { IfOk result (λ found. IfSome found (λ desk.
         IsHeapInRange numbers.slots numbers.cells numbers.weak_cells
-        × IsOpened numbers.slots numbers.cells numbers.weak_cells desk)) }
-    ensures settled { IfOk result (λ found. IfSome found (λ desk. IsSettled desk.plain)) }
+        × IsOpened numbers.slots numbers.cells numbers.weak_cells (desk_of desk))) }
+    ensures trail { IfOk result (λ found. IfSome found (λ desk. (core_of desk).trail ≡ [])) }
+    ensures settled { IfOk result (λ found. IsSettledDesk found) }
     ensures refused { result ≡ Ok None
         → IsHeapInRange numbers.slots numbers.cells numbers.weak_cells → ⊥ }
 {
@@ -93,7 +95,7 @@ pub(crate) fn open(alloc: Global, numbers: HeapNumbers) -> Result<Option<Desk>, 
     {
         return Ok(None);
     }
-    let desk = Desk::open(
+    let desk = DomainDesk::open(
         alloc,
         numbers.slots as u32,
         numbers.cells as u32,

@@ -2,55 +2,61 @@
 ghost use Rattle.std.specs.Prelude.{◌≡◌, ◌++◌, ℕ, Bool, List, [], Ok, None, Some, IfOk, IfErr};
 ghost use Rattle.line_words.specs.declared.reason.Reason.{Reason};
 ghost use Rattle.line_words.specs.Words.{texts_of};
-ghost use Rattle.plain_store.specs.Settling.{IsSettled};
 ghost use Rattle.script_desk.specs.Desks.{scope_of};
 ghost use Rattle.script_desk.specs.Faults.{IsFault};
-ghost use Rattle.cdrc_scripts.specs.Meaning.{Ends, Refuses, RunsTo, Takes};
+ghost use Rattle.domain_desk.specs.Desks.{desk_of};
+ghost use Rattle.cdrc_scripts.specs.Domains.{EndsOn, IsSettledDesk, RefusesOn, RunsOn, TakesOn};
 
 use crate::lines::{command_of, heap_numbers, open};
 use crate::said::push_said;
 use crate::scripting::ScriptMachine;
+use deleter::Deleter;
+use domain_desk::DomainDesk;
 use line_machine::LineMachine;
 use line_words::{Reason, push_refused};
 use out_of_memory::OutOfMemory;
-use script_desk::Desk;
+use script_desk::ScriptKind;
 use script_lines::{Command, CommandRefused};
 use std::alloc::Global;
 
 /// Runs the command, where it has no fault, and appends its line.
 fn run_command(
-    desk: &mut Desk,
+    desk: &mut DomainDesk,
     command: &Command,
     text: &mut Vec<u8>,
 ) -> Result<Option<Reason>, OutOfMemory>
-    requires { IsSettled desk.old.plain }
+    requires { IsSettledDesk (Some desk.old) }
     ensures taken { result ≡ Ok None → (out : List ℕ) × (text.new.items ≡ text.old.items ++ out)
-        × RunsTo desk.old command.now out desk.new }
-    ensures settled { result ≡ Ok None → IsSettled desk.new.plain }
-    ensures refused { (reason : Reason) → result ≡ Ok (Some reason) →
-        (text.new.items ≡ text.old.items) × IsFault (scope_of desk.old) command.now (Some reason) }
+        × RunsOn desk.old command.now out desk.new }
+    ensures settled { result ≡ Ok None → IsSettledDesk (Some desk.new) }
+    ensures refused { (reason : Reason) → result ≡ Ok (Some reason) → (text.new.items ≡ text.old.items)
+        × IsFault (scope_of (desk_of desk.old)) command.now (Some reason) }
+    ensures stays { (reason : Reason) → result ≡ Ok (Some reason) → desk.new ≡ desk.old }
 {
     if let Some(reason) = desk.fault(command) {
         return Ok(Some(reason));
     }
-    let said = desk.run(command)?;
+    // It captures nothing, so one that is made for each line is as good as one for all.
+    let weigh: Deleter<ScriptKind, _> = Deleter::keep(|payload: &[u64; 16]| payload[0]);
+    let said = desk.run(command, &weigh)?;
     push_said(text, command, &said)?;
     Ok(None)
 }
 
 /// Runs the command that the words spell.
 fn take_command(
-    desk: &mut Desk,
+    desk: &mut DomainDesk,
     alloc: Global,
     words: &[&[u8]],
     text: &mut Vec<u8>,
 ) -> Result<Option<Reason>, OutOfMemory>
-    requires { IsSettled desk.old.plain }
+    requires { IsSettledDesk (Some desk.old) }
     ensures taken { result ≡ Ok None → (out : List ℕ) × (text.new.items ≡ text.old.items ++ out)
-        × Takes (Some desk.old) (texts_of words.now) out (Some desk.new) }
-    ensures settled { result ≡ Ok None → IsSettled desk.new.plain }
+        × TakesOn (Some desk.old) (texts_of words.now) out (Some desk.new) }
+    ensures settled { result ≡ Ok None → IsSettledDesk (Some desk.new) }
     ensures refused { (reason : Reason) → result ≡ Ok (Some reason) →
-        (text.new.items ≡ text.old.items) × Refuses (Some desk.old) (texts_of words.now) reason }
+        (text.new.items ≡ text.old.items) × RefusesOn (Some desk.old) (texts_of words.now) reason }
+    ensures stays { (reason : Reason) → result ≡ Ok (Some reason) → desk.new ≡ desk.old }
 {
     let command = match command_of(alloc, words) {
         Ok(command) => command,
@@ -61,11 +67,11 @@ fn take_command(
 }
 
 /// The desk of the heap that the words give its numbers, or why they are refused.
-fn begin(alloc: Global, words: &[&[u8]]) -> Result<Result<Desk, Reason>, OutOfMemory>
+fn begin(alloc: Global, words: &[&[u8]]) -> Result<Result<DomainDesk, Reason>, OutOfMemory>
     ensures taken { IfOk result (λ found. IfOk found (λ desk.
-        Takes None (texts_of words.now) [] (Some desk) × IsSettled desk.plain)) }
+        TakesOn None (texts_of words.now) [] (Some desk) × IsSettledDesk (Some desk))) }
     ensures refused { IfOk result (λ found.
-        IfErr found (λ reason. Refuses None (texts_of words.now) reason)) }
+        IfErr found (λ reason. RefusesOn None (texts_of words.now) reason)) }
 {
     let numbers = match heap_numbers(alloc, words) {
         Ok(numbers) => numbers,
@@ -79,11 +85,11 @@ fn begin(alloc: Global, words: &[&[u8]]) -> Result<Result<Desk, Reason>, OutOfMe
 }
 
 impl LineMachine for ScriptMachine {
-    ghost takes = { Takes };
+    ghost takes = { TakesOn };
 
-    ghost refuses = { Refuses };
+    ghost refuses = { RefusesOn };
 
-    ghost ends = { Ends };
+    ghost ends = { EndsOn };
 
     fn take(
         &mut self,
@@ -91,12 +97,8 @@ impl LineMachine for ScriptMachine {
         words: &[&[u8]],
         text: &mut Vec<u8>,
     ) -> Result<Option<Reason>, OutOfMemory> {
-        if let Some(mut desk) = self.desk.take() {
-            if let Some(reason) = take_command(&mut desk, alloc, words, text)? {
-                return Ok(Some(reason));
-            }
-            self.desk = Some(desk);
-            return Ok(None);
+        if let Some(desk) = &mut self.desk {
+            return take_command(desk, alloc, words, text);
         }
         match begin(alloc, words)? {
             Ok(desk) => {
@@ -107,12 +109,11 @@ impl LineMachine for ScriptMachine {
         }
     }
 
-    fn end(&mut self, _alloc: Global, text: &mut Vec<u8>) -> Result<bool, OutOfMemory> {
-        let Some(desk) = self.desk.take() else {
-            push_refused(text, 1, Reason::Syntax)?;
-            return Ok(true);
-        };
-        let _heap = desk.close();
-        Ok(false)
+    fn end(&self, _alloc: Global, text: &mut Vec<u8>) -> Result<bool, OutOfMemory> {
+        if self.desk.is_some() {
+            return Ok(false);
+        }
+        push_refused(text, 1, Reason::Syntax)?;
+        Ok(true)
     }
 }

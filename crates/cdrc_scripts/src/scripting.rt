@@ -1,19 +1,17 @@
 //! What takes the lines of a script.
-use script_desk::Desk;
+use domain_desk::DomainDesk;
 use std::marker::Model;
 
 /// What takes the lines of a script: nothing before the heap, then a desk whose heap is settled.
 #[derive(Drop)]
 pub struct ScriptMachine {
-    pub(crate) desk: Option<Desk>,
+    pub(crate) desk: Option<DomainDesk>,
 }
 
 impl Model for ScriptMachine {
-    ghost use Rattle.std.specs.Prelude.{Option};
-    ghost use Rattle.script_desk.specs.Desks.{Desk as Whole};
-    ghost use Rattle.cdrc_scripts.specs.Settled.{IsSettledDesk};
+    ghost use Rattle.cdrc_scripts.specs.Domains.{IsSettledDesk, Place};
 
-    ghost Value = { Option Whole };
+    ghost Value = { Place };
 
     ghost view = { λ m. m.desk };
 

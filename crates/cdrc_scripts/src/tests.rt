@@ -138,7 +138,7 @@ const REFUSED: [Row; 24] = [
 
 /// Whether the script writes this, and is refused or isn't.
 fn writes(alloc: Global, row: Row, refused: bool) -> Result<bool, Fail> {
-    let written = script(alloc, row.0.as_bytes())?;
+    let written = script(alloc, row.0.as_bytes())?.written;
     Ok(written.text.as_slice() == row.1.as_bytes() && written.refused == refused)
 }
 
@@ -171,7 +171,7 @@ fn refused_lines(rt: HostRuntime) -> Result<(), Fail> {
 
 #[test]
 fn bytes_that_are_no_text(rt: HostRuntime) -> Result<(), Fail> {
-    let written = script(rt.alloc(), b"heap 1 0 0\nmake \xFF 1\n")?;
+    let written = script(rt.alloc(), b"heap 1 0 0\nmake \xFF 1\n")?.written;
     assert!(rt; written.text.as_slice() == b"line 2 refused: syntax\n".as_slice());
     Ok(())
 }
@@ -180,7 +180,7 @@ fn bytes_that_are_no_text(rt: HostRuntime) -> Result<(), Fail> {
 fn a_line_of_a_mebibyte(rt: HostRuntime) -> Result<(), Fail> {
     let mut text = vec![in rt.alloc(); b'x'; 1_048_576]?;
     text.extend_from_slice(b"\n")?;
-    let written = script(rt.alloc(), &text)?;
+    let written = script(rt.alloc(), &text)?.written;
     assert!(rt; written.text.as_slice() == b"line 1 refused: syntax\n".as_slice());
     Ok(())
 }
@@ -191,7 +191,7 @@ fn many_lines_refused_at_the_first(rt: HostRuntime) -> Result<(), Fail> {
     for _ in 0..100_000 {
         text.extend_from_slice(b"drop a\n")?;
     }
-    let written = script(rt.alloc(), &text)?;
+    let written = script(rt.alloc(), &text)?.written;
     assert!(rt; written.text.as_slice() == b"line 1 refused: syntax\n".as_slice());
     Ok(())
 }
@@ -213,7 +213,7 @@ fn chain(alloc: Global, n: u64) -> Result<Vec<u8>, OutOfMemory> {
 #[test]
 fn a_long_chain_goes_at_once(rt: HostRuntime) -> Result<(), Fail> {
     let text = chain(rt.alloc(), 100_000)?;
-    let written = script(rt.alloc(), &text)?;
+    let written = script(rt.alloc(), &text)?.written;
     assert!(rt; !written.refused);
     let end =
         b"audit live 100000 deferred 0 cyclic 0 bytes 100000\naudit live 0 deferred 0 cyclic 0 bytes 0\n";

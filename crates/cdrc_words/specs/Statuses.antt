@@ -1,8 +1,11 @@
 -- The status that the work ends with.
 use Rattle.std.specs.Prelude.{ℕ, ◌≡◌, ◌⊎◌, ◌==◌, if◌then◌else◌, Bool, true, false, Ok, Err, List, [], codes}
 use Rattle.std.specs.declared.result.Result.{Result}
+use Rattle.cdrc_words.specs.declared.outcome.Finished.{Finished}
 use Rattle.cdrc_words.specs.declared.outcome.Refusal.{Refusal}
 use Rattle.cdrc_words.specs.declared.outcome.Refusal.TheVariants.{Usage, Read, Write, TooLarge, OutOfMemory}
+use Rattle.cdrc_words.specs.declared.outcome.Why.{Why}
+use Rattle.cdrc_words.specs.declared.outcome.Why.TheVariants as why
 
 -- the status of each refusal
 abbrev pub status_of : Refusal → ℕ
@@ -17,10 +20,14 @@ abbrev pub done_status : Bool → ℕ
 done_status false = 0
 done_status true = 8
 
--- the status after the work
-abbrev pub status_after : Result Bool Refusal → ℕ
-status_after (Ok refused) = done_status refused
+-- the status after the work, and the evidence for it: only work that was done has some
+abbrev pub status_after : Result Finished Refusal → ℕ
+status_after (Ok done) = done_status done.refused
 status_after (Err refusal) = status_of refusal
+
+abbrev pub why_after : Result Finished Refusal → Why
+why_after (Ok done) = done.why
+why_after (Err refusal) = why.Nothing
 
 -- one of the statuses that a run ends with
 abbrev pub IsStatus : ℕ → Type 0

@@ -6,7 +6,7 @@ ghost use Rattle.cdrc_words.specs.Outcomes.{EndsWith, TookAll, TookPart, text_of
 ghost use Rattle.cdrc_words.specs.declared.drawing.Draws.{Draws as Drawing};
 ghost use Rattle.cdrc_words.specs.declared.outcome.Refusal.TheVariants as refusal;
 
-use crate::outcome::{End, Refusal, Why};
+use crate::outcome::{End, Finished, Refusal, Why};
 use crate::output::write_all;
 use cdrc_text::generate;
 use lane_gate::Sink;
@@ -120,11 +120,15 @@ pub fn draw_words<K: Sink>(alloc: Global, draws: Draws, sink: &mut K) -> End
 }
 
 /// The same, before a status is made of it. No line is refused.
-fn write_words<K: Sink>(alloc: Global, draws: Draws, sink: &mut K) -> Result<bool, Refusal>
+fn write_words<K: Sink>(
+    alloc: Global,
+    draws: Draws,
+    sink: &mut K,
+) -> Result<Finished, Refusal>
     requires many { draws.words ≤ 1000000 }
     requires least { 1 ≤ draws.vocabulary }
     requires most { draws.vocabulary ≤ 1000000 }
-    ensures ok { IfOk result (λ refused. refused ≡ false) }
+    ensures ok { IfOk result (λ done. (done.refused ≡ false) × (done.why ≡ Why.Nothing)) }
     ensures all { OnOk result
         (TookAll (text_of_draws draws) (K.taken sink.old) (K.taken sink.new)) }
     ensures write { result ≡ Err Refusal.Write → Rose (K.faults sink.old) (K.faults sink.new) }
@@ -137,5 +141,8 @@ fn write_words<K: Sink>(alloc: Global, draws: Draws, sink: &mut K) -> Result<boo
 {
     let text = generate(alloc, draws.seed, draws.words, draws.vocabulary)?;
     write_all(sink, &text)?;
-    Ok(false)
+    Ok(Finished {
+        refused: false,
+        why: Why::Nothing,
+    })
 }

@@ -1,9 +1,12 @@
 //! How a run ends.
 ghost use Rattle.std.specs.Prelude.{◌≡◌};
-ghost use Rattle.cdrc_words.specs.Statuses.{status_after, status_of};
+ghost use Rattle.cdrc_words.specs.Statuses.{status_after, status_of, why_after};
 ghost use Rattle.cdrc_words.specs.declared.outcome.Refusal.TheVariants as refusal;
 
+use acquire_retire::Seat;
 use out_of_memory::OutOfMemory;
+use plain_protocol::NoLaw;
+use script_desk::ScriptKind;
 
 /// Why a run wrote no whole report.
 #[derive(Clone, Copy, PartialEq, Eq, Debug, Drop)]
@@ -42,14 +45,25 @@ impl Refusal {
     }
 }
 
-/// The evidence of a run. A run over the plain heap has none.
-#[derive(Clone, Copy, PartialEq, Eq, Debug, Drop)]
+/// The evidence of a run.
+#[derive(Drop)]
 pub enum Why {
+    /// There is none: nothing ran on a domain.
     Nothing,
+    /// The seat of the domain on which a script ran, after all that the script had bound was given up. Its trail shows
+    /// what the script did.
+    Script(Seat<NoLaw<ScriptKind>>),
+}
+
+/// Work that was done: whether a line was refused, and the evidence.
+#[derive(Drop)]
+pub struct Finished {
+    pub refused: bool,
+    pub why: Why,
 }
 
 /// How a run ended: the status, and the evidence for it.
-#[derive(Clone, Copy, PartialEq, Eq, Debug, Drop)]
+#[derive(Drop)]
 pub struct End {
     pub status: u8,
     pub why: Why,
@@ -57,18 +71,19 @@ pub struct End {
 
 impl End {
     /// The end of the work that ended so: with its output taken, in which a line was refused or none was, or refused.
-    pub fn of(work: Result<bool, Refusal>) -> End
+    pub fn of(work: Result<Finished, Refusal>) -> End
         ensures status { result.status ≡ status_after work }
-        ensures why { result.why ≡ Why.Nothing }
+        ensures why { result.why ≡ why_after work }
     {
-        let status = match work {
-            Ok(false) => 0,
-            Ok(true) => 8,
-            Err(refusal) => refusal.status(),
-        };
-        End {
-            status,
-            why: Why::Nothing,
+        match work {
+            Ok(done) => End {
+                status: if done.refused { 8 } else { 0 },
+                why: done.why,
+            },
+            Err(refusal) => End {
+                status: refusal.status(),
+                why: Why::Nothing,
+            },
         }
     }
 }

@@ -11,7 +11,7 @@ ghost use Rattle.cdrc_words.specs.declared.outcome.Refusal.TheVariants as refusa
 use crate::command::{Task, asked};
 use crate::drawing::{asked_draws, draw_words};
 use crate::limits::MOST_BYTES;
-use crate::outcome::{End, Refusal, Why};
+use crate::outcome::{End, Finished, Refusal, Why};
 use crate::output::write_all;
 use crate::work::output_of;
 use lane_gate::{FileFault, Files, Gate, Sink};
@@ -28,7 +28,8 @@ use std::thread::Threads;
 /// output's last line tells; 9 where there was no memory, which may come in place of any but 2. Over a source that
 /// doesn't tell the content, what is said of it is said of some content.
 ///
-/// With 0 and 8 the sink took the whole output, with 4 a prefix of it, with 9 a prefix or nothing, and else nothing.
+/// With 0 and 8 the sink took the whole output, with 4 a prefix of it, with 9 a prefix or nothing, and else nothing. Then
+/// a script whose first line opened a heap hands on the seat of its domain, whose trail shows each command that was run.
 pub fn run<R: Threads + Wait + Sync, F: Files, K: Sink, G: Gate + Sync>(
     rt: &R,
     alloc: Global,
@@ -38,14 +39,16 @@ pub fn run<R: Threads + Wait + Sync, F: Files, K: Sink, G: Gate + Sync>(
     gate: &G,
 ) -> End
     ensures statuses { IsStatus result.status }
-    ensures why { result.why ≡ Why.Nothing }
+    ensures why { result.status ≢ 0 → result.status ≢ 8 → result.why ≡ Why.Nothing }
     ensures usage { (result.status ≡ 2) ↔ ¬ (IsCommand (map string_bytes words.now)) }
     ensures done { result.status ≡ 0 →
         (task : Work) (file : List ℕ) → Asks (map string_bytes words.now) task file →
-        TookOutput task (F.told files.old file) false (K.taken sink.old) (K.taken sink.new) }
+        TookOutput task (F.told files.old file) false result.why
+        (K.taken sink.old) (K.taken sink.new) }
     ensures refused { result.status ≡ 8 →
         (task : Work) (file : List ℕ) → Asks (map string_bytes words.now) task file →
-        TookOutput task (F.told files.old file) true (K.taken sink.old) (K.taken sink.new) }
+        TookOutput task (F.told files.old file) true result.why
+        (K.taken sink.old) (K.taken sink.new) }
     ensures read { result.status ≡ 3 → Rose (F.faults files.old) (F.faults files.new) }
     ensures write { result.status ≡ 4 → Rose (K.faults sink.old) (K.faults sink.new) }
     ensures write_part { result.status ≡ 4 →
@@ -72,6 +75,8 @@ pub fn run<R: Threads + Wait + Sync, F: Files, K: Sink, G: Gate + Sync>(
         K.taken sink.new ≡ K.taken sink.old }
     ensures drawn { (draws : Drawing) → AsksText (map string_bytes words.now) draws →
         EndsWith (text_of_draws draws) result.status (K.taken sink.old) (K.taken sink.new) }
+    ensures unshown { (draws : Drawing) → AsksText (map string_bytes words.now) draws →
+        result.why ≡ Why.Nothing }
     ensures unread { (draws : Drawing) → AsksText (map string_bytes words.now) draws →
         files.new ≡ files.old }
 {
@@ -84,7 +89,7 @@ pub fn run<R: Threads + Wait + Sync, F: Files, K: Sink, G: Gate + Sync>(
     End::of(do_task(rt, alloc, task, name, files, sink, gate))
 }
 
-/// The task on the file of this name. True where a line was refused.
+/// The task on the file of this name.
 fn do_task<R: Wait, F: Files, K: Sink, G: Gate>(
     rt: &R,
     alloc: Global,
@@ -93,10 +98,10 @@ fn do_task<R: Wait, F: Files, K: Sink, G: Gate>(
     files: &mut F,
     sink: &mut K,
     gate: &G,
-) -> Result<bool, Refusal>
+) -> Result<Finished, Refusal>
     ensures only { IfErr result (λ e. e ≢ refusal.Usage) }
-    ensures done { IfOk result (λ refused.
-        TookOutput task (F.told files.old name.now) refused (K.taken sink.old) (K.taken sink.new)) }
+    ensures done { IfOk result (λ done. TookOutput task (F.told files.old name.now) done.refused
+        done.why (K.taken sink.old) (K.taken sink.new)) }
     ensures read { result ≡ Err Refusal.Read → Rose (F.faults files.old) (F.faults files.new) }
     ensures write { result ≡ Err Refusal.Write → Rose (K.faults sink.old) (K.faults sink.new) }
     ensures write_part { result ≡ Err Refusal.Write →
@@ -112,7 +117,10 @@ fn do_task<R: Wait, F: Files, K: Sink, G: Gate>(
     let content = read_file(alloc, files, name)?;
     let output = output_of(rt, alloc, task, &content, gate)?;
     write_all(sink, &output.text)?;
-    Ok(output.refused)
+    Ok(Finished {
+        refused: output.refused,
+        why: output.why,
+    })
 }
 
 /// The content of a file of at most 67,108,864 bytes.

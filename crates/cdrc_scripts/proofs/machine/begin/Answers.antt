@@ -1,10 +1,11 @@
-use Rattle.std.proofs.Common.{◌≡◌, Err, Ok, None, refl, rules}
+use Rattle.std.proofs.Common.{◌≡◌, Err, Ok, None, Some, [], refl, rules}
 use Rattle.line_words.specs.Words.{texts_of}
 use Rattle.script_lines.specs.Spelling.{Spells}
 use Rattle.script_lines.specs.declared.command.ScriptLine.TheVariants.{Heap}
 use Rattle.script_lines.specs.declared.refused.CommandRefused.TheVariants.{Syntax}
+use Rattle.domain_desk.specs.Desks.{core_of, desk_of}
+use Rattle.cdrc_scripts.specs.Domains.{IsSettledDesk}
 use Rattle.cdrc_scripts.specs.Meaning.{IsHeapInRange, IsOpened}
-use Rattle.plain_store.specs.Settling.{IsSettled}
 use Rattle.cdrc_scripts.proofs.machine.begin.Goals as goal
 
 pub returns-in-Err-Syntax-clause-refused : goal.returns-in-Err-Syntax-clause-refused
@@ -16,10 +17,24 @@ pub returns-in-Some-clause-taken : goal.returns-in-Some-clause-taken
 returns-in-Some-clause-taken c =
     let n = c.in-Ok.numbers in
     let spells : Spells (Heap n.slots n.cells n.weak_cells) (texts_of c.args.words.now) = search rules in
-    let opened : IsHeapInRange n.slots n.cells n.weak_cells × IsOpened n.slots n.cells n.weak_cells c.in-Some.desk
-    = search rules in
-    let settled : IsSettled c.in-Some.desk.plain = search rules in
-    ((n.slots, n.cells, n.weak_cells, c.in-Some.desk, spells, opened.0, opened.1, refl, refl), settled)
+    let opened : IsHeapInRange n.slots n.cells n.weak_cells
+    × IsOpened n.slots n.cells n.weak_cells (desk_of c.in-Some.desk) = search rules in
+    let trail : (core_of c.in-Some.desk).trail ≡ [] = search rules in
+    let settled : IsSettledDesk (Some c.in-Some.desk) = search rules in (
+      (
+        n.slots,
+        n.cells,
+        n.weak_cells,
+        c.in-Some.desk,
+        spells,
+        opened.0,
+        opened.1,
+        trail,
+        refl,
+        refl,
+      ),
+      settled,
+    )
 
 pub returns-in-None-clause-refused : goal.returns-in-None-clause-refused
 returns-in-None-clause-refused c =

@@ -1,6 +1,7 @@
 use Rattle.std.proofs.Common.{rules}
 use Rattle.line_words.specs.Words.{texts_of}
 use Rattle.script_lines.specs.Spelling.{SpellsCommand}
+use Rattle.domain_desk.specs.Desks.{desk_of}
 use Rattle.cdrc_scripts.proofs.Taking.{command_taken, command_refused}
 use Rattle.cdrc_scripts.proofs.machine.take_command.Goals as goal
 
@@ -13,5 +14,8 @@ returns-clause-taken c told =
 pub returns-clause-refused : goal.returns-clause-refused
 returns-clause-refused c reason told =
     let spells : SpellsCommand c.in-Ok.command (texts_of c.args.words.now) = search rules in
-    let why = c.run_command.ensures.refused reason told in
-    (why.0, command_refused c.args.desk.now (texts_of c.args.words.now) c.in-Ok.command reason spells why.1)
+    let why = c.run_command.ensures.refused reason told in (
+      why.0,
+      command_refused (desk_of c.args.desk.now) (texts_of c.args.words.now) c.in-Ok.command reason
+          spells why.1,
+    )
