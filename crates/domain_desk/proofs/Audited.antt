@@ -1,5 +1,5 @@
 -- What an audit tells of the desk.
-use Rattle.std.proofs.Common.{◌≡◌, ℕ, ◌<◌, List, length, map, All, refl, ap, sym, ◌∙◌, subst}
+use Rattle.std.proofs.Common.{◌≡◌, ℕ, ◌<◌, List, length, map, All, ap, sym, ◌∙◌, subst}
 use Rattle.std.specs.Prelude.{string_bytes}
 use Rattle.heap_audit.specs.declared.finding.Audit.{Audit}
 use Rattle.plain_audit.specs.Audits.{IsAudit}
@@ -10,20 +10,14 @@ use Rattle.lone_heap.specs.Lone.{known_plain}
 use Rattle.script_lines.specs.declared.command.Command.TheVariants as command
 use Rattle.script_desk.specs.declared.said.Said.TheVariants as said
 use Rattle.script_desk.specs.declared.said.Shown.{Shown}
-use Rattle.script_desk.specs.Audits.{AreRanks, Shows}
-use Rattle.script_desk.specs.Desks.{Desk, maker_of}
+use Rattle.script_desk.specs.Audits.{AreRanks}
+use Rattle.script_desk.specs.Desks.{maker_of}
 use Rattle.script_desk.specs.Effects.{Acts}
 use Rattle.script_desk.specs.Kinds.{script_weight}
 use Rattle.script_desk.proofs.Auditing.{IsThere, audit_told, walk_there}
 use Rattle.domain_desk.specs.Desks.{DeskState, IsKept, desk_of, plain_of}
 use Rattle.domain_desk.proofs.Keeping.{IsStill}
 use Rattle.domain_desk.proofs.Told.{later, same_desk}
-
--- the ranks are as many as the slots
-pub ranked_here : {P : Type 0} (i d : DeskState P) → i ≡ d → (ranks read : List ℕ)
-    → AreRanks (desk_of d) ranks → read ≡ ranks → length read ≡ length (plain_of i).slots
-ranked_here i d is ranks read are same =
-    ap length same ∙ are.0 ∙ ap (λ (x : DeskState _). length (plain_of x).slots) (sym is)
 
 module _ {P : Type 0} (i d : DeskState P) (is : i ≡ d) (kept : IsKept d)
     (seat : SeatState (Unit {0})) (still : IsStill i seat)

@@ -1,7 +1,7 @@
 -- What the desk's seat has after each call, and what was begun.
-use Rattle.std.proofs.Common.{◌≡◌, ℕ, ◌+◌, List, [], ◌∷◌, length, refl, ap, sym, ◌∙◌, subst, Option, Some, None, IfSome}
+use Rattle.std.proofs.Common.{◌≡◌, ℕ, ◌+◌, List, [], ◌∷◌, refl, ap, sym, ◌∙◌, subst, Some}
 use Rattle.std.specs.Map.{values_of}
-use Rattle.std.specs.Prelude.{slice_set}
+use Rattle.std.specs.Prelude.{Result, Ok, Err, IfOk, slice_set}
 use Rattle.plain_state.specs.declared.act.PlainAct.{PlainAct}
 use Rattle.plain_state.specs.declared.act.PlainAct.TheVariants as act
 use Rattle.plain_state.specs.declared.slot.SlotId.{SlotId}
@@ -18,7 +18,6 @@ use Rattle.lone_heap.specs.declared.words.Words.{Words}
 use Rattle.lone_heap.specs.Lone.{IsReady, ThenTidies, known_plain}
 use Rattle.lone_heap.specs.Words.{AreNoted}
 use Rattle.script_lines.specs.declared.command.Command.{Command}
-use Rattle.script_lines.specs.declared.command.Command.TheVariants as command
 use Rattle.script_desk.specs.declared.handle.Handle.{Handle}
 use Rattle.script_desk.specs.declared.handle.Handle.TheVariants.{Strong, Weak}
 use Rattle.script_desk.specs.declared.said.Said.{Said}
@@ -86,9 +85,6 @@ module _ {P : Type 0} (i d : DeskState P) (is : i ≡ d) (kept : IsKept d) where
   pub named_so : (name : List ℕ) (h : Handle) → bound i.names name ≡ Some h
       → bound d.names name ≡ Some h
   named_so name h e = ap (λ (x : DeskState P). bound x.names name) (sym is) ∙ e
-
-  pub ready_here : IsReady i.domain i.seat
-  ready_here = has_kept.ready
 
   module _ (seat : SeatState (Unit {0})) (words : Words) (names : Names)
       (ready : IsReady i.domain seat) (noted : AreNoted words seat) where
@@ -195,11 +191,6 @@ module _ {P : Type 0} (i d : DeskState P) (is : i ≡ d) (kept : IsKept d) where
         (kept_same (plain_of i) i.names i.makers _ _ has_kept.kept (plain_of settled)
         (tidied_same (plain_of i) (plain_of settled) tidies))
 
-    pub settle_tidied : Tidied (desk_of d) (desk_of settled)
-    settle_tidied =
-        subst (λ (x : DeskState P). Tidied (desk_of x) (desk_of settled)) is
-        (record { tidies = tidies; names = refl; makers = (refl, refl) })
-
 -- a command that made its row alone has begun so
 pub acts_begin : (d : Desk) (c : Command) (answer : Said) (e : Desk) → Acts d c answer e
     → Begins d c answer e
@@ -208,6 +199,13 @@ acts_begin d c answer e acts = (
   acts,
   record { tidies = tidies_none e.plain e.plain refl; names = refl; makers = (refl, refl) },
 )
+
+-- the same of a call that may fail, by the command that it was
+pub acts_if_ok : {E : Type 0} (d : Desk) (c of : Command) (result : Result Said E) (e : Desk)
+    → c ≡ of → IfOk result (λ answer. Acts d of answer e) → IfOk result (λ answer. Begins d c answer e)
+acts_if_ok d c of (Ok answer) e is acts =
+    acts_begin d c answer e (subst (λ (x : Command). Acts d x answer e) (sym is) acts)
+acts_if_ok d c of (Err refused) e is acts = acts
 
 -- what has begun, and is tidied until nothing more may go, has run
 pub begun_runs : (d : Desk) (c : Command) (answer : Said) (e f : Desk) → Begins d c answer e
