@@ -9,7 +9,7 @@ use Rattle.script_desk.proofs.Needs.{faultless_met, first_met, met_left, met_rig
 use Rattle.domain_desk.specs.Desks.{desk_of}
 use Rattle.domain_desk.specs.Runs.{Begins}
 use Rattle.domain_desk.proofs.GivenUp.{given_begins}
-use Rattle.domain_desk.proofs.Keeping.{acts_begin, acts_if_ok}
+use Rattle.domain_desk.proofs.Keeping.{acts_as, acts_if_ok}
 use Rattle.domain_desk.proofs.desk.DomainDesk.act.Goals as goal
 
 pub copy-requires-clause-bound : goal.copy-requires-clause-bound
@@ -136,21 +136,20 @@ returns-in-Load-clause-begins g c =
 
 pub returns-in-Read-clause-begins : goal.returns-in-Read-clause-begins
 returns-in-Read-clause-begins g c =
-    subst (λ (x : Command). Begins (desk_of c.args.self.now) x c.read.result (desk_of c.read.new.self))
-    (sym c.in-Read.is)
-    (acts_begin (desk_of c.args.self.now) (command.Read c.in-Read.name c.in-Read.word) c.read.result
-    (desk_of c.read.new.self) c.read.ensures.acts)
+    acts_as (desk_of c.args.self.now) c.args.command.now
+    (command.Read c.in-Read.name c.in-Read.word) c.read.result (desk_of c.read.new.self)
+    c.in-Read.is c.read.ensures.acts
 
 pub returns-in-Counts-clause-begins : goal.returns-in-Counts-clause-begins
 returns-in-Counts-clause-begins g c =
-    subst (λ (x : Command). Begins (desk_of c.args.self.now) x c.counts.result (desk_of c.counts.new.self))
-    (sym c.in-Counts.is)
-    (acts_begin (desk_of c.args.self.now) (command.Counts c.in-Counts.name) c.counts.result
-    (desk_of c.counts.new.self) c.counts.ensures.acts)
+    acts_as (desk_of c.args.self.now) c.args.command.now (command.Counts c.in-Counts.name)
+    c.counts.result (desk_of c.counts.new.self) c.in-Counts.is c.counts.ensures.acts
 
 pub returns-in-Replace-clause-begins : goal.returns-in-Replace-clause-begins
 returns-in-Replace-clause-begins g c =
-    subst (λ (x : Command). Begins (desk_of c.args.self.now) x c.replace.result (desk_of c.replace.new.self))
+    subst
+    (λ (x : Command). Begins (desk_of c.args.self.now) x c.replace.result
+    (desk_of c.replace.new.self))
     (sym c.in-Replace.is) c.replace.ensures.begins
 
 pub returns-in-Audit-clause-begins : goal.returns-in-Audit-clause-begins
