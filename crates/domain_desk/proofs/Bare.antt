@@ -1,5 +1,5 @@
 -- What tidies a heap tidies it also where the seat has no handles any more.
-use Rattle.std.proofs.Common.{◌≡◌, ⊎_elim, inl, inr, ℕ, ◌+◌, ◌<◌, ◌≤◌, true, false, List, [], ◌∷◌, ◌++◌, length, refl, ap, sym, ◌∙◌, subst, arith, None}
+use Rattle.std.proofs.Common.{◌≡◌, ⊎_elim, inl, inr, ℕ, ◌<◌, ◌≤◌, true, false, List, [], ◌∷◌, ◌++◌, length, refl, ap, sym, ◌∙◌, subst, arith, None}
 use Rattle.std.proofs.lemmas.List.{length-set, set-set}
 use Rattle.plain_state.specs.declared.act.EventPlace.{EventPlace}
 use Rattle.plain_state.specs.declared.act.EventPlace.TheVariants.{Cell, Field, WeakCell, WeakField}
@@ -7,14 +7,13 @@ use Rattle.plain_state.specs.declared.act.PlainAct.{PlainAct}
 use Rattle.plain_state.specs.declared.act.PlainAct.TheVariants as act
 use Rattle.plain_state.specs.declared.slot.Kind.{Kind}
 use Rattle.plain_state.specs.declared.slot.Kind.TheVariants.{Strong, Weak, Disposal}
-use Rattle.plain_state.specs.declared.slot.PlainSlot.{PlainSlot}
 use Rattle.plain_state.specs.declared.slot.SlotId.{SlotId}
-use Rattle.plain_state.specs.declared.slot.Stage.TheVariants.{Ended, Free, Husk}
+use Rattle.plain_state.specs.declared.slot.Stage.TheVariants.{Ended, Husk}
 use Rattle.plain_state.specs.Lawful.{Covers, IsCovered}
-use Rattle.plain_state.specs.Lists.{Entry, Loses, entry_times, times}
+use Rattle.plain_state.specs.Lists.{Loses, entry_times, times}
 use Rattle.plain_state.specs.Places.{CanDispose, field_of, with_field}
 use Rattle.plain_state.specs.References.{deferrals, over_seats, snapshot_times, strong_refs, weak_refs}
-use Rattle.plain_state.specs.State.{Plain, PlainSeat, new_seat, seat_at, slot_at, with_seat, with_slot}
+use Rattle.plain_state.specs.State.{Plain, PlainSeat, seat_at, slot_at, with_seat, with_slot}
 use Rattle.plain_state.specs.Steps.{Does, IsReordering, IsSeat, joined}
 use Rattle.plain_state.proofs.Kit.{entry_none, seats_set, times_none}
 use Rattle.plain_settling.specs.Settling.{IsSurplus, Tidies, TidiesBy, TidiesTo}

@@ -1,7 +1,7 @@
 -- What the desk's seat has after each call, and what was begun.
-use Rattle.std.proofs.Common.{◌≡◌, ℕ, ◌+◌, List, [], ◌∷◌, length, refl, ap, sym, ◌∙◌, subst, Option, Some, None, IfSome}
+use Rattle.std.proofs.Common.{◌≡◌, ℕ, ◌+◌, List, [], ◌∷◌, refl, ap, sym, ◌∙◌, subst, Some}
 use Rattle.std.specs.Map.{values_of}
-use Rattle.std.specs.Prelude.{slice_set}
+use Rattle.std.specs.Prelude.{Result, Ok, Err, IfOk, slice_set}
 use Rattle.plain_state.specs.declared.act.PlainAct.{PlainAct}
 use Rattle.plain_state.specs.declared.act.PlainAct.TheVariants as act
 use Rattle.plain_state.specs.declared.slot.SlotId.{SlotId}
@@ -18,7 +18,6 @@ use Rattle.lone_heap.specs.declared.words.Words.{Words}
 use Rattle.lone_heap.specs.Lone.{IsReady, ThenTidies, known_plain}
 use Rattle.lone_heap.specs.Words.{AreNoted}
 use Rattle.script_lines.specs.declared.command.Command.{Command}
-use Rattle.script_lines.specs.declared.command.Command.TheVariants as command
 use Rattle.script_desk.specs.declared.handle.Handle.{Handle}
 use Rattle.script_desk.specs.declared.handle.Handle.TheVariants.{Strong, Weak}
 use Rattle.script_desk.specs.declared.said.Said.{Said}
@@ -87,9 +86,6 @@ module _ {P : Type 0} (i d : DeskState P) (is : i ≡ d) (kept : IsKept d) where
       → bound d.names name ≡ Some h
   named_so name h e = ap (λ (x : DeskState P). bound x.names name) (sym is) ∙ e
 
-  pub ready_here : IsReady i.domain i.seat
-  ready_here = has_kept.ready
-
   module _ (seat : SeatState (Unit {0})) (words : Words) (names : Names)
       (ready : IsReady i.domain seat) (noted : AreNoted words seat) where
     abbrev after : DeskState P
@@ -101,8 +97,8 @@ module _ {P : Type 0} (i d : DeskState P) (is : i ≡ d) (kept : IsKept d) where
     pub kept_gained : (h : Handle) → HasMore (plain_of i) h (plain_of after)
         → CountsMore (values_of i.names) h (values_of names) → IsKept after
     kept_gained h more counts =
-        of_kept (kept_more (plain_of i) i.names i.makers _ _ has_kept.kept (plain_of after) h names more
-        counts)
+        of_kept (kept_more (plain_of i) i.names i.makers _ _ has_kept.kept (plain_of after) h names
+        more counts)
 
     -- a handle that was given up, and its name
     pub kept_given : (h : Handle)
@@ -143,8 +139,8 @@ module _ {P : Type 0} (i d : DeskState P) (is : i ≡ d) (kept : IsKept d) where
         (sym (second ∙ first)) (gains_more (plain_of i) (plain_of later) s t gains))
         counts
 
-    pub kept_weak : (s t u v : SlotId) → WeaklyGains (plain_of i) s t (plain_of later) → u ≡ t → v ≡ u
-        → CountsMore (values_of i.names) (Weak v) (values_of names) → IsKept later
+    pub kept_weak : (s t u v : SlotId) → WeaklyGains (plain_of i) s t (plain_of later) → u ≡ t
+        → v ≡ u → CountsMore (values_of i.names) (Weak v) (values_of names) → IsKept later
     kept_weak s t u v gains first second counts =
         still_gained (Weak v)
         (subst (λ (x : SlotId). HasMore (plain_of i) (Weak x) (plain_of later))
@@ -153,18 +149,24 @@ module _ {P : Type 0} (i d : DeskState P) (is : i ≡ d) (kept : IsKept d) where
 
   -- an object that was made, and its maker
   module _ (seat : SeatState (Unit {0})) (names : Names) (still : IsStill i seat)
-      (payload : List ℕ) (s u v : SlotId) (makes : Makes (plain_of i) s payload (known_plain i.domain seat))
-      (first : u ≡ s) (second : v ≡ u) (at : SlotId) (third : at ≡ v) (maker : Maker) (count : ℕ) where
+      (payload : List ℕ) (s u v : SlotId)
+      (makes : Makes (plain_of i) s payload (known_plain i.domain seat)) (first : u ≡ s)
+      (second : v ≡ u) (at : SlotId) (third : at ≡ v) (maker : Maker) (count : ℕ) where
     abbrev made : DeskState P
-    made = record i { seat = seat; names = names; makers = slice_set i.makers at.0 maker; makes = count }
+    made = record i {
+      seat = seat;
+      names = names;
+      makers = slice_set i.makers at.0 maker;
+      makes = count;
+    }
 
     of_hand : v ≡ s
     of_hand = second ∙ first
 
     pub made_kept : CountsMore (values_of i.names) (Strong v) (values_of names) → IsKept made
     made_kept counts =
-        let more = subst (λ (x : SlotId). HasMore (plain_of i) (Strong x) (plain_of made)) (sym of_hand)
-        (makes_more (plain_of i) (plain_of made) s payload makes) in
+        let more = subst (λ (x : SlotId). HasMore (plain_of i) (Strong x) (plain_of made))
+        (sym of_hand) (makes_more (plain_of i) (plain_of made) s payload makes) in
         record {
           ready = still.0;
           noted = noted_so seat names still;
@@ -178,8 +180,9 @@ module _ {P : Type 0} (i d : DeskState P) (is : i ≡ d) (kept : IsKept d) where
         → Binds i.names name (Some (Strong v)) names → count ≡ i.makes + 1
         → maker ≡ named i.makes name → MakesOne (desk_of d) name weight said.Made (desk_of made)
     made_told name weight is_payload binds next is_maker =
-        makes_told (plain_of i) i.names i.makers i.makes (desk_of d) (ap desk_of is) _ _ has_kept.kept
-        name weight payload s (plain_of made) (plain_of made) names at count maker makes is_payload refl
+        makes_told (plain_of i) i.names i.makers i.makes (desk_of d) (ap desk_of is) _ _
+        has_kept.kept name weight payload s (plain_of made) (plain_of made) names at count maker
+        makes is_payload refl
         (subst (λ (x : SlotId). Binds i.names name (Some (Strong x)) names) of_hand binds)
         (third ∙ of_hand) next is_maker
 
@@ -195,19 +198,26 @@ module _ {P : Type 0} (i d : DeskState P) (is : i ≡ d) (kept : IsKept d) where
         (kept_same (plain_of i) i.names i.makers _ _ has_kept.kept (plain_of settled)
         (tidied_same (plain_of i) (plain_of settled) tidies))
 
-    pub settle_tidied : Tidied (desk_of d) (desk_of settled)
-    settle_tidied =
-        subst (λ (x : DeskState P). Tidied (desk_of x) (desk_of settled)) is
-        (record { tidies = tidies; names = refl; makers = (refl, refl) })
-
 -- a command that made its row alone has begun so
-pub acts_begin : (d : Desk) (c : Command) (answer : Said) (e : Desk) → Acts d c answer e
+acts_begin : (d : Desk) (c : Command) (answer : Said) (e : Desk) → Acts d c answer e
     → Begins d c answer e
 acts_begin d c answer e acts = (
   e,
   acts,
   record { tidies = tidies_none e.plain e.plain refl; names = refl; makers = (refl, refl) },
 )
+
+-- the same by the command that it was, and of a call that may fail
+pub acts_as : (d : Desk) (c of : Command) (answer : Said) (e : Desk) → c ≡ of → Acts d of answer e
+    → Begins d c answer e
+acts_as d c of answer e is acts =
+    acts_begin d c answer e (subst (λ (x : Command). Acts d x answer e) (sym is) acts)
+
+pub acts_if_ok : {E : Type 0} (d : Desk) (c of : Command) (result : Result Said E) (e : Desk)
+    → c ≡ of → IfOk result (λ answer. Acts d of answer e)
+    → IfOk result (λ answer. Begins d c answer e)
+acts_if_ok d c of (Ok answer) e is acts = acts_as d c of answer e is acts
+acts_if_ok d c of (Err refused) e is acts = acts
 
 -- what has begun, and is tidied until nothing more may go, has run
 pub begun_runs : (d : Desk) (c : Command) (answer : Said) (e f : Desk) → Begins d c answer e

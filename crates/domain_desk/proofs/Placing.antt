@@ -1,16 +1,13 @@
 -- What the desk's seat has after each call on a place, and what was begun.
-use Rattle.std.proofs.Common.{◌≡◌, ⊎_elim, inl, inr, MatchOption, ℕ, ◌<◌, Bool, true, false, List, [], length, refl, ap, sym, ◌∙◌, subst, arith, Option, Some, None, IfSome}
+use Rattle.std.proofs.Common.{◌≡◌, ℕ, true, false, List, refl, ap, sym, ◌∙◌, subst, arith, Option, Some, None, IfSome}
 use Rattle.std.specs.Map.{values_of}
-use Rattle.std.specs.Option.{option_and_then}
 use Rattle.plain_state.specs.declared.act.EventPlace.{EventPlace}
-use Rattle.plain_state.specs.declared.act.EventPlace.TheVariants.{Cell, Field, WeakCell, WeakField}
 use Rattle.plain_state.specs.declared.slot.Kind.{Kind}
 use Rattle.plain_state.specs.declared.slot.Kind.TheVariants as kind
 use Rattle.plain_state.specs.declared.slot.SlotId.{SlotId}
 use Rattle.plain_state.specs.Places.{Holds, IsOpen, place_kind}
 use Rattle.plain_state.specs.State.{Plain, seat_at}
-use Rattle.plain_state.specs.Steps.{Replaces}
-use Rattle.plain_store.specs.Calls.{MayGive, Puts, Tries}
+use Rattle.plain_store.specs.Calls.{MayGive, Puts}
 use Rattle.acquire_retire.specs.Seats.{SeatState}
 use Rattle.lone_heap.specs.Lone.{ThenTidies, known_plain}
 use Rattle.script_lines.specs.declared.command.Command.TheVariants as command
@@ -22,13 +19,12 @@ use Rattle.script_desk.specs.declared.said.Said.TheVariants as said
 use Rattle.script_desk.specs.Desks.{Binds, Desk, Names, bound}
 use Rattle.script_desk.specs.declared.said.Said.{Said}
 use Rattle.script_desk.specs.Effects.{Acts, IsPlace, IsSlotOf, LoadsStrong, LoadsWeak}
-use Rattle.script_desk.specs.Faults.{IsPlaceInRange, is_weak_place, need_of, place_needs, taken_by}
-use Rattle.script_desk.specs.Handles.{is_any, is_firm, is_strong, is_weak, slot_of}
-use Rattle.script_desk.specs.Holding.{CountsMore, HasHandle, HasMore, HasSame}
+use Rattle.script_desk.specs.Faults.{IsPlaceInRange, is_weak_place, place_needs, taken_by}
+use Rattle.script_desk.specs.Handles.{slot_of}
+use Rattle.script_desk.specs.Holding.{CountsMore, HasHandle, HasMore}
 use Rattle.script_desk.specs.Places.{AreMet, IsBoundTo}
 use Rattle.script_desk.proofs.Gaining.{handle_of, replaces_fewer, replaces_same}
 use Rattle.script_desk.proofs.Needs.{kind_of, open_place}
-use Rattle.script_desk.proofs.Placing.{tries_done}
 use Rattle.script_desk.proofs.Steps.{same_then}
 use Rattle.script_desk.proofs.Sums.{has_bound, kept_fewer, kept_same}
 use Rattle.domain_desk.specs.Desks.{DeskState, IsKept, desk_of, plain_of, sizes_of}

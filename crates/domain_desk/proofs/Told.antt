@@ -1,34 +1,21 @@
 -- What is told of the heap changes nothing; and a reference that was gained, or wasn't, and its name.
-use Rattle.std.proofs.Common.{◌≡◌, ℕ, ◌+◌, List, refl, ap, sym, ◌∙◌, subst, Option, Some, None, ⊎_elim, arith}
+use Rattle.std.proofs.Common.{◌≡◌, ℕ, List, refl, ap, ◌∙◌, Some}
 use Rattle.std.specs.Prelude.{slice_index}
-use Rattle.plain_state.specs.declared.act.PlainAct.TheVariants as act
 use Rattle.plain_state.specs.declared.slot.SlotId.{SlotId}
-use Rattle.plain_state.specs.References.{strong_refs, weak_refs}
-use Rattle.plain_state.specs.State.{Plain, PlainSeat, seat_at, slot_at}
-use Rattle.plain_state.specs.Steps.{Does}
-use Rattle.plain_store.specs.Settling.{IsSettled}
+use Rattle.plain_state.specs.State.{Plain, slot_at}
 use Rattle.acquire_retire.specs.Seats.{SeatState}
 use Rattle.lone_heap.specs.Lone.{known_plain}
 use Rattle.script_lines.specs.declared.command.Command.TheVariants as command
 use Rattle.script_desk.specs.declared.handle.Handle.{Handle}
 use Rattle.script_desk.specs.declared.said.Said.TheVariants as said
 use Rattle.script_desk.specs.declared.sizes.Sizes.{Sizes}
-use Rattle.script_desk.specs.Desks.{Desk, bound}
+use Rattle.script_desk.specs.Desks.{bound}
 use Rattle.script_desk.specs.Effects.{Acts}
 use Rattle.script_desk.specs.Handles.{slot_of}
 use Rattle.script_desk.specs.Holding.{HasSame}
-use Rattle.script_desk.proofs.Grows.{same_by}
 use Rattle.script_desk.proofs.Steps.{same_as}
 use Rattle.domain_desk.specs.Desks.{DeskState, IsKept, desk_of, plain_of, sizes_of}
 use Rattle.domain_desk.proofs.Keeping.{IsStill, kept_with}
-
--- an add that found the zero mark leaves what the seat has
-pub dead_same : (p q : Plain) (s : SlotId) → Does p 0 (act.Add s) 1 q → HasSame p q
-dead_same p q s (here, (held, cases)) = ⊎_elim
-    (λ up. absurd (omega (arith, up.0)))
-    (λ dead. same_by p q (record (seat_at p 0) { adds = (seat_at p 0).adds + 1 }) here.0 dead.2 refl
-    refl refl)
-    cases
 
 module _ {P : Type 0} (i d : DeskState P) (is : i ≡ d) (kept : IsKept d)
     (seat : SeatState (Unit {0})) (still : IsStill i seat) where
@@ -62,24 +49,6 @@ module _ {P : Type 0} (i d : DeskState P) (is : i ≡ d) (kept : IsKept d)
             ∙ (λ j. slice_index (slot_at (plain_of (is j)) (known.2 j)).payload word)),
         same_desk,
       )
-
-      pub counts_told : (strong weak : ℕ) → strong ≡ strong_refs (plain_of i) s
-          → weak ≡ weak_refs (plain_of i) s
-          → Acts (desk_of d) (command.Counts name) (said.Counts strong weak) (desk_of later)
-      counts_told strong weak strong_is weak_is = (
-        known.0,
-        known.1,
-        (λ j. said.Counts
-            ((strong_is ∙ (λ k. strong_refs (plain_of (is k)) (known.2 k))) j)
-            ((weak_is ∙ (λ k. weak_refs (plain_of (is k)) (known.2 k))) j)),
-        same_desk,
-      )
-
--- nothing more may go of the state that the fields have
-pub settled_here : {P : Type 0} (i d : DeskState P) → i ≡ d → IsSettled (plain_of d)
-    → IsSettled (plain_of i)
-settled_here {P = P} i d is settled =
-    subst (λ (x : DeskState P). IsSettled (plain_of x)) (sym is) settled
 
 -- the numbers of cells that the fields have
 abbrev sizes_here : {P : Type 0} → DeskState P → Sizes

@@ -11,8 +11,8 @@ use Rattle.script_desk.specs.declared.sizes.Sizes.{Sizes}
 use Rattle.script_desk.specs.Desks.{Desk, Maker, Names, scope_of}
 use Rattle.script_desk.specs.Holding.{Kept}
 
--- a domain and its one seat, what the seat's announcement words protect, the names, for each slot the
--- make that made it last, how many makes there were, and how many cells there are
+-- a domain and its one seat, what the seat's announcement words protect, the names, for each slot
+-- the make that made it last, how many makes there were, and how many cells there are
 pub record DeskState (P : Type 0) : Type 0 where
   pub domain : DomainState P
   pub seat : SeatState (Unit {0})
@@ -38,8 +38,8 @@ core_of d = d.seat.view.core
 abbrev pub sizes_of : {P : Type 0} → DeskState P → Sizes
 sizes_of d = (scope_of (desk_of d)).sizes
 
--- the seat is alone and in no call, is under just the snapshots that the words protect, and has just
--- what the bound handles need
+-- the seat is alone and in no call, is under just the snapshots that the words protect, and has
+-- just what the bound handles need
 pub record IsKept {P : Type 0} (d : DeskState P) : Type 0 where
   pub ready : IsReady d.domain d.seat
   pub noted : AreNoted d.words d.seat

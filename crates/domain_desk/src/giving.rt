@@ -98,7 +98,8 @@ impl DomainDesk {
     ) -> (Domain<NoLaw<ScriptKind>>, Seat<NoLaw<ScriptKind>>)
         requires kept { IsKept self }
         requires weighs { Weighs IsScriptPayload script_weight F.Fn weigh.now }
-        ensures tidies { TidiesTo (without_handles (plain_of self)) (known_plain result.0 result.1) }
+        ensures tidies { TidiesTo (without_handles (plain_of self))
+            (known_plain result.0 result.1) }
         ensures settled { IsSettled (known_plain result.0 result.1) }
         ensures none { HasNoHandles (seat_at (known_plain result.0 result.1) 0) }
         ensures trail { Shows [] (core_of self) result.1.view.core }

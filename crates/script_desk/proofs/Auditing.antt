@@ -1,5 +1,5 @@
 -- What an audit of the heap tells of the desk.
-use Rattle.std.proofs.Common.{◌≡◌, ⊎_elim, ℕ, ◌<◌, List, [], ◌∷◌, length, refl, ap, sym, subst, arith, All}
+use Rattle.std.proofs.Common.{◌≡◌, ⊎_elim, ℕ, ◌<◌, List, [], ◌∷◌, length, map, refl, ap, sym, ◌∙◌, subst, arith, All}
 use Rattle.std.proofs.lemmas.Bool.{cases_lt}
 use Rattle.std.proofs.lemmas.List.{get_or_past}
 use Rattle.std.proofs.lemmas.List.Elements.{All-cons}
@@ -16,7 +16,7 @@ use Rattle.plain_state.proofs.Kit.{none_or_some}
 use Rattle.script_desk.specs.declared.said.Said.TheVariants.{Audited}
 use Rattle.script_desk.specs.declared.said.Shown.{Shown}
 use Rattle.script_desk.specs.Audits.{AreRanks, Shows, AnswersAudit}
-use Rattle.script_desk.specs.Desks.{Desk, Names, Maker}
+use Rattle.script_desk.specs.Desks.{Desk, Names, Maker, maker_at, maker_of}
 use Rattle.script_desk.specs.Kinds.{script_weight}
 use Rattle.script_desk.proofs.Naming.{desk_of}
 
@@ -47,12 +47,23 @@ walk_there p ranks found audit =
     (λ (some : 0 < found.cyclic). round_there p found.walk.items (audit.round some))
     (none_or_some found.cyclic)
 
-module _ (p : Plain) (names : Names) (made : List Maker) (makes : ℕ) (d : Desk) (is : desk_of p names made makes ≡ d) where
-  pub walk_of_desk : (ranks : List ℕ) (found : Audit) (walk : List SlotId) → IsAudit script_weight ranks p found → walk ≡ found.walk.items
-      → All (IsThere d.plain) walk
-  walk_of_desk ranks found walk audit e =
-      subst (λ (x : Desk). All (IsThere x.plain) walk) is (subst (All (IsThere p)) (sym e) (walk_there p ranks found audit))
+-- they have makers, where each slot has one
+pub walk_made : (p : Plain) (made read : List Maker) → length made ≡ length p.slots → read ≡ made
+    → (ranks : List ℕ) (found : Audit) (walk : List SlotId) → IsAudit script_weight ranks p found
+    → walk ≡ found.walk.items → All (λ s. s.0 < length read) walk
+walk_made p made read size same ranks found walk audit items =
+    subst (λ (x : ℕ × List SlotId). All (λ s. s.0 < x.0) x.1)
+    (λ j. (sym (ap length same ∙ size) j, sym items j)) (walk_there p ranks found audit)
 
+-- which are those of the desk
+pub walk_named : (d : Desk) (made read : List Maker) (walk found : List SlotId)
+    (names : List (List ℕ)) → made ≡ d.makers → read ≡ made → walk ≡ found
+    → names ≡ map (λ s. (maker_at read s).name) walk
+    → names ≡ map (λ s. (maker_of d s).name) found
+walk_named d made read walk found names own same items are =
+    are ∙ (λ j. map (λ (s : SlotId). (maker_at ((same ∙ own) j) s).name) (items j))
+
+module _ (p : Plain) (names : Names) (made : List Maker) (makes : ℕ) (d : Desk) (is : desk_of p names made makes ≡ d) where
   pub audit_told : (found : Audit) (ranks read : List ℕ) (shown : Shown) → AreRanks d ranks → read ≡ ranks → IsAudit script_weight read p found
       → Shows d found shown → AnswersAudit d (Audited shown)
   audit_told found ranks read shown are same audit shows =

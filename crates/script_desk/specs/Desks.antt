@@ -45,8 +45,12 @@ abbrev pub scope_of : Desk → Scope
 scope_of d =
     scope d.names (record { cells = length d.plain.cells; weak_cells = length d.plain.weak_cells })
 
+-- the make that made a slot, by those of all slots
+abbrev pub maker_at : List Maker → SlotId → Maker
+maker_at makers s = slice_index_or makers s.0 nobody
+
 abbrev pub maker_of : Desk → SlotId → Maker
-maker_of d s = slice_index_or d.makers s.0 nobody
+maker_of d s = maker_at d.makers s
 
 -- the name has this meaning now, and every other name the one that it had
 abbrev pub Binds : Names → List ℕ → Option Handle → Names → Type 0

@@ -1,10 +1,7 @@
 use Rattle.std.proofs.Common.{[], ◌∷◌, ◌++◌, sym, subst}
-use Rattle.acquire_retire.proofs.Wholes.{then_ok}
 use Rattle.script_lines.specs.declared.command.Command.{Command}
 use Rattle.script_lines.specs.declared.command.Command.TheVariants as command
-use Rattle.script_desk.specs.declared.said.Said.{Said}
 use Rattle.script_desk.specs.Desks.{scope_of}
-use Rattle.script_desk.specs.Effects.{Acts}
 use Rattle.script_desk.specs.Faults.{need_of, place_needs, taken_by}
 use Rattle.script_desk.specs.Handles.{is_any, is_firm, is_snapshot, is_strong, is_weak}
 use Rattle.script_desk.proofs.Giving.{give_met}
@@ -12,7 +9,7 @@ use Rattle.script_desk.proofs.Needs.{faultless_met, first_met, met_left, met_rig
 use Rattle.domain_desk.specs.Desks.{desk_of}
 use Rattle.domain_desk.specs.Runs.{Begins}
 use Rattle.domain_desk.proofs.GivenUp.{given_begins}
-use Rattle.domain_desk.proofs.Keeping.{acts_begin}
+use Rattle.domain_desk.proofs.Keeping.{acts_as, acts_if_ok}
 use Rattle.domain_desk.proofs.desk.DomainDesk.act.Goals as goal
 
 pub copy-requires-clause-bound : goal.copy-requires-clause-bound
@@ -35,63 +32,27 @@ copy_weak-requires-clause-bound g c =
 
 pub returns-in-Make-clause-begins : goal.returns-in-Make-clause-begins
 returns-in-Make-clause-begins g c =
-    then_ok
-    (λ (answer : Said). Acts (desk_of c.args.self.now) (command.Make c.in-Make.name c.in-Make.weight) answer
-    (desk_of c.make.new.self))
-    (λ (answer : Said). Begins (desk_of c.args.self.now) c.args.command.now answer
-    (desk_of c.make.new.self))
-    c.make.result
-    (λ answer acts.
-    subst (λ (x : Command). Begins (desk_of c.args.self.now) x answer (desk_of c.make.new.self))
-    (sym c.in-Make.is)
-    (acts_begin (desk_of c.args.self.now) (command.Make c.in-Make.name c.in-Make.weight) answer
-    (desk_of c.make.new.self) acts))
-    c.make.ensures.makes
+    acts_if_ok (desk_of c.args.self.now) c.args.command.now
+    (command.Make c.in-Make.name c.in-Make.weight) c.make.result
+    (desk_of c.make.new.self) c.in-Make.is c.make.ensures.makes
 
 pub returns-in-Copy-clause-begins : goal.returns-in-Copy-clause-begins
 returns-in-Copy-clause-begins g c =
-    then_ok
-    (λ (answer : Said). Acts (desk_of c.args.self.now) (command.Copy c.in-Copy.name c.in-Copy.new) answer
-    (desk_of c.copy.new.self))
-    (λ (answer : Said). Begins (desk_of c.args.self.now) c.args.command.now answer
-    (desk_of c.copy.new.self))
-    c.copy.result
-    (λ answer acts.
-    subst (λ (x : Command). Begins (desk_of c.args.self.now) x answer (desk_of c.copy.new.self))
-    (sym c.in-Copy.is)
-    (acts_begin (desk_of c.args.self.now) (command.Copy c.in-Copy.name c.in-Copy.new) answer
-    (desk_of c.copy.new.self) acts))
-    c.copy.ensures.acts
+    acts_if_ok (desk_of c.args.self.now) c.args.command.now
+    (command.Copy c.in-Copy.name c.in-Copy.new) c.copy.result
+    (desk_of c.copy.new.self) c.in-Copy.is c.copy.ensures.acts
 
 pub returns-in-Weaken-clause-begins : goal.returns-in-Weaken-clause-begins
 returns-in-Weaken-clause-begins g c =
-    then_ok
-    (λ (answer : Said). Acts (desk_of c.args.self.now) (command.Weaken c.in-Weaken.name c.in-Weaken.new) answer
-    (desk_of c.weaken.new.self))
-    (λ (answer : Said). Begins (desk_of c.args.self.now) c.args.command.now answer
-    (desk_of c.weaken.new.self))
-    c.weaken.result
-    (λ answer acts.
-    subst (λ (x : Command). Begins (desk_of c.args.self.now) x answer (desk_of c.weaken.new.self))
-    (sym c.in-Weaken.is)
-    (acts_begin (desk_of c.args.self.now) (command.Weaken c.in-Weaken.name c.in-Weaken.new) answer
-    (desk_of c.weaken.new.self) acts))
-    c.weaken.ensures.acts
+    acts_if_ok (desk_of c.args.self.now) c.args.command.now
+    (command.Weaken c.in-Weaken.name c.in-Weaken.new) c.weaken.result
+    (desk_of c.weaken.new.self) c.in-Weaken.is c.weaken.ensures.acts
 
 pub returns-in-CopyWeak-clause-begins : goal.returns-in-CopyWeak-clause-begins
 returns-in-CopyWeak-clause-begins g c =
-    then_ok
-    (λ (answer : Said). Acts (desk_of c.args.self.now) (command.CopyWeak c.in-CopyWeak.name c.in-CopyWeak.new) answer
-    (desk_of c.copy_weak.new.self))
-    (λ (answer : Said). Begins (desk_of c.args.self.now) c.args.command.now answer
-    (desk_of c.copy_weak.new.self))
-    c.copy_weak.result
-    (λ answer acts.
-    subst (λ (x : Command). Begins (desk_of c.args.self.now) x answer (desk_of c.copy_weak.new.self))
-    (sym c.in-CopyWeak.is)
-    (acts_begin (desk_of c.args.self.now) (command.CopyWeak c.in-CopyWeak.name c.in-CopyWeak.new) answer
-    (desk_of c.copy_weak.new.self) acts))
-    c.copy_weak.ensures.acts
+    acts_if_ok (desk_of c.args.self.now) c.args.command.now
+    (command.CopyWeak c.in-CopyWeak.name c.in-CopyWeak.new) c.copy_weak.result
+    (desk_of c.copy_weak.new.self) c.in-CopyWeak.is c.copy_weak.ensures.acts
 
 pub upgrade-requires-clause-bound : goal.upgrade-requires-clause-bound
 upgrade-requires-clause-bound g c =
@@ -163,66 +124,39 @@ replace-requires-clause-given g c =
 
 pub returns-in-Upgrade-clause-begins : goal.returns-in-Upgrade-clause-begins
 returns-in-Upgrade-clause-begins g c =
-    then_ok
-    (λ (answer : Said). Acts (desk_of c.args.self.now) (command.Upgrade c.in-Upgrade.name c.in-Upgrade.new)
-    answer (desk_of c.upgrade.new.self))
-    (λ (answer : Said). Begins (desk_of c.args.self.now) c.args.command.now answer
-    (desk_of c.upgrade.new.self))
-    c.upgrade.result
-    (λ answer acts.
-    subst (λ (x : Command). Begins (desk_of c.args.self.now) x answer (desk_of c.upgrade.new.self))
-    (sym c.in-Upgrade.is)
-    (acts_begin (desk_of c.args.self.now) (command.Upgrade c.in-Upgrade.name c.in-Upgrade.new) answer
-    (desk_of c.upgrade.new.self) acts))
-    c.upgrade.ensures.acts
+    acts_if_ok (desk_of c.args.self.now) c.args.command.now
+    (command.Upgrade c.in-Upgrade.name c.in-Upgrade.new) c.upgrade.result
+    (desk_of c.upgrade.new.self) c.in-Upgrade.is c.upgrade.ensures.acts
 
 pub returns-in-Load-clause-begins : goal.returns-in-Load-clause-begins
 returns-in-Load-clause-begins g c =
-    then_ok
-    (λ (answer : Said). Acts (desk_of c.args.self.now) (command.Load c.in-Load.place c.in-Load.new)
-    answer (desk_of c.load.new.self))
-    (λ (answer : Said). Begins (desk_of c.args.self.now) c.args.command.now answer
-    (desk_of c.load.new.self))
-    c.load.result
-    (λ answer acts.
-    subst (λ (x : Command). Begins (desk_of c.args.self.now) x answer (desk_of c.load.new.self))
-    (sym c.in-Load.is)
-    (acts_begin (desk_of c.args.self.now) (command.Load c.in-Load.place c.in-Load.new) answer
-    (desk_of c.load.new.self) acts))
-    c.load.ensures.acts
+    acts_if_ok (desk_of c.args.self.now) c.args.command.now
+    (command.Load c.in-Load.place c.in-Load.new) c.load.result
+    (desk_of c.load.new.self) c.in-Load.is c.load.ensures.acts
 
 pub returns-in-Read-clause-begins : goal.returns-in-Read-clause-begins
 returns-in-Read-clause-begins g c =
-    subst (λ (x : Command). Begins (desk_of c.args.self.now) x c.read.result (desk_of c.read.new.self))
-    (sym c.in-Read.is)
-    (acts_begin (desk_of c.args.self.now) (command.Read c.in-Read.name c.in-Read.word) c.read.result
-    (desk_of c.read.new.self) c.read.ensures.acts)
+    acts_as (desk_of c.args.self.now) c.args.command.now
+    (command.Read c.in-Read.name c.in-Read.word) c.read.result (desk_of c.read.new.self)
+    c.in-Read.is c.read.ensures.acts
 
 pub returns-in-Counts-clause-begins : goal.returns-in-Counts-clause-begins
 returns-in-Counts-clause-begins g c =
-    subst (λ (x : Command). Begins (desk_of c.args.self.now) x c.counts.result (desk_of c.counts.new.self))
-    (sym c.in-Counts.is)
-    (acts_begin (desk_of c.args.self.now) (command.Counts c.in-Counts.name) c.counts.result
-    (desk_of c.counts.new.self) c.counts.ensures.acts)
+    acts_as (desk_of c.args.self.now) c.args.command.now (command.Counts c.in-Counts.name)
+    c.counts.result (desk_of c.counts.new.self) c.in-Counts.is c.counts.ensures.acts
 
 pub returns-in-Replace-clause-begins : goal.returns-in-Replace-clause-begins
 returns-in-Replace-clause-begins g c =
-    subst (λ (x : Command). Begins (desk_of c.args.self.now) x c.replace.result (desk_of c.replace.new.self))
+    subst
+    (λ (x : Command). Begins (desk_of c.args.self.now) x c.replace.result
+    (desk_of c.replace.new.self))
     (sym c.in-Replace.is) c.replace.ensures.begins
 
 pub returns-in-Audit-clause-begins : goal.returns-in-Audit-clause-begins
 returns-in-Audit-clause-begins g c =
-    then_ok
-    (λ (answer : Said). Acts (desk_of c.args.self.now) command.Audit answer
-    (desk_of c.audit.new.self))
-    (λ (answer : Said). Begins (desk_of c.args.self.now) c.args.command.now answer
-    (desk_of c.audit.new.self))
-    c.audit.result
-    (λ answer acts.
-    subst (λ (x : Command). Begins (desk_of c.args.self.now) x answer (desk_of c.audit.new.self))
-    (sym c.in-Audit.is)
-    (acts_begin (desk_of c.args.self.now) command.Audit answer (desk_of c.audit.new.self) acts))
-    c.audit.ensures.acts
+    acts_if_ok (desk_of c.args.self.now) c.args.command.now
+    command.Audit c.audit.result
+    (desk_of c.audit.new.self) c.in-Audit.is c.audit.ensures.acts
 
 pub keep-requires-clause-bound : goal.keep-requires-clause-bound
 keep-requires-clause-bound g c =
@@ -237,33 +171,15 @@ give-requires-clause-bound g c =
 
 pub returns-in-Snap-clause-begins : goal.returns-in-Snap-clause-begins
 returns-in-Snap-clause-begins g c =
-    then_ok
-    (λ (answer : Said). Acts (desk_of c.args.self.now) (command.Snap c.in-Snap.place c.in-Snap.new)
-    answer (desk_of c.snap.new.self))
-    (λ (answer : Said). Begins (desk_of c.args.self.now) c.args.command.now answer
-    (desk_of c.snap.new.self))
-    c.snap.result
-    (λ answer acts.
-    subst (λ (x : Command). Begins (desk_of c.args.self.now) x answer (desk_of c.snap.new.self))
-    (sym c.in-Snap.is)
-    (acts_begin (desk_of c.args.self.now) (command.Snap c.in-Snap.place c.in-Snap.new) answer
-    (desk_of c.snap.new.self) acts))
-    c.snap.ensures.acts
+    acts_if_ok (desk_of c.args.self.now) c.args.command.now
+    (command.Snap c.in-Snap.place c.in-Snap.new) c.snap.result
+    (desk_of c.snap.new.self) c.in-Snap.is c.snap.ensures.acts
 
 pub returns-in-Keep-clause-begins : goal.returns-in-Keep-clause-begins
 returns-in-Keep-clause-begins g c =
-    then_ok
-    (λ (answer : Said). Acts (desk_of c.args.self.now) (command.Keep c.in-Keep.name c.in-Keep.new)
-    answer (desk_of c.keep.new.self))
-    (λ (answer : Said). Begins (desk_of c.args.self.now) c.args.command.now answer
-    (desk_of c.keep.new.self))
-    c.keep.result
-    (λ answer acts.
-    subst (λ (x : Command). Begins (desk_of c.args.self.now) x answer (desk_of c.keep.new.self))
-    (sym c.in-Keep.is)
-    (acts_begin (desk_of c.args.self.now) (command.Keep c.in-Keep.name c.in-Keep.new) answer
-    (desk_of c.keep.new.self) acts))
-    c.keep.ensures.acts
+    acts_if_ok (desk_of c.args.self.now) c.args.command.now
+    (command.Keep c.in-Keep.name c.in-Keep.new) c.keep.result
+    (desk_of c.keep.new.self) c.in-Keep.is c.keep.ensures.acts
 
 pub returns-in-Drop-clause-begins : goal.returns-in-Drop-clause-begins
 returns-in-Drop-clause-begins g c =

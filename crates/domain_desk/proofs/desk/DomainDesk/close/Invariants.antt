@@ -13,7 +13,9 @@ invariant-loop-handle g l = record {
   holds : HoldsFor (known_plain l.domain l.seat) (values_of l.names);
   ready : IsReady l.domain l.seat;
   noted : AreNoted l.words l.seat;
-  rest : TidiesTo (without_handles (plain_of l.fn.self)) (without_handles (known_plain l.domain l.seat));
+  rest :
+      TidiesTo (without_handles (plain_of l.fn.self))
+      (without_handles (known_plain l.domain l.seat));
 }
 
 abbrev pub decreases-loop-handle : goal.decreases-loop-handle
