@@ -120,11 +120,7 @@ pub fn draw_words<K: Sink>(alloc: Global, draws: Draws, sink: &mut K) -> End
 }
 
 /// The same, before a status is made of it. No line is refused.
-fn write_words<K: Sink>(
-    alloc: Global,
-    draws: Draws,
-    sink: &mut K,
-) -> Result<Finished, Refusal>
+fn write_words<K: Sink>(alloc: Global, draws: Draws, sink: &mut K) -> Result<Finished, Refusal>
     requires many { draws.words ≤ 1000000 }
     requires least { 1 ≤ draws.vocabulary }
     requires most { draws.vocabulary ≤ 1000000 }

@@ -9,3 +9,4 @@ pub mod Replacing
 pub mod Told
 pub mod Loading
 pub mod Audited
+pub mod Shown

@@ -1,5 +1,6 @@
 //! Objects are made.
 ghost use Rattle.std.specs.Prelude.{◌≡◌, ◌≤◌, ◌^◌, IfOk, OnOk, None};
+ghost use Rattle.script_lines.specs.declared.command.Command.TheVariants as command;
 ghost use Rattle.script_desk.specs.Desks.{bound};
 ghost use Rattle.script_desk.specs.Effects.{MakesOne};
 ghost use Rattle.domain_desk.specs.Marks.{ShowsCommand};

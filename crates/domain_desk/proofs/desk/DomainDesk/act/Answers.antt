@@ -6,7 +6,8 @@ use Rattle.script_desk.specs.Faults.{need_of, place_needs, taken_by}
 use Rattle.script_desk.specs.Handles.{is_any, is_firm, is_snapshot, is_strong, is_weak}
 use Rattle.script_desk.proofs.Giving.{give_met}
 use Rattle.script_desk.proofs.Needs.{faultless_met, first_met, met_left, met_right}
-use Rattle.domain_desk.specs.Desks.{desk_of}
+use Rattle.domain_desk.specs.Desks.{core_of, desk_of}
+use Rattle.domain_desk.proofs.Shown.{shown_as}
 use Rattle.domain_desk.specs.Runs.{Begins}
 use Rattle.domain_desk.proofs.GivenUp.{given_begins}
 use Rattle.domain_desk.proofs.Keeping.{acts_as, acts_if_ok}
@@ -185,3 +186,13 @@ pub returns-in-Drop-clause-begins : goal.returns-in-Drop-clause-begins
 returns-in-Drop-clause-begins g c =
     given_begins (desk_of c.args.self.now) (desk_of c.give.new.self) c.args.command.now
     c.in-Drop.name c.in-Drop.is c.requires.faultless c.give.ensures.gives
+
+pub returns-in-Load-clause-shows : goal.returns-in-Load-clause-shows
+returns-in-Load-clause-shows g c =
+    shown_as c.args.command.now (command.Load c.in-Load.place c.in-Load.new) c.load.result
+    (core_of c.args.self.now) (core_of c.load.new.self) c.in-Load.is c.load.ensures.shows
+
+pub returns-in-Audit-clause-shows : goal.returns-in-Audit-clause-shows
+returns-in-Audit-clause-shows g c =
+    shown_as c.args.command.now command.Audit c.audit.result (core_of c.args.self.now)
+    (core_of c.audit.new.self) c.in-Audit.is c.audit.ensures.shows

@@ -1,11 +1,12 @@
-use Rattle.std.proofs.Common.{length}
+use Rattle.std.proofs.Common.{length, []}
 use Rattle.std.specs.Map.{values_of}
 use Rattle.plain_settling.specs.Settling.{TidiesTo}
 use Rattle.lone_heap.specs.Lone.{IsReady, known_plain}
+use Rattle.lone_heap.specs.Trails.{Shows}
 use Rattle.lone_heap.specs.Words.{AreNoted}
 use Rattle.script_desk.specs.Desks.{without_handles}
 use Rattle.script_desk.specs.Holding.{HoldsFor}
-use Rattle.domain_desk.specs.Desks.{plain_of}
+use Rattle.domain_desk.specs.Desks.{core_of, plain_of}
 use Rattle.domain_desk.proofs.desk.DomainDesk.close.Given as goal
 
 abbrev pub invariant-loop-handle : goal.invariant-loop-handle
@@ -16,6 +17,7 @@ invariant-loop-handle g l = record {
   rest :
       TidiesTo (without_handles (plain_of l.fn.self))
       (without_handles (known_plain l.domain l.seat));
+  trail : Shows [] (core_of l.fn.self) l.seat.view.core;
 }
 
 abbrev pub decreases-loop-handle : goal.decreases-loop-handle

@@ -6,7 +6,7 @@ returns-clause-settled c =
     opened_settled c.args.slots c.args.cells c.args.weak_cells _ c.in_ok-domain.ensures.empty
 
 pub returns-clause-makers : goal.returns-clause-makers
-returns-clause-makers c = all_nobody _ c.in-Ok.ensures.each
+returns-clause-makers c = all_nobody _ c.in_ok-makers.ensures.each
 
 pub returns-clause-kept : goal.returns-clause-kept
 returns-clause-kept c = record {
@@ -14,5 +14,5 @@ returns-clause-kept c = record {
   noted = c.in_ok-domain.ensures.noted;
   kept =
       opened_kept c.args.slots c.args.cells c.args.weak_cells _ c.in_ok-domain.ensures.empty _ _
-      c.new.ensures c.in-Ok.ensures.size;
+      c.new.ensures c.in_ok-makers.ensures.size;
 }

@@ -1,6 +1,9 @@
 use Rattle.std.proofs.Common.{◌≡◌, false, true, rules}
 use Rattle.domain_desk.proofs.Placing.{held_here, open_here, placed_so, slot_so, strong_kind}
 use Rattle.domain_desk.proofs.Replacing.{done_begins, done_kept, gives_slot, lost_begins, lost_kept, tries_as}
+use Rattle.script_lines.specs.declared.command.Command.TheVariants as command
+use Rattle.script_desk.specs.declared.said.Said.TheVariants as said
+use Rattle.domain_desk.proofs.Shown.{done_shown, from_view, lost_shown}
 use Rattle.domain_desk.proofs.desk.DomainDesk.replace.Goals as goal
 
 pub try_put-requires-clause-opened : goal.try_put-requires-clause-opened
@@ -66,3 +69,21 @@ returns-clause-kept c =
     (c.try_put.ensures.ready, c.try_put.ensures.notes) c.unbind_if_some.new.self
     c.unbind_if_some.ensures.binds (tries_as _ _ _ _ _ _ _ is c.try_put.ensures.tries)
     c.requires.given c.unbind_if_some.ensures.fewer
+
+pub returns-then-not-try_put-clause-shows : goal.returns-then-not-try_put-clause-shows
+returns-then-not-try_put-clause-shows c =
+    from_view _ _ c.self.view_is
+    (command.Replace c.args.place.now c.args.old.now c.args.new.now) said.Lost
+    c.try_put.new.seat.view.core
+    (lost_shown c.args.place.now c.self.inside.seat.view.core c.try_put.new.seat.view.core c.place_of-at.result c.args.old.now c.args.new.now
+    c.slot_if_some-expected.result c.slot_if_some-slot.result c.try_put.result
+    c.try_put.ensures.trail (search rules))
+
+pub returns-clause-shows : goal.returns-clause-shows
+returns-clause-shows c =
+    from_view _ _ c.self.view_is
+    (command.Replace c.args.place.now c.args.old.now c.args.new.now) said.Done
+    c.try_put.new.seat.view.core
+    (done_shown c.args.place.now c.self.inside.seat.view.core c.try_put.new.seat.view.core c.place_of-at.result c.args.old.now c.args.new.now
+    c.slot_if_some-expected.result c.slot_if_some-slot.result c.try_put.result
+    c.try_put.ensures.trail (search rules))
