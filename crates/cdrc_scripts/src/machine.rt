@@ -97,8 +97,11 @@ impl LineMachine for ScriptMachine {
         words: &[&[u8]],
         text: &mut Vec<u8>,
     ) -> Result<Option<Reason>, OutOfMemory> {
-        if let Some(desk) = &mut self.desk {
-            return take_command(desk, alloc, words, text);
+        // A desk on which an allocation failed is kept no longer.
+        if let Some(mut desk) = self.desk.take() {
+            let refused = take_command(&mut desk, alloc, words, text)?;
+            self.desk = Some(desk);
+            return Ok(refused);
         }
         match begin(alloc, words)? {
             Ok(desk) => {

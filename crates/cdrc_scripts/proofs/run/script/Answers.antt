@@ -1,3 +1,5 @@
+use Rattle.std.proofs.Common.{subst}
+use Rattle.cdrc_scripts.specs.Domains.{IsClosed, Place}
 use Rattle.cdrc_scripts.proofs.Taking.{is_script}
 use Rattle.cdrc_scripts.proofs.run.script.Goals as goal
 
@@ -10,5 +12,6 @@ pub returns-clause-on : goal.returns-clause-on
 returns-clause-on c = record {
   last = c.run_lines.new.machine;
   run = c.in_ok-written.ensures;
-  closed = c.close.ensures;
+  closed =
+      subst (λ (last : Place). IsClosed last c.close.result) c.machine.view_is c.close.ensures;
 }
