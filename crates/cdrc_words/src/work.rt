@@ -7,7 +7,7 @@ use crate::command::Task;
 use crate::outcome::{Refusal, Why};
 use crate::report::report_text;
 use acquire_retire::Seat;
-use cdrc_scripts::script;
+use cdrc_scripts::{Scripted, Written, script};
 use cdrc_steps::steps;
 use lane_gate::Gate;
 use plain_protocol::NoLaw;
@@ -49,18 +49,16 @@ pub fn output_of<R: Wait, G: Gate>(
             })
         }
         Task::Script => {
-            let done = script(alloc, content)?;
-            Ok(Output {
-                text: done.written.text,
-                refused: done.written.refused,
-                why: evidence(done.seat),
-            })
+            let Scripted { written, seat } = script(alloc, content)?;
+            let why = evidence(seat);
+            let Written { text, refused } = written;
+            Ok(Output { text, refused, why })
         }
         Task::Steps => {
-            let written = steps(alloc, content)?;
+            let Written { text, refused } = steps(alloc, content)?;
             Ok(Output {
-                text: written.text,
-                refused: written.refused,
+                text,
+                refused,
                 why: Why::Nothing,
             })
         }

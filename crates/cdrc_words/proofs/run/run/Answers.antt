@@ -41,6 +41,19 @@ returns-clause-memory g c nine task file asks =
     ⊎ TookPartOfOutput c.in-Some-asked.task (g.F.Files.told c.args.files.now f)
     (g.K.Sink.taken c.args.sink.now) (g.K.Sink.taken c.do_task.new.sink)) same.1 here)
 
+pub returns-clause-write_part : goal.returns-clause-write_part
+returns-clause-write_part g c four task file asks =
+    let same : (c.in-Some-asked.task ≡ task) × (c.in-Some-asked.name.now ≡ file) =
+    one_asked (map string_bytes c.args.words.now) c.in-Some-asked.task task c.in-Some-asked.name.now file
+    (search rules) asks in
+    let here : TookPartOfOutput c.in-Some-asked.task
+    (g.F.Files.told c.args.files.now c.in-Some-asked.name.now)
+    (g.K.Sink.taken c.args.sink.now) (g.K.Sink.taken c.do_task.new.sink) = search rules in
+    subst (λ (t : Work). TookPartOfOutput t (g.F.Files.told c.args.files.now file)
+    (g.K.Sink.taken c.args.sink.now) (g.K.Sink.taken c.do_task.new.sink)) same.0
+    (subst (λ (f : List ℕ). TookPartOfOutput c.in-Some-asked.task (g.F.Files.told c.args.files.now f)
+    (g.K.Sink.taken c.args.sink.now) (g.K.Sink.taken c.do_task.new.sink)) same.1 here)
+
 pub returns-in-Some-clause-drawn : goal.returns-in-Some-clause-drawn
 returns-in-Some-clause-drawn g c draws asks =
     let same : c.in-Some.draws ≡ draws =
