@@ -35,8 +35,9 @@ pub fn time_interns<R: Threads + Wait + Clock + Sync>(
         workers,
     } = open_directory(alloc, threads)?;
     let start = Instant::now(rt)?;
-    thread::map_vec(rt, workers, &|seat| work(rt, &domain, seat, threads))
-        .map_err(OutOfMemory::from)?;
+    thread::map_vec(rt, workers, &|seat| work(rt, &domain, seat, threads)).map_err(
+        OutOfMemory::from,
+    )?;
     let elapsed = start.elapsed(rt)?;
     Ok(Tenths::of_each(elapsed, u64::from(TURNS)))
 }

@@ -15,8 +15,8 @@
 ghost use Rattle.std.specs.Prelude.{◌≤◌, IfSome};
 
 mod clock;
-mod domain;
 mod directory;
+mod domain;
 mod fault;
 mod interning;
 mod operation;

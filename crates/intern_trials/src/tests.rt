@@ -107,10 +107,16 @@ fn texts_of_all_lengths_come_and_go(rt: HostRuntime) -> Result<(), Fail> {
     for (length, cell) in LENGTHS {
         let text = &letters[..length];
         let (domain, mut seat) = open_alone(&rt, 16, 4)?;
-        assert!(rt; comes_and_goes(&rt, &domain, &mut seat, &directory, text, cell), "{length}");
+        assert!(rt;
+            comes_and_goes(&rt, &domain, &mut seat, &directory, text, cell),
+            "{length}"
+        );
         // The walk passes the record that has ended.
         let next = (cell + 1) % 16;
-        assert!(rt; comes_and_goes(&rt, &domain, &mut seat, &directory, text, next), "{length}");
+        assert!(rt;
+            comes_and_goes(&rt, &domain, &mut seat, &directory, text, next),
+            "{length}"
+        );
     }
     Ok(())
 }

@@ -67,12 +67,21 @@ fn walks_go_around_the_end_until_every_cell_is_set(rt: HostRuntime) -> Result<()
     let (domain, mut seat) = open_alone(&rt, 4, 4)?;
     let directory = Directory::over(0, 4);
     for (byte, cell) in ROUND {
-        assert!(rt; is_put(&rt, &domain, &mut seat, &directory, byte, cell), "{cell}");
+        assert!(rt;
+            is_put(&rt, &domain, &mut seat, &directory, byte, cell),
+            "{cell}"
+        );
     }
     for (byte, cell) in ROUND {
-        assert!(rt; is_there(&rt, &domain, &mut seat, &directory, byte, cell), "{cell}");
+        assert!(rt;
+            is_there(&rt, &domain, &mut seat, &directory, byte, cell),
+            "{cell}"
+        );
     }
-    assert_eq!(rt; find_once(&rt, &domain, &mut seat, &directory, b"r"), Ok(None));
+    assert_eq!(rt;
+        find_once(&rt, &domain, &mut seat, &directory, b"r"),
+        Ok(None)
+    );
     Ok(())
 }
 
@@ -106,7 +115,10 @@ fn walks_pass_the_records_that_have_ended(rt: HostRuntime) -> Result<(), Fail> {
     let (domain, mut seat) = open_alone(&rt, 4, 4)?;
     let directory = Directory::over(0, 4);
     for (_byte, cell) in ROUND {
-        assert!(rt; is_passed(&rt, &domain, &mut seat, &directory, b"b", cell), "{cell}");
+        assert!(rt;
+            is_passed(&rt, &domain, &mut seat, &directory, b"b", cell),
+            "{cell}"
+        );
     }
     Ok(())
 }

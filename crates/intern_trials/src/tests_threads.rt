@@ -87,7 +87,15 @@ fn work<R: Wait>(rt: &R, domain: &Domain<DirectoryLaw>, mut seat: Seat<Directory
     let mut refused = TURNS;
     if let Ok(ticket) = draw(domain, &mut seat) {
         if ticket < 4 {
-            refused = make_turns(rt, domain, &mut seat, &directory, TURNS, ticket, ticket == 0);
+            refused = make_turns(
+                rt,
+                domain,
+                &mut seat,
+                &directory,
+                TURNS,
+                ticket,
+                ticket == 0,
+            );
         }
     }
     Done { seat, refused }
@@ -140,11 +148,7 @@ fn leave_all(
 }
 
 /// Draws the last ticket, and interns and finds each text. How many were found.
-fn intern_last<R: Wait>(
-    rt: &R,
-    domain: &Domain<DirectoryLaw>,
-    root: &mut Seat<DirectoryLaw>,
-) -> u32
+fn intern_last<R: Wait>(rt: &R, domain: &Domain<DirectoryLaw>, root: &mut Seat<DirectoryLaw>) -> u32
     requires root { IsFree domain.now root.old }
     requires grants { HasGrants domain.now }
     ensures { IsReady domain.now root.new }

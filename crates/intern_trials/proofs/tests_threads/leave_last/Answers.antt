@@ -24,8 +24,7 @@ pub returns-clause-root : goal.returns-clause-root
 returns-clause-root c =
     let free = λ (d : Done). IsFree c.args.domain.now d.seat in
     let last = (All-pop free c.args.done.now.items c.pop.new.self.items c.pop.result
-    c.pop.ensures.items c.requires.done).1 in
-    (
+    c.pop.ensures.items c.requires.done).1 in (
       (
         record {
           rest = c.leave.ensures.rest;
