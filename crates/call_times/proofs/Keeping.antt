@@ -1,5 +1,5 @@
 -- What holds of all elements of a vector holds of them after a push, whether there was memory or not.
-use Rattle.std.proofs.Common.{arith, suc, ◌<◌, length, Bool, true, false, List, [], ◌∷◌, ◌++◌}
+use Rattle.std.proofs.Common.{arith, suc, Bool, true, false, List, [], ◌∷◌, ◌++◌}
 use Rattle.std.specs.List.{Contains, remove}
 use Rattle.std.specs.Prelude.{All, slice_index_or, if◌then◌else◌}
 use Rattle.std.proofs.lemmas.List.Elements.{All-contains, All-nil, All-push}

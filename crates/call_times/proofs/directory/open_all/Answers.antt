@@ -1,4 +1,4 @@
-use Rattle.std.proofs.Common.{ap, arith, subst, sym, ◌≡◌}
+use Rattle.std.proofs.Common.{ap, arith, subst, sym}
 use Rattle.std.specs.Prelude.{All}
 use Rattle.core_events.specs.Runs.{IsShape}
 use Rattle.directory_calls.specs.Directories.{area_of}
