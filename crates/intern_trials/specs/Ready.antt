@@ -33,8 +33,7 @@ Owns old new = (x : SlotId) → times x new.view.core.owned ≡ times x old.view
 abbrev pub IsFree : DomainState DirectoryLaw → SeatState View → Type 0
 IsFree d s = IsReady d s × HasLeft 0 s
 
--- The directory has the first 15,013 weak cells of the domain. Each of the tickets 0 to 3 gives 2000 interns, and
--- ticket 4 gives 2000.
+-- all 15,013 weak cells of the domain are the directory's, and each of five tickets gives 2,000 interns
 pub record HasGrants (d : DomainState DirectoryLaw) : Type 0 where
   pub first : d.protocol.first ≡ 0
   pub cells : d.protocol.cells ≡ 15013

@@ -96,8 +96,8 @@ fn comes_and_goes<R: Wait>(
     shared && gone == Ok(None)
 }
 
-/// Lengths of texts, and where their walks begin. Each byte is `a`, of which the number is 97, and adds 98 to the number
-/// of a text; the 16 cells take that modulo 16, where 257 is 1. So the walk of n bytes begins at 98 n modulo 16.
+/// Lengths of texts, and where their walks begin. Each byte is `a`, whose number is 97, and adds 98 to the number of a
+/// text; the 16 cells take that modulo 16, where 257 is 1. So the walk of n bytes begins at 98 n modulo 16.
 const LENGTHS: [(usize, u32); 5] = [(1, 2), (120, 0), (121, 2), (4095, 14), (4096, 0)];
 
 #[test]
