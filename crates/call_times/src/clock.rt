@@ -17,11 +17,20 @@ use std::rt::Clock;
 use std::sync::Wait;
 use std::thread;
 use std::thread::Threads;
-use std::time::Instant;
+use std::time::{Duration, Instant};
 
 /// Tenths of a nanosecond.
 #[derive(Clone, Copy, PartialEq, Eq, Debug, Drop)]
 pub struct Tenths(pub u128);
+
+impl Tenths {
+    /// The time of one of so many turns, which took this time together.
+    pub fn of_each(elapsed: Duration, turns: u64) -> Tenths
+        requires { 0 < turns }
+    {
+        Tenths(elapsed.as_nanos() * 10 / u128::from(turns))
+    }
+}
 
 /// Puts an object into the cell.
 fn begin(domain: &Domain<Objects>, root: &mut Seat<Objects>)
@@ -56,5 +65,5 @@ pub fn time<R: Threads + Wait + Clock + Sync>(
     )
     .map_err(OutOfMemory::from)?;
     let elapsed = start.elapsed(rt)?;
-    Ok(Tenths(elapsed.as_nanos() * 10 / u128::from(operation.turns())))
+    Ok(Tenths::of_each(elapsed, operation.turns()))
 }

@@ -1,12 +1,13 @@
 //! A domain for some threads, each of which has every other seat.
-ghost use Rattle.std.specs.Prelude.{◌<◌, ◌≤◌, ⊤, All, IfOk, OnOk, length};
+ghost use Rattle.std.specs.Prelude.{◌<◌, ◌≤◌, ⊤, All, IfOk, IfSome, length};
+ghost use Rattle.std.specs.List.{Contains};
 ghost use Rattle.call_times.specs.Free.{IsFree};
 ghost use Rattle.call_times.specs.Trials.{weightless};
 
 use crate::fault::Fault;
 use acquire_retire::{Domain, Quota, Seat, Shape, open_domain};
 use out_of_memory::OutOfMemory;
-use plain_protocol::NoLaw;
+use plain_protocol::{NoLaw, Protocol};
 use plain_state::PayloadKind;
 use std::alloc::Global;
 
@@ -71,7 +72,7 @@ pub fn open(alloc: Global, threads: u32) -> Result<Opened, Fault>
 {
     let (domain, mut others) = open_all(alloc, threads)?;
     let root = others.remove(0);
-    let workers = every_other(alloc, &domain, others, threads)?;
+    let workers = every_other::<Objects>(alloc, others, threads)?;
     Ok(Opened {
         domain,
         root,
@@ -80,36 +81,28 @@ pub fn open(alloc: Global, threads: u32) -> Result<Opened, Fault>
 }
 
 /// Of seats 1 to 2·threads + 1 those with an even number, the last one first.
-fn every_other(
+pub fn every_other<P: Protocol>(
     alloc: Global,
-    domain: &Domain<Objects>,
-    mut seats: Vec<Seat<Objects>>,
+    mut seats: Vec<Seat<P>>,
     threads: u32,
-) -> Result<Vec<Seat<Objects>>, Fault>
-    requires { All (IsFree domain.now) seats.items }
-    ensures { IfOk result (λ workers. All (IsFree domain.now) workers.items) }
+) -> Result<Vec<Seat<P>>, Fault>
+    ensures { IfOk result (λ workers. All (Contains seats.items) workers.items) }
 {
     let mut workers = Vec::new(alloc);
     for _thread in 0..threads {
-        take_second(domain, &mut seats, &mut workers)?;
+        let Some(seat) = take_second::<P>(&mut seats) else {
+            return Ok(workers);
+        };
+        workers.push(seat).map_err(OutOfMemory::from)?;
     }
     Ok(workers)
 }
 
-/// Drops the last seat, and keeps the one before it.
-fn take_second(
-    domain: &Domain<Objects>,
-    seats: &mut Vec<Seat<Objects>>,
-    workers: &mut Vec<Seat<Objects>>,
-) -> Result<(), Fault>
-    requires seats { All (IsFree domain.now) seats.old.items }
-    requires workers { All (IsFree domain.now) workers.old.items }
-    ensures seats { OnOk result (All (IsFree domain.now) seats.new.items) }
-    ensures workers { OnOk result (All (IsFree domain.now) workers.new.items) }
+/// Drops the last seat, and takes the one before it.
+fn take_second<P: Protocol>(seats: &mut Vec<Seat<P>>) -> Option<Seat<P>>
+    ensures seats { All (Contains seats.old.items) seats.new.items }
+    ensures second { IfSome result (Contains seats.old.items) }
 {
     seats.pop();
-    if let Some(seat) = seats.pop() {
-        workers.push(seat).map_err(OutOfMemory::from)?;
-    }
-    Ok(())
+    seats.pop()
 }

@@ -15,8 +15,10 @@
 ghost use Rattle.std.specs.Prelude.{◌≤◌, IfSome};
 
 mod clock;
+mod directory;
 mod domain;
 mod fault;
+mod interning;
 mod operation;
 mod strong_turns;
 mod turns;
@@ -24,6 +26,7 @@ mod weak_turns;
 
 use crate::clock::{Tenths, time};
 use crate::fault::Fault;
+use crate::interning::time_interns;
 use crate::operation::OPERATIONS;
 use std::alloc::Global;
 use std::env;
@@ -60,10 +63,17 @@ fn time_all<R: Print + Clock + Threads + Wait + Sync>(
     requires { (1 ≤ threads) × (threads ≤ 15) }
 {
     for operation in OPERATIONS {
-        let Tenths(tenths) = time(rt, alloc, operation, threads)?;
-        let name = operation.name();
-        println!(rt; "cdrc {name} {threads} {}.{}", tenths / 10, tenths % 10)?;
+        let each = time(rt, alloc, operation, threads)?;
+        print_line(rt, operation.name(), threads, each)?;
     }
+    let each = time_interns(rt, alloc, threads)?;
+    print_line(rt, "intern", threads, each)
+}
+
+/// Prints the line of an operation.
+fn print_line<R: Print>(rt: &R, name: &str, threads: u32, each: Tenths) -> Result<(), Fault> {
+    let Tenths(tenths) = each;
+    println!(rt; "cdrc {name} {threads} {}.{}", tenths / 10, tenths % 10)?;
     Ok(())
 }
 

@@ -1,4 +1,4 @@
-use Rattle.std.proofs.Common.{ap, subst, sym, ◌≡◌}
+use Rattle.std.proofs.Common.{ap, subst, sym}
 use Rattle.std.specs.Prelude.{All}
 use Rattle.core_events.specs.Runs.{IsShape}
 use Rattle.control_word.proofs.Beginning.{all_at_rest}

@@ -1,5 +1,3 @@
-use Rattle.std.proofs.Common.{arith, ap, refl, subst}
-use Rattle.plain_state.specs.declared.slot.SlotId.{SlotId}
 use Rattle.call_times.proofs.Copying.{still_owned}
 use Rattle.call_times.proofs.strong_turns.copy_once.Goals as goal
 

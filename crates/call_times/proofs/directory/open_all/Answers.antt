@@ -1,0 +1,16 @@
+use Rattle.std.proofs.Common.{ap, arith, subst, sym}
+use Rattle.std.specs.Prelude.{All}
+use Rattle.core_events.specs.Runs.{IsShape}
+use Rattle.directory_calls.specs.Directories.{area_of}
+use Rattle.directory_law.specs.Owned.{first_view}
+use Rattle.call_times.specs.Interning.{IsFreeToIntern}
+use Rattle.call_times.proofs.Opened.{all_free}
+use Rattle.call_times.proofs.directory.open_all.Goals as goal
+
+pub returns-clause-free : goal.returns-clause-free
+returns-clause-free c =
+    let opened = c.in_ok-open_domain.ensures {u = tt} in
+    let d = c.in_ok-open_domain.field-0.0 in
+    subst (All (IsFreeToIntern d)) (sym opened.seats)
+    (all_free (first_view (area_of c.granted-law.result)) (λ n. omega arith) d
+    (subst IsShape (sym (ap (λ x. x.shape) opened.domain)) opened.ranges.0))

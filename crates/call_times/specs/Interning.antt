@@ -1,0 +1,38 @@
+-- A seat that interns texts of a directory, and the domain that lets it.
+use Rattle.std.specs.Prelude.{ℕ, ◌≡◌, ◌+◌, ◌<◌, ◌≤◌, slice_index_or}
+use Rattle.core_events.specs.Steps.{HasRoom}
+use Rattle.acquire_retire.specs.Domains.{DomainState}
+use Rattle.acquire_retire.specs.Seats.{SeatState}
+use Rattle.control_word.specs.Resting.{IsAtRest}
+use Rattle.directory_law.specs.declared.view.GivenTo.TheVariants.{Tickets}
+use Rattle.directory_law.specs.declared.view.View.{View}
+use Rattle.directory_protocol.specs.declared.law.DirectoryLaw.{DirectoryLaw}
+use Rattle.text_reading.specs.Reading.{HasTwoFree}
+
+-- it is in no call, has room, and two announcement words that stand for nothing
+pub record IsReadyToIntern (d : DomainState DirectoryLaw) (s : SeatState View) : Type 0 where
+  pub rest : IsAtRest d s
+  pub room : HasRoom s.view.core
+  pub free : HasTwoFree s.view.core
+
+-- so many interns are left to it
+abbrev pub HasLeft : ℕ → SeatState View → Type 0
+HasLeft n s = s.view.client.used + n ≤ s.view.client.quota
+
+-- it is ready, and has used no more interns than it has
+abbrev pub IsFreeToIntern : DomainState DirectoryLaw → SeatState View → Type 0
+IsFreeToIntern d s = IsReadyToIntern d s × HasLeft 0 s
+
+-- it has used n interns at most
+pub record Spends (n : ℕ) (old new : SeatState View) : Type 0 where
+  pub used : new.view.client.used ≤ old.view.client.used + n
+  pub quota : new.view.client.quota ≡ old.view.client.quota
+
+-- all weak cells are the directory's, and each of so many tickets gives the interns of all turns
+pub record HasGrants (threads : ℕ) (d : DomainState DirectoryLaw) : Type 0 where
+  pub first : d.protocol.first ≡ 0
+  pub cells : d.protocol.cells ≡ d.shape.weak_cells
+  pub some_cells : 0 < d.shape.weak_cells
+  pub to : d.protocol.to ≡ Tickets
+  pub each :
+      (t : ℕ) → t < threads → slice_index_or d.protocol.interns.items t 0 ≡ 250000

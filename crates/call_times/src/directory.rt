@@ -1,0 +1,69 @@
+//! A domain with a directory of texts, for some threads, each of which has every other seat.
+ghost use Rattle.std.specs.Prelude.{◌≡◌, ◌*◌, ◌<◌, ◌≤◌, All, IfOk, length};
+ghost use Rattle.call_times.specs.Interning.{HasGrants, IsFreeToIntern};
+
+use crate::domain::every_other;
+use crate::fault::Fault;
+use acquire_retire::{Domain, Quota, Seat, Shape, open_domain};
+use directory_protocol::DirectoryLaw;
+use out_of_memory::OutOfMemory;
+use std::alloc::Global;
+
+/// How many texts a thread interns.
+pub const TURNS: u32 = 250_000;
+
+/// As much as a seat may ever have.
+const WIDE: Quota = Quota {
+    makes: 1 << 40,
+    adds: 1 << 40,
+};
+
+/// A domain with seat 0, and a seat for each thread.
+#[derive(Drop)]
+pub struct OpenedDirectory {
+    pub domain: Domain<DirectoryLaw>,
+    pub root: Seat<DirectoryLaw>,
+    pub workers: Vec<Seat<DirectoryLaw>>,
+}
+
+/// A domain of 2(threads + 1) seats, and these seats. Its directory has a cell for each intern, as its law asks, and a
+/// ticket for each thread gives the interns of that thread.
+fn open_all(
+    alloc: Global,
+    threads: u32,
+) -> Result<(Domain<DirectoryLaw>, Vec<Seat<DirectoryLaw>>), Fault>
+    requires { (1 ≤ threads) × (threads ≤ 15) }
+    ensures grants { IfOk result (λ opened. HasGrants threads opened.0) }
+    ensures seats { IfOk result (λ opened. 0 < length opened.1.items) }
+    ensures free { IfOk result (λ opened. All (IsFreeToIntern opened.0) opened.1.items) }
+{
+    let seats = 2 * threads + 2;
+    let shape = Shape {
+        seats,
+        slots: 1 << 20,
+        cells: 4,
+        weak_cells: TURNS * threads,
+        batch: 4 * seats,
+    };
+    let interns = vec![in alloc; u64::from(TURNS); threads as usize].map_err(OutOfMemory::from)?;
+    let quotas = vec![in alloc; WIDE; seats as usize].map_err(OutOfMemory::from)?;
+    let law = DirectoryLaw::granted(0, TURNS * threads, interns);
+    Ok(open_domain(alloc, shape, &quotas, law)?)
+}
+
+/// Opens a domain of 2(threads + 1) seats, and takes seat 2i for thread i.
+pub fn open_directory(alloc: Global, threads: u32) -> Result<OpenedDirectory, Fault>
+    requires { (1 ≤ threads) × (threads ≤ 15) }
+    ensures grants { IfOk result (λ opened. HasGrants threads opened.domain) }
+    ensures workers { IfOk result (λ opened.
+        All (IsFreeToIntern opened.domain) opened.workers.items) }
+{
+    let (domain, mut others) = open_all(alloc, threads)?;
+    let root = others.remove(0);
+    let workers = every_other::<DirectoryLaw>(alloc, others, threads)?;
+    Ok(OpenedDirectory {
+        domain,
+        root,
+        workers,
+    })
+}

@@ -1,0 +1,129 @@
+//! Turns that intern texts, and their time.
+ghost use Rattle.std.specs.Prelude.{◌≡◌, ◌<◌, ◌≤◌, IfSome};
+ghost use Rattle.directory_calls.specs.Directories.{IsOver};
+ghost use Rattle.call_times.specs.Interning.{HasGrants, HasLeft, IsFreeToIntern, IsReadyToIntern, Spends};
+
+use crate::clock::Tenths;
+use crate::directory::{OpenedDirectory, TURNS, open_directory};
+use crate::fault::Fault;
+use acquire_retire::{Domain, Seat};
+use directory_calls::Directory;
+use directory_protocol::DirectoryLaw;
+use out_of_memory::OutOfMemory;
+use std::alloc::Global;
+use std::rt::Clock;
+use std::sync::Wait;
+use std::thread;
+use std::thread::Threads;
+use std::time::Instant;
+use weak_intern::{draw, intern};
+
+/// How many texts there are: w0, w1 and so on.
+const TEXTS: u64 = 5000;
+
+/// The wall time of one turn, where so many threads intern texts at once.
+pub fn time_interns<R: Threads + Wait + Clock + Sync>(
+    rt: &R,
+    alloc: Global,
+    threads: u32,
+) -> Result<Tenths, Fault>
+    requires { (1 ≤ threads) × (threads ≤ 15) }
+{
+    let OpenedDirectory {
+        domain,
+        root: _root,
+        workers,
+    } = open_directory(alloc, threads)?;
+    let start = Instant::now(rt)?;
+    thread::map_vec(rt, workers, &|seat| work(rt, &domain, seat, threads)).map_err(
+        OutOfMemory::from,
+    )?;
+    let elapsed = start.elapsed(rt)?;
+    Ok(Tenths::of_each(elapsed, u64::from(TURNS)))
+}
+
+/// What the thread of one seat does: it draws a ticket, for the interns of all its turns, and makes them. The number of
+/// its ticket is the seed.
+fn work<R: Wait>(rt: &R, domain: &Domain<DirectoryLaw>, mut seat: Seat<DirectoryLaw>, threads: u32)
+    requires free { IsFreeToIntern domain.now seat }
+    requires grants { HasGrants threads domain.now }
+{
+    if let Some(number) = draw_turns(domain, &mut seat, threads) {
+        intern_all(rt, domain, &mut seat, number + 1);
+    }
+}
+
+/// Draws a ticket. Its number, if it gives the interns of all turns.
+fn draw_turns(
+    domain: &Domain<DirectoryLaw>,
+    seat: &mut Seat<DirectoryLaw>,
+    threads: u32,
+) -> Option<u64>
+    requires free { IsFreeToIntern domain.now seat.old }
+    requires grants { HasGrants threads domain.now }
+    ensures low { IfSome result (λ number. number < threads) }
+    ensures left { IfSome result (λ number. HasLeft 250000 seat.new) }
+    ensures ready { IsReadyToIntern domain.now seat.new }
+{
+    let number = draw(domain, seat).ok()?;
+    if number < u64::from(threads) {
+        Some(number)
+    } else {
+        None
+    }
+}
+
+/// Makes the turns of a thread: each interns one of the texts, which the seed draws.
+fn intern_all<R: Wait>(
+    rt: &R,
+    domain: &Domain<DirectoryLaw>,
+    seat: &mut Seat<DirectoryLaw>,
+    seed: u64,
+)
+    requires ready { IsReadyToIntern domain.now seat.old }
+    requires over { (domain.now.protocol.first ≡ 0) × (0 < domain.now.shape.weak_cells)
+        × (domain.now.protocol.cells ≡ domain.now.shape.weak_cells) }
+    requires left { HasLeft 250000 seat.old }
+{
+    let directory = Directory::over(0, domain.shape().weak_cells);
+    let mut state = seed;
+    for _turn in 0..TURNS {
+        state = state
+            .wrapping_mul(6_364_136_223_846_793_005)
+            .wrapping_add(1_442_695_040_888_963_407);
+        intern_one(rt, domain, seat, &directory, (state >> 33) % TEXTS);
+    }
+}
+
+/// Interns the text of a number below 10,000, and keeps the reference for good: what was interned once lives on.
+fn intern_one<R: Wait>(
+    rt: &R,
+    domain: &Domain<DirectoryLaw>,
+    seat: &mut Seat<DirectoryLaw>,
+    directory: &Directory,
+    number: u64,
+)
+    requires ready { IsReadyToIntern domain.now seat.old }
+    requires over { IsOver domain.now domain.now.protocol directory.now }
+    requires left { HasLeft 1 seat.old }
+    ensures spends { Spends 1 seat.old seat.new }
+    ensures ready { IsReadyToIntern domain.now seat.new }
+{
+    let digit = |power: u64| b'0' + (number / power % 10) as u8;
+    let mut text = [b'w', digit(1000), digit(100), digit(10), digit(1)];
+    let zeros = leading_zeros(number);
+    text[zeros] = b'w';
+    let _kept = intern(rt, domain, seat, directory, &text[zeros..]);
+}
+
+/// How many of the four digits of a number come before its first one.
+fn leading_zeros(number: u64) -> usize
+    ensures { result ≤ 3 }
+{
+    match number {
+        0..=9 => 3,
+        10..=99 => 2,
+        100..=999 => 1,
+        _ => 0,
+    }
+}

@@ -1,0 +1,67 @@
+use Rattle.std.proofs.Common.{◌≡◌, ◌<◌, arith, subst, sym}
+use Rattle.plain_state.specs.declared.slot.SlotId.{SlotId}
+use Rattle.plain_state.specs.Lists.{times}
+use Rattle.directory_calls.specs.Directories.{area_of}
+use Rattle.directory_calls.specs.Steps.{handle_by, with_found}
+use Rattle.record_making.proofs.Dropped.{dropped}
+use Rattle.weak_intern.proofs.Meeting.{held_there, saw_there}
+use Rattle.weak_intern.proofs.Sights.{free_still}
+use Rattle.intern_trials.proofs.Returned.{back_again, has_one, one_after, two_free}
+use Rattle.intern_trials.proofs.calls.read_once.Goals as goal
+
+pub raise-requires-clause-owned : goal.raise-requires-clause-owned
+raise-requires-clause-owned g c =
+    has_one c.args.seat.now.view.core.weaks c.see.new.seat.view.core.weaks c.in-Ok-Some.head.slot
+    (held_there c.args.seat.now c.see.new.seat c.in-Ok-Some.field-0 c.in-Ok-Some.head
+    c.in-Ok-Some.field-0-is (c.in-Ok-Some.ensures {u = tt}).leaves).weakly
+
+pub raise-requires-clause-saw : goal.raise-requires-clause-saw
+raise-requires-clause-saw g c = (
+  c.args.cell,
+  saw_there (λ v. v) c.args.domain.now (area_of c.args.domain.now.protocol) c.args.cell
+      c.args.seat.now c.see.new.seat c.in-Ok-Some.field-0 c.in-Ok-Some.head c.in-Ok-Some.field-0-is
+      (c.in-Ok-Some.ensures {u = tt}).sees,
+)
+
+pub read_text-size-requires-clause-held : goal.read_text-size-requires-clause-held
+read_text-size-requires-clause-held g c =
+    subst (λ s. 0 < times s c.raise.new.seat.view.core.owned) (sym c.slot.ensures)
+    (has_one c.see.new.seat.view.core.owned c.raise.new.seat.view.core.owned c.in-Ok.record.slot
+    (subst (λ r. (x : SlotId) → times x c.raise.new.seat.view.core.owned
+    ≡ times x (with_found (handle_by r) c.see.new.seat.view.core.owned)) c.in-Ok.is
+    c.raise.ensures.leaves.owns))
+
+pub read_text-size-requires-clause-free : goal.read_text-size-requires-clause-free
+read_text-size-requires-clause-free g c =
+    free_still c.see.new.seat c.raise.new.seat c.raise.ensures.leaves.same
+    (free_still c.args.seat.now c.see.new.seat
+    (held_there c.args.seat.now c.see.new.seat c.in-Ok-Some.field-0 c.in-Ok-Some.head
+    c.in-Ok-Some.field-0-is (c.in-Ok-Some.ensures {u = tt}).leaves).same
+    (two_free c.args.seat.now.view.core c.requires.ready.none))
+
+pub drop_strong-requires-clause-owned : goal.drop_strong-requires-clause-owned
+drop_strong-requires-clause-owned g c =
+    let held = has_one c.see.new.seat.view.core.owned c.raise.new.seat.view.core.owned
+    c.in-Ok.record.slot
+    (subst (λ r. (x : SlotId) → times x c.raise.new.seat.view.core.owned
+    ≡ times x (with_found (handle_by r) c.see.new.seat.view.core.owned)) c.in-Ok.is
+    c.raise.ensures.leaves.owns) in
+    let same = c.read_text-size.ensures.leaves.owns c.in-Ok.record.slot in
+    omega (arith, held, same)
+
+pub returns-clause-owns : goal.returns-clause-owns
+returns-clause-owns g c =
+    back_again c.args.seat.now.view.core.owned c.read_text-size.new.seat.view.core.owned
+    c.drop_strong.new.seat.view.core.owned c.in-Ok.record.slot
+    (λ x.
+    let more = one_after c.args.seat.now.view.core.owned c.see.new.seat.view.core.owned
+    c.raise.new.seat.view.core.owned c.in-Ok.record.slot
+    (held_there c.args.seat.now c.see.new.seat c.in-Ok-Some.field-0 c.in-Ok-Some.head
+    c.in-Ok-Some.field-0-is (c.in-Ok-Some.ensures {u = tt}).leaves).owns
+    (subst (λ r. (x : SlotId) → times x c.raise.new.seat.view.core.owned
+    ≡ times x (with_found (handle_by r) c.see.new.seat.view.core.owned)) c.in-Ok.is
+    c.raise.ensures.leaves.owns) x in
+    let same = c.read_text-size.ensures.leaves.owns x in
+    omega (arith, more, same))
+    (dropped c.read_text-size.new.seat c.drop_strong.new.seat c.in-Ok.record.slot _
+    c.args.domain.now c.drop_strong.ensures.dropped c.drop_strong.ensures.objects).owns

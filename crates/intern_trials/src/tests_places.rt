@@ -1,0 +1,124 @@
+//! Texts whose walks begin at one cell, go around the end, and find every cell set.
+ghost use Rattle.std.specs.Prelude.{◌<◌, ◌≤◌, length};
+ghost use Rattle.directory_calls.specs.Directories.{IsOver};
+ghost use Rattle.intern_trials.specs.Ready.{HasLeft, IsReady, Spends};
+
+use crate::tests::open_alone;
+use crate::{find_once, intern_for_good, intern_once, read_once, slot_in};
+use acquire_retire::{Domain, Seat};
+use directory_calls::Directory;
+use directory_protocol::DirectoryLaw;
+use std::sync::Wait;
+use std::test::Fail;
+
+/// Texts of one byte, and the cells in which their records come to stand. The bytes are 98, 102, 106 and 110, and the
+/// walk of such a text begins at the byte's number and 1, modulo 4 cells: at cell 3, each of them. So the second walk
+/// goes on around the end to cell 0, and the last one to cell 2.
+const ROUND: [(u8, u32); 4] = [(b'b', 3), (b'f', 0), (b'j', 1), (b'n', 2)];
+
+/// Whether a text of one byte, which is kept for good, gets its record in this cell.
+fn is_put<R: Wait>(
+    rt: &R,
+    domain: &Domain<DirectoryLaw>,
+    seat: &mut Seat<DirectoryLaw>,
+    directory: &Directory,
+    byte: u8,
+    cell: u32,
+) -> bool
+    requires ready { IsReady domain.now seat.old }
+    requires over { IsOver domain.now domain.now.protocol directory.now }
+    requires left { HasLeft 1 seat.old }
+    requires inside { cell < directory.now.cells }
+    ensures spends { Spends 1 seat.old seat.new }
+    ensures ready { IsReady domain.now seat.new }
+{
+    let before = slot_in(rt, domain, seat, directory, cell);
+    let interned = intern_for_good(rt, domain, seat, directory, &[byte]);
+    let after = slot_in(rt, domain, seat, directory, cell);
+    before == Ok(None) && interned.is_some() && after == Ok(interned)
+}
+
+/// Whether a text of one byte is found where its record stands, and read back.
+fn is_there<R: Wait>(
+    rt: &R,
+    domain: &Domain<DirectoryLaw>,
+    seat: &mut Seat<DirectoryLaw>,
+    directory: &Directory,
+    byte: u8,
+    cell: u32,
+) -> bool
+    requires ready { IsReady domain.now seat.old }
+    requires over { IsOver domain.now domain.now.protocol directory.now }
+    requires left { HasLeft 0 seat.old }
+    requires inside { cell < directory.now.cells }
+    ensures spends { Spends 0 seat.old seat.new }
+    ensures ready { IsReady domain.now seat.new }
+{
+    let found = find_once(rt, domain, seat, directory, &[byte]);
+    let there = slot_in(rt, domain, seat, directory, cell);
+    let read = read_once(rt, domain, seat, directory, cell, &[byte]);
+    read && found == there
+}
+
+/// Once every cell is set no intern is left, as the contract of `intern` asks; a fifth text that begins at the same
+/// cell is looked for in all four cells.
+#[test]
+fn walks_go_around_the_end_until_every_cell_is_set(rt: HostRuntime) -> Result<(), Fail> {
+    let (domain, mut seat) = open_alone(&rt, 4, 4)?;
+    let directory = Directory::over(0, 4);
+    for (byte, cell) in ROUND {
+        assert!(rt;
+            is_put(&rt, &domain, &mut seat, &directory, byte, cell),
+            "{cell}"
+        );
+    }
+    for (byte, cell) in ROUND {
+        assert!(rt;
+            is_there(&rt, &domain, &mut seat, &directory, byte, cell),
+            "{cell}"
+        );
+    }
+    assert_eq!(rt;
+        find_once(&rt, &domain, &mut seat, &directory, b"r"),
+        Ok(None)
+    );
+    Ok(())
+}
+
+/// Whether a text that is given up at once gets its record in this cell, and is found no more.
+fn is_passed<R: Wait>(
+    rt: &R,
+    domain: &Domain<DirectoryLaw>,
+    seat: &mut Seat<DirectoryLaw>,
+    directory: &Directory,
+    text: &[u8],
+    cell: u32,
+) -> bool
+    requires ready { IsReady domain.now seat.old }
+    requires over { IsOver domain.now domain.now.protocol directory.now }
+    requires left { HasLeft 1 seat.old }
+    requires text { (1 ≤ length text.now) × (length text.now ≤ 4096) }
+    requires inside { cell < directory.now.cells }
+    ensures spends { Spends 1 seat.old seat.new }
+    ensures ready { IsReady domain.now seat.new }
+{
+    let interned = intern_once(rt, domain, seat, directory, text);
+    let there = slot_in(rt, domain, seat, directory, cell);
+    let read = read_once(rt, domain, seat, directory, cell, text);
+    let gone = find_once(rt, domain, seat, directory, text);
+    interned.is_some() && there == Ok(interned) && !read && gone == Ok(None)
+}
+
+/// One text, which ends four times: each cell keeps the record that ended there, and the walk passes it.
+#[test]
+fn walks_pass_the_records_that_have_ended(rt: HostRuntime) -> Result<(), Fail> {
+    let (domain, mut seat) = open_alone(&rt, 4, 4)?;
+    let directory = Directory::over(0, 4);
+    for (_byte, cell) in ROUND {
+        assert!(rt;
+            is_passed(&rt, &domain, &mut seat, &directory, b"b", cell),
+            "{cell}"
+        );
+    }
+    Ok(())
+}
