@@ -1,5 +1,5 @@
 -- What calls leave of a seat that counts words.
-use Rattle.std.proofs.Common.{◌≡◌, ◌⊎◌, inl, ⊎_elim, ℕ, ◌<◌, ◌≤◌, Bool, true, false, List, [], ◌∷◌, ◌++◌, refl, sym, ap, subst, ◌∙◌, arith}
+use Rattle.std.proofs.Common.{◌≡◌, ◌⊎◌, inl, ⊎_elim, ℕ, ◌+◌, ◌<◌, ◌≤◌, Bool, true, false, List, [], ◌∷◌, ◌++◌, refl, sym, ap, subst, ◌∙◌, arith}
 use Rattle.plain_state.specs.declared.slot.SlotId.{SlotId}
 use Rattle.plain_state.specs.Lists.{times}
 use Rattle.core_events.specs.declared.view.CoreView.{CoreView}
@@ -21,9 +21,10 @@ use Rattle.text_reading.specs.Reading.{HasTwoFree}
 use Rattle.linked_queue.specs.Leaving as queue
 use Rattle.linked_queue.specs.Queues.{IsAttached}
 use Rattle.part_calls.specs.Parts.{seen_by}
+use Rattle.directory_law.specs.declared.view.View.{View as DirectoryView}
 use Rattle.words_law.specs.Views.{View}
 use Rattle.words_protocol.specs.declared.law.WordsLaw.{WordsLaw}
-use Rattle.word_lanes.specs.Counting.{OnlyReads}
+use Rattle.word_lanes.specs.Counting.{UsesInterns}
 use Rattle.word_lanes.specs.Ready.{IsReady, Owns, Shared}
 
 pub owns_none : (a : SeatState View) → Owns a.view.core.owned a a
@@ -132,8 +133,32 @@ pub free_still : {os : List SlotId} (a b : SeatState View) → Owns os a b → H
     → HasTwoFree b.view.core
 free_still a b owns free = subst HasTwoFree (sym owns.same) free
 
-pub quota_same : (v w : View) → OnlyReads v w → HasQuota v.1 → HasQuota w.1
-quota_same v w only is = let q = only.quota in let u = only.used in omega (arith, is)
+pub quota_same : (v w : View) → UsesInterns 0 v w → HasQuota v.1 → HasQuota w.1
+quota_same v w uses is = let q = uses.quota in let u = uses.used in omega (arith, is)
+
+-- INTERNS that calls use, one after the other
+pub uses_none : (v w : View) → w.1 ≡ v.1 → UsesInterns 0 v w
+uses_none v w same = record {
+  quota = ap (λ (d : DirectoryView). d.quota) same;
+  used = let u = ap (λ (d : DirectoryView). d.used) same in omega arith;
+}
+
+pub uses_then : (m n : ℕ) (u v w : View) → UsesInterns m u v → UsesInterns n v w
+    → UsesInterns (m + n) u w
+uses_then m n u v w first second = record {
+  quota = second.quota ∙ first.quota;
+  used = let a = first.used in let b = second.used in omega arith;
+}
+
+-- after a call that left what the seat owns beside its answer, another that left what it owned
+pub owns_on : (os : List SlotId) (a b c : SeatState View) → Owns os a b
+    → ((x : SlotId) → times x a.view.core.owned ≤ times x os) → Owns b.view.core.owned b c
+    → Owns os a c
+owns_on os a b c first more second =
+    owns_as os a c
+    (owns_then a b c first second
+    (λ x. inl (let p = first.strongly x in let q = more x in omega arith)))
+    first.strongly
 
 -- a seat that was ready is so after a call
 pub ready_by : {d : DomainState WordsLaw} {on : Shared} {os : List SlotId} (a b : SeatState View)
