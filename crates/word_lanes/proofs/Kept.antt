@@ -12,7 +12,7 @@ use Rattle.acquire_retire.specs.Seats.{SeatState}
 use Rattle.acquire_retire.specs.Collecting.{ends}
 use Rattle.control_word.specs.Calls.{DropsStrong, with_ended, without_strong}
 use Rattle.control_word.specs.Moves.{KnowsStill}
-use Rattle.control_word.specs.Resting.{IsAtRest}
+use Rattle.control_word.specs.Resting.{IsAtRest, IsSpent}
 use Rattle.protected_loads.proofs.Telling.{holds_has}
 use Rattle.directory_calls.specs.Directories.{HasQuota}
 use Rattle.directory_calls.specs.Steps.{Leaves}
@@ -91,6 +91,19 @@ pub owns_drop : (fits : List ℕ → Type 0) (d : DomainState WordsLaw) (s : Slo
     (a b : SeatState View) → DropsStrong fits d s a b
     → KnowsStill (without_strong s a.view.core) a b → Owns (without s a.view.core.owned) a b
 owns_drop fits d s a b drops knows = gives (ends drops.0) s _ a b drops.1.core knows
+
+-- and the seat is spent if it was
+spent_by : (e : Bool) (s : SlotId) (ms : List Move) (a b : SeatState View)
+    → b.view.core ≡ record (with_ended e s (without_strong s a.view.core)) {
+      trail = a.view.core.trail ++ ms;
+    }
+    → IsSpent a.view.core → IsSpent b.view.core
+spent_by true s ms a b core is = subst IsSpent (sym core) is
+spent_by false s ms a b core is = subst IsSpent (sym core) is
+
+pub spent_drop : (fits : List ℕ → Type 0) (d : DomainState WordsLaw) (s : SlotId)
+    (a b : SeatState View) → DropsStrong fits d s a b → IsSpent a.view.core → IsSpent b.view.core
+spent_drop fits d s a b drops is = spent_by (ends drops.0) s _ a b drops.1.core is
 
 -- the same references by another list
 pub owns_as : {os : List SlotId} (xs : List SlotId) (a b : SeatState View) → Owns os a b

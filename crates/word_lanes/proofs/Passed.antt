@@ -1,11 +1,12 @@
 -- A record that was passed on, after it was interned.
-use Rattle.std.proofs.Common.{◌≡◌, ℕ, ◌<◌, ◌≤◌, Bool, false, List, [], ◌∷◌, ◌++◌, refl, sym, subst, arith}
+use Rattle.std.proofs.Common.{◌≡◌, inl, inr, ⊎_elim, ℕ, ◌<◌, ◌≤◌, Bool, false, List, [], ◌∷◌, ◌++◌, refl, sym, subst, arith}
 use Rattle.std.specs.Prelude.{Err, Ok, OnOk, Result, cond, slice_index_or}
 use Rattle.plain_state.specs.declared.slot.SlotId.{SlotId}
 use Rattle.plain_state.specs.Lists.{times}
 use Rattle.core_invariant.proofs.Kit.{one_same, times_push}
 use Rattle.acquire_retire.specs.Domains.{DomainState}
 use Rattle.acquire_retire.specs.Seats.{SeatState}
+use Rattle.control_word.specs.Resting.{IsSpent}
 use Rattle.domain_rule.specs.Views.{object_in}
 use Rattle.std.proofs.lemmas.List.Elements.{All-from_get_or}
 use Rattle.directory_law.specs.Bytes.{text_bytes}
@@ -17,9 +18,9 @@ use Rattle.words_protocol.specs.declared.law.WordsLaw.{WordsLaw}
 use Rattle.word_lanes.specs.declared.refusal.PieceError.{PieceError}
 use Rattle.word_lanes.specs.declared.refusal.PieceError.TheVariants as refused
 use Rattle.word_lanes.specs.Counting.{Counts, Takes}
-use Rattle.word_lanes.specs.Pieces.{CountsPiece, InternsFirst, IsWhyNotCounted, IsWhyNotPassed, PassesOn, used_by}
+use Rattle.word_lanes.specs.Pieces.{CountsPiece, InternsFirst, IsWhyNotCounted, IsWhyNotPassed, PassesOn, used_of}
 use Rattle.word_lanes.specs.Ready.{Owns}
-use Rattle.word_lanes.specs.Whys.{FindsNoItem}
+use Rattle.word_lanes.specs.Whys.{FindsNoItem, IsWhyNotTaken}
 use Rattle.word_lanes.proofs.Copied.{knows_still}
 use Rattle.word_lanes.proofs.Counted.{takes_later, takes_then}
 use Rattle.word_lanes.proofs.Offered.{texts}
@@ -74,36 +75,50 @@ module _ (fits : List ℕ → Type 0) (d : DomainState WordsLaw) where
         knows_still s known.0 b c passes_on.takes.counts.more same known.2,
       )
 
-    -- it stopped there
+    -- it stopped there, and gave the record up
     module _ (c e : SeatState View) (same : e.view.client ≡ c.view.client)
-        (before after : List (List ℕ × ℕ)) (error : PieceError)
-        (why : (text : Text) → Knows texts s text b
-        → IsWhyNotPassed fits d (text_bytes text) s error b c.view.client before after) where
-      why_last : IsWhyNotPassed fits d piece s error b e.view.client before after
-      why_last =
-          subst (λ (w : View). IsWhyNotPassed fits d piece s error b w before after) (sym same)
-          (subst (λ (w : List ℕ). IsWhyNotPassed fits d w s error b c.view.client before after)
-          bytes (why known.0 known.2))
+        (spent : IsSpent c.view.core → IsSpent e.view.core) (before after : List (List ℕ × ℕ))
+        (error : PieceError) (why : (text : Text) → Knows texts s text b
+        → IsWhyNotPassed fits d (text_bytes text) s error b c before after) where
+      why_last : IsWhyNotPassed fits d piece s error b c before after
+      why_last = subst (λ (w : List ℕ). IsWhyNotPassed fits d w s error b c before after) bytes
+          (why known.0 known.2)
+
+      stops : (x : PieceError) → IsWhyNotPassed fits d piece s x b c before after
+          → IsWhyNotCounted fits d piece x a e before after × (used_of x ≡ 1)
+      stops (refused.Interning why) is = absurd is
+      stops (refused.Offering why) is = (
+        record {
+          slot = s;
+          interned = b;
+          first = first;
+          why = (
+            ⊎_elim (λ none. inl (none.0, none.1, spent none.2)) (λ made. inr made) is.0,
+            subst (λ (v : View). Counts [] [] b.view.client v) (sym same) is.1,
+            is.2,
+          );
+        },
+        refl,
+      )
+      stops (refused.Taking why) is = (
+        record {
+          slot = s;
+          interned = b;
+          first = first;
+          why = (
+            is.0,
+            is.1,
+            subst (λ (v : View). IsWhyNotTaken why is.0 v before after) (sym same) is.2,
+          );
+        },
+        refl,
+      )
 
       pub piece_stops : IsWhyNotCounted fits d piece error a e before after
-      piece_stops = stops error why_last
-        where
-          stops : (x : PieceError) → IsWhyNotPassed fits d piece s x b e.view.client before after
-              → IsWhyNotCounted fits d piece x a e before after
-          stops (refused.Interning why) is = absurd is
-          stops (refused.Offering why) is =
-              record { slot = s; interned = b; first = first; why = is }
-          stops (refused.Taking why) is =
-              record { slot = s; interned = b; first = first; why = is }
+      piece_stops = (stops error why_last).0
 
-      pub piece_used : (T : Type 0) → used_by {T = T} (Err error) ≡ 1
-      piece_used T = used error why_last
-        where
-          used : (x : PieceError) → IsWhyNotPassed fits d piece s x b e.view.client before after
-              → used_by {T = T} (Err x) ≡ 1
-          used (refused.Interning why) is = absurd is
-          used (refused.Offering why) is = refl
-          used (refused.Taking why) is = refl
+      pub piece_used : used_of error ≡ 1
+      piece_used = (stops error why_last).1
 
 -- THE REFERENCE to the record, which the seat owns beside the others
 module _ (s : SlotId) (os : List SlotId) (a b c : SeatState View)

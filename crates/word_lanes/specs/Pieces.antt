@@ -20,10 +20,13 @@ use Rattle.word_lanes.specs.Counting.{Counts, Takes}
 use Rattle.word_lanes.specs.Whys.{FindsNoItem, IsWhyNotCopied, IsWhyNotTaken}
 
 -- an intern is used unless the piece has no record
+abbrev pub used_of : PieceError → ℕ
+used_of (refused.Interning why) = 0
+used_of error = 1
+
 abbrev pub used_by : {T : Type 0} → Result T PieceError → ℕ
 used_by (Ok x) = 1
-used_by (Err (refused.Interning why)) = 0
-used_by (Err error) = 1
+used_by (Err error) = used_of error
 
 -- the cells and the interns of the directory
 abbrev pub texts_of : DomainState WordsLaw → Area
@@ -68,22 +71,23 @@ module _ (fits : List ℕ → Type 0) (d : DomainState WordsLaw) where
       MissesWithin fits d old new × AtStep d (λ p. HasNoRecord (texts_of d) p piece) old new
 
   -- Why s wasn't passed on: its copy wasn't pushed, and nothing popped; or it was pushed, and then no word was counted.
-  abbrev pub IsWhyNotPassed : List ℕ → SlotId → PieceError → SeatState View → View
+  abbrev pub IsWhyNotPassed : List ℕ → SlotId → PieceError → SeatState View → SeatState View
       → List (List ℕ × ℕ) → List (List ℕ × ℕ) → Type 0
-  IsWhyNotPassed word s (refused.Interning why) old w before after = ⊥
-  IsWhyNotPassed word s (refused.Offering why) old w before after =
-      IsWhyNotCopied fits d s why old × Counts [] [] old.view.client w × (after ≡ before)
-  IsWhyNotPassed word s (refused.Taking why) old w before after =
+  IsWhyNotPassed word s (refused.Interning why) old new before after = ⊥
+  IsWhyNotPassed word s (refused.Offering why) old new before after =
+      IsWhyNotCopied fits d s why old new × Counts [] [] old.view.client new.view.client
+      × (after ≡ before)
+  IsWhyNotPassed word s (refused.Taking why) old new before after =
       (offered : SeatState View) × Counts (word ∷ []) [] old.view.client offered.view.client
-      × IsWhyNotTaken why offered w before after
+      × IsWhyNotTaken why offered new.view.client before after
 
   -- it was interned as some slot, which then wasn't passed on
-  pub record StopsLater (piece : List ℕ) (error : PieceError) (old : SeatState View) (w : View)
+  pub record StopsLater (piece : List ℕ) (error : PieceError) (old new : SeatState View)
       (before after : List (List ℕ × ℕ)) : Type 0 where
     pub slot : SlotId
     pub interned : SeatState View
     pub first : InternsFirst d piece slot old interned
-    pub why : IsWhyNotPassed piece slot error interned w before after
+    pub why : IsWhyNotPassed piece slot error interned new before after
 
   -- why a piece wasn't counted
   abbrev pub IsWhyNotCounted : List ℕ → PieceError → SeatState View → SeatState View
@@ -92,4 +96,4 @@ module _ (fits : List ℕ → Type 0) (d : DomainState WordsLaw) where
       IsWhyNotInterned piece why old new × Counts [] [] old.view.client new.view.client
       × (after ≡ before)
   IsWhyNotCounted piece error old new before after =
-      StopsLater piece error old new.view.client before after
+      StopsLater piece error old new before after

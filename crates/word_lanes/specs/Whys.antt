@@ -37,10 +37,11 @@ module _ (fits : List ℕ → Type 0) (d : DomainState WordsLaw) where
     pub copies : GainsStrong fits d same_view IsSameView s old copied
     pub not_offered : IsWhyNotOffered s why copied
 
-  -- why no copy of s was pushed: no add was left for it, or it was made and wasn't pushed
-  abbrev pub IsWhyNotCopied : SlotId → MakeError → SeatState View → Type 0
-  IsWhyNotCopied s why old =
-      ((why ≡ unmade.AddsSpent) × IsSpent old.view.core) ⊎ IsWhyCopyStays s why old
+  -- why no copy of s was pushed: no add was left for it, and none is, or it was made and wasn't pushed
+  abbrev pub IsWhyNotCopied : SlotId → MakeError → SeatState View → SeatState View → Type 0
+  IsWhyNotCopied s why old new =
+      ((why ≡ unmade.AddsSpent) × IsSpent old.view.core × IsSpent new.view.core)
+      ⊎ IsWhyCopyStays s why old
 
   -- the seat popped nothing, and found nothing linked behind the head's node, at a step between these two states
   abbrev pub FindsNoItem : SeatState View → SeatState View → Type 0

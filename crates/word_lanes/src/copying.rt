@@ -42,7 +42,7 @@ pub fn offer_copy<R: Wait>(
     ensures owns { Owns seat.old.view.core.owned seat.old seat.new }
     ensures why { IfErr result (λ why. IsWhyNotCopied
         ⟦<PairKind<NodeKind, RecordKind> as PayloadKind>⟧.fits domain.now handle.now.slot why
-        seat.old) }
+        seat.old seat.new) }
     ensures interns { UsesInterns 0 seat.old.view.client seat.new.view.client }
     ensures ready { IsReady domain.now shared.now seat.new }
 {

@@ -98,8 +98,7 @@ fn pass_on<R: Wait>(
     ensures why { IfErr result (λ error. (text : Text)
         → Knows (λ (v : View). v.1) handle.now.slot text seat.old
         → IsWhyNotPassed ⟦<PairKind<NodeKind, RecordKind> as PayloadKind>⟧.fits domain.now
-        (text_bytes text) handle.now.slot error seat.old seat.new.view.client
-        tally.old tally.new) }
+        (text_bytes text) handle.now.slot error seat.old seat.new tally.old tally.new) }
     ensures interns { UsesInterns 0 seat.old.view.client seat.new.view.client }
     ensures owns { Owns seat.old.view.core.owned seat.old seat.new }
     ensures ready { IsReady domain.now shared.now seat.new }

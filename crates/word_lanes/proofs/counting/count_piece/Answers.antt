@@ -1,9 +1,8 @@
 use Rattle.std.proofs.Common.{refl, sym, subst, arith}
-use Rattle.counted_handles.specs.Handles.{Handle}
 use Rattle.words_law.specs.Views.{View}
 use Rattle.word_lanes.specs.Counting.{UsesInterns}
 use Rattle.word_lanes.proofs.Copied.{copy_ready}
-use Rattle.word_lanes.proofs.Kept.{owns_back, owns_drop, owns_on, uses_then}
+use Rattle.word_lanes.proofs.Kept.{owns_back, owns_drop, owns_on, spent_drop, uses_then}
 use Rattle.word_lanes.proofs.Passed.{had_more, piece_counts, piece_knows, piece_steps, piece_stops, piece_used, same_record, still_more}
 use Rattle.word_lanes.proofs.counting.count_piece.Goals as goal
 
@@ -58,6 +57,8 @@ returns-in-Err-pass_on-clause-why g c =
     piece_stops _ c.args.domain.now c.args.piece.now (λ i. omega (arith, c.type_inv.piece i))
     c.in-Ok.handle.slot c.args.seat.now c.intern_piece.new.seat c.in-Ok.ensures.first
     c.in-Ok.ensures.knows c.pass_on.new.seat c.drop_strong.new.seat c.drop_strong.ensures.client
+    (spent_drop _ c.args.domain.now c.in-Ok.handle.slot c.pass_on.new.seat
+    c.drop_strong.new.seat c.drop_strong.ensures.dropped)
     c.args.tally.now c.pass_on.new.tally c.in-Err-pass_on.error c.in-Err-pass_on.ensures.why
 
 pub returns-in-Err-pass_on-clause-interns : goal.returns-in-Err-pass_on-clause-interns
@@ -67,8 +68,9 @@ returns-in-Err-pass_on-clause-interns g c =
     (λ i. omega (arith, c.type_inv.piece i))
     c.in-Ok.handle.slot c.args.seat.now c.intern_piece.new.seat c.in-Ok.ensures.first
     c.in-Ok.ensures.knows c.pass_on.new.seat c.drop_strong.new.seat c.drop_strong.ensures.client
-    c.args.tally.now c.pass_on.new.tally c.in-Err-pass_on.error c.in-Err-pass_on.ensures.why
-    Handle))
+    (spent_drop _ c.args.domain.now c.in-Ok.handle.slot c.pass_on.new.seat
+    c.drop_strong.new.seat c.drop_strong.ensures.dropped)
+    c.args.tally.now c.pass_on.new.tally c.in-Err-pass_on.error c.in-Err-pass_on.ensures.why))
     (subst (λ (v : View). UsesInterns 1 c.args.seat.now.view.client v)
     (sym c.drop_strong.ensures.client)
     (uses_then 1 0 c.args.seat.now.view.client c.intern_piece.new.seat.view.client
