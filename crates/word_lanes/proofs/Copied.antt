@@ -1,5 +1,5 @@
 -- A reference that is copied before it is pushed.
-use Rattle.std.proofs.Common.{◌≡◌, ◌⊎◌, ℕ, ◌<◌, List, [], ◌∷◌, ◌++◌, refl, sym, ap, subst, arith}
+use Rattle.std.proofs.Common.{◌≡◌, ◌⊎◌, inl, inr, ⊎_elim, ℕ, ◌<◌, List, [], ◌∷◌, ◌++◌, refl, sym, ap, subst, arith}
 use Rattle.std.specs.Prelude.{Err, Ok, OnErr, OnOk, Result}
 use Rattle.plain_state.specs.Lists.{times}
 use Rattle.core_events.specs.Views.{without}
@@ -7,7 +7,10 @@ use Rattle.protected_loads.proofs.Telling.{holds_has}
 use Rattle.directory_law.specs.Bytes.{text_bytes}
 use Rattle.directory_calls.specs.Directories.{HasQuota}
 use Rattle.linked_queue.specs.Queues.{IsAttached}
-use Rattle.word_lanes.specs.Counting.{Counts}
+use Rattle.slot_store.specs.declared.making.MakeError.{MakeError}
+use Rattle.words_law.specs.Known.{ForgetsNothing}
+use Rattle.word_lanes.specs.Counting.{Counts, UsesInterns}
+use Rattle.word_lanes.specs.Whys.{IsWhyCopyStays, IsWhyNotOffered}
 use Rattle.plain_state.specs.declared.slot.SlotId.{SlotId}
 use Rattle.acquire_retire.specs.Calls.{IsSameView, same_view}
 use Rattle.acquire_retire.specs.Domains.{DomainState}
@@ -25,7 +28,7 @@ use Rattle.weak_intern.specs.Knowing.{Knows}
 use Rattle.words_law.specs.Views.{View}
 use Rattle.words_protocol.specs.declared.law.WordsLaw.{WordsLaw}
 use Rattle.word_lanes.specs.Ready.{IsReady, Owns, Shared}
-use Rattle.word_lanes.proofs.Kept.{gave_item, owns_back, owns_by, ready_by}
+use Rattle.word_lanes.proofs.Kept.{gave_item, owns_back, owns_by, ready_by, uses_none, uses_then}
 use Rattle.word_lanes.proofs.Offered.{texts}
 
 -- what a seat knows of the text of s, by its view and by the life and the payload of s
@@ -42,6 +45,25 @@ knows_on s text a b same object known =
     subst (λ (v : View). KnowsAs s text v (object_in b.view s).life (object_in b.view s).payload)
     (sym same)
     (subst (λ o. KnowsAs s text a.view.client o.life o.payload) (sym object) known)
+
+-- and so after calls that forgot nothing, where it still has the same object in s
+pub knows_still : (s : SlotId) (text : Text) (a b : SeatState View)
+    → ForgetsNothing a.view.client.1 b.view.client.1 → object_in b.view s ≡ object_in a.view s
+    → Knows texts s text a → Knows texts s text b
+knows_still s text a b more object known =
+    subst (λ o. KnowsAs s text b.view.client o.life o.payload) (sym object)
+    (⊎_elim
+    (λ bound. inl (more.knows.kept _ bound))
+    (λ saw. inr (
+      (saw.0.0, more.saw _ saw.0.1),
+      saw.1,
+      more.knows.ran _ saw.2,
+      saw.3,
+      saw.4,
+      saw.5,
+      saw.6,
+    ))
+    known)
 
 pub owns_copy : (fits : List ℕ → Type 0) (d : DomainState WordsLaw) (s t : SlotId) → t ≡ s
     → (a b : SeatState View)
@@ -105,3 +127,22 @@ back_owns fits d t u a b c e r error bad is own first kept drops knows =
     (subst (λ (x : SlotId). 0 < times x b.view.core.owned) (sym is) own) in
     owns_back t a.view.core.owned a b e first
     (subst (λ (x : SlotId). Owns (without x b.view.core.owned) b e) is last) (λ x. refl)
+
+pub copy_stays : (fits : List ℕ → Type 0) (d : DomainState WordsLaw) (s t : SlotId) → t ≡ s
+    → (a b : SeatState View) → GainsStrong fits d same_view IsSameView s a b → (why : MakeError)
+    → IsWhyNotOffered fits d t why b → IsWhyCopyStays fits d s why a
+copy_stays fits d s t is a b gains why not = record {
+  copied = b;
+  copies = gains;
+  not_offered = subst (λ (x : SlotId). IsWhyNotOffered fits d x why b) is not;
+}
+
+-- no intern is used between a copy and a drop
+pub copy_interns : (a b c e : SeatState View) → b.view.client ≡ a.view.client
+    → UsesInterns 0 b.view.client c.view.client → e.view.client ≡ c.view.client
+    → UsesInterns 0 a.view.client e.view.client
+copy_interns a b c e first uses last =
+    uses_then 0 0 a.view.client c.view.client e.view.client
+    (uses_then 0 0 a.view.client b.view.client c.view.client
+    (uses_none a.view.client b.view.client (ap texts first)) uses)
+    (uses_none c.view.client e.view.client (ap texts last))

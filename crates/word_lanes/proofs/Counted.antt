@@ -1,9 +1,9 @@
 -- Pushes, pops and tallies one after the other.
-use Rattle.std.proofs.Common.{◌≡◌, if◌then◌else◌, Bool, true, false, ℕ, ◌+◌, List, [], ◌∷◌, ◌++◌, refl, sym, ap, ◌∙◌, arith, append_assoc}
+use Rattle.std.proofs.Common.{◌≡◌, if◌then◌else◌, Bool, true, false, ℕ, ◌+◌, ◌≤◌, List, [], ◌∷◌, ◌++◌, refl, sym, ap, subst, ◌∙◌, arith, append_assoc}
 use Rattle.std.specs.Prelude.{map}
 use Rattle.std.proofs.lemmas.List.{append-nil, map-append, length-append}
 use Rattle.cdrc_text.specs.Fold.{times}
-use Rattle.cdrc_text.specs.Tally.{CountsOneMore}
+use Rattle.cdrc_text.specs.Tally.{CountsOneMore, total_of}
 use Rattle.std.specs.Str.{bytes_eq}
 use Rattle.std.proofs.lemmas.List.Sums.{sum_by-append}
 use Rattle.std.specs.Prelude.{cond}
@@ -12,18 +12,25 @@ use Rattle.queue_law.specs.declared.view.Taken.{Taken}
 use Rattle.queue_law.specs.declared.view.View.{View as QueueView}
 use Rattle.directory_law.specs.declared.view.View.{View as DirectoryView}
 use Rattle.directory_law.specs.Bytes.{text_bytes}
-use Rattle.words_law.specs.Known.{KnowsMore}
+use Rattle.words_law.specs.Known.{ForgetsNothing, KnowsMore}
 use Rattle.words_law.specs.Views.{View}
 use Rattle.words_law.proofs.Known.{knows_all_more, knows_both}
-use Rattle.word_lanes.specs.Counting.{Counts, KnowsWords, Tallies, by_seat, did}
+use Rattle.word_lanes.specs.Counting.{Counts, KnowsWords, Takes, Tallies, by_seat, did}
 
-pub more_none : (v : DirectoryView) → KnowsMore v v
-more_none v = record { kept = λ e in'. in'; ran = λ e in'. in' }
+pub more_none : (v : DirectoryView) → ForgetsNothing v v
+more_none v = record {
+  knows = record { kept = λ e in'. in'; ran = λ e in'. in' };
+  saw = λ e in'. in';
+}
 
-pub more_then : (u v w : DirectoryView) → KnowsMore u v → KnowsMore v w → KnowsMore u w
+pub more_then : (u v w : DirectoryView) → ForgetsNothing u v → ForgetsNothing v w
+    → ForgetsNothing u w
 more_then u v w first second = record {
-  kept = λ e in'. second.kept e (first.kept e in');
-  ran = λ e in'. second.ran e (first.ran e in');
+  knows = record {
+    kept = λ e in'. second.knows.kept e (first.knows.kept e in');
+    ran = λ e in'. second.knows.ran e (first.knows.ran e in');
+  };
+  saw = λ e in'. second.saw e (first.saw e in');
 }
 
 by_none : (n : ℕ) → by_seat n [] ≡ []
@@ -91,9 +98,9 @@ counts_then us ws xs ys a b c first second = record {
   deeds = second.deeds ∙ (ap (did second.pushes second.pops) first.deeds
       ∙ did_then _ first.pushes first.pops second.pushes second.pops);
   pushed_words = words_both c.1 first.pushes second.pushes us xs
-      (words_more b.1 c.1 first.pushes us second.more first.pushed_words) second.pushed_words;
+      (words_more b.1 c.1 first.pushes us second.more.knows first.pushed_words) second.pushed_words;
   popped_words = words_both c.1 first.pops second.pops ws ys
-      (words_more b.1 c.1 first.pops ws second.more first.popped_words) second.popped_words;
+      (words_more b.1 c.1 first.pops ws second.more.knows first.popped_words) second.popped_words;
   more = more_then a.1 b.1 c.1 first.more second.more;
 }
 
@@ -125,3 +132,69 @@ tallies_then us ws r s t first second = record {
       let c = times_append w us ws in omega arith;
   sum = let a = first.sum in let b = second.sum in let c = length-append us ws in omega arith;
 }
+
+-- TAKES. What a call pushed before a take, and a take after a call that pushed and popped nothing
+module _ (n : ℕ) (u v w : View) (before after : List (List ℕ × ℕ)) where
+  pub takes_then : (word : List ℕ) → Counts (word ∷ []) [] u v → Takes [] n v w before after
+      → Takes (word ∷ []) n u w before after
+  takes_then word first take' = record {
+    words = take'.words;
+    number = take'.number;
+    counts = counts_then (word ∷ []) [] [] take'.words u v w first take'.counts;
+    tallies = take'.tallies;
+  }
+
+  pub takes_later : (pushed : List (List ℕ)) → Counts [] [] u v → Takes pushed n v w before after
+      → Takes pushed n u w before after
+  takes_later pushed first take' = record {
+    words = take'.words;
+    number = take'.number;
+    counts = counts_then [] [] pushed take'.words u v w first take'.counts;
+    tallies = take'.tallies;
+  }
+
+pub takes_none : (v : View) (t : List (List ℕ × ℕ)) → Takes [] 0 v v t t
+takes_none v t = record {
+  words = [];
+  number = refl;
+  counts = counts_none v;
+  tallies = tallies_none t;
+}
+
+-- one take after others
+pub takes_more : (m n : ℕ) (u v w : View) (r s t : List (List ℕ × ℕ)) → Takes [] m u v r s
+    → Takes [] n v w s t → Takes [] (m + n) u w r t
+takes_more m n u v w r s t first second = record {
+  words = first.words ++ second.words;
+  number = let a = first.number in let b = second.number in
+      let c = length-append first.words second.words in omega arith;
+  counts = counts_then [] first.words [] second.words u v w first.counts second.counts;
+  tallies = tallies_then first.words second.words r s t first.tallies second.tallies;
+}
+
+-- which popped none, or one
+module _ (n : ℕ) (one : Bool) (u v w : View) (r s t : List (List ℕ × ℕ))
+    (first : Takes [] n u v r s) (second : Takes [] (cond one 1 0) v w s t) where
+  both : Takes [] (n + cond one 1 0) u w r t
+  both = takes_more n (cond one 1 0) u v w r s t first second
+
+  pub takes_last : one ≡ false → Takes [] n u w r t
+  takes_last is =
+      let number : Bool → ℕ = λ b. cond b 1 0 in let e : number one ≡ 0 = ap number is in
+      subst (λ k. Takes [] k u w r t) (omega (arith, e)) both
+
+  pub takes_next : one ≡ true → Takes [] (n + 1) u w r t
+  takes_next is =
+      let number : Bool → ℕ = λ b. cond b 1 0 in let e : number one ≡ 1 = ap number is in
+      subst (λ k. Takes [] k u w r t) (omega (arith, e)) both
+
+pub counted_most : (pushed : List (List ℕ)) (v w : View) (before after : List (List ℕ × ℕ))
+    → (one : Bool) × Takes pushed (cond one 1 0) v w before after
+    → total_of after ≤ total_of before + 1
+counted_most pushed v w before after got =
+    let words = got.1.number in let sum = got.1.tallies.sum in
+    let most = at_most got.0 in omega arith
+  where
+    at_most : (one : Bool) → cond one 1 0 ≤ 1
+    at_most true = omega arith
+    at_most false = omega arith

@@ -1,5 +1,5 @@
 -- What calls leave of a seat that counts words.
-use Rattle.std.proofs.Common.{◌≡◌, ◌⊎◌, inl, ⊎_elim, ℕ, ◌<◌, ◌≤◌, Bool, true, false, List, [], ◌∷◌, ◌++◌, refl, sym, ap, subst, ◌∙◌, arith}
+use Rattle.std.proofs.Common.{◌≡◌, ◌⊎◌, inl, ⊎_elim, ℕ, ◌+◌, ◌<◌, ◌≤◌, Bool, true, false, List, [], ◌∷◌, ◌++◌, refl, sym, ap, subst, ◌∙◌, arith}
 use Rattle.plain_state.specs.declared.slot.SlotId.{SlotId}
 use Rattle.plain_state.specs.Lists.{times}
 use Rattle.core_events.specs.declared.view.CoreView.{CoreView}
@@ -12,7 +12,7 @@ use Rattle.acquire_retire.specs.Seats.{SeatState}
 use Rattle.acquire_retire.specs.Collecting.{ends}
 use Rattle.control_word.specs.Calls.{DropsStrong, with_ended, without_strong}
 use Rattle.control_word.specs.Moves.{KnowsStill}
-use Rattle.control_word.specs.Resting.{IsAtRest}
+use Rattle.control_word.specs.Resting.{IsAtRest, IsSpent}
 use Rattle.protected_loads.proofs.Telling.{holds_has}
 use Rattle.directory_calls.specs.Directories.{HasQuota}
 use Rattle.directory_calls.specs.Steps.{Leaves}
@@ -21,9 +21,10 @@ use Rattle.text_reading.specs.Reading.{HasTwoFree}
 use Rattle.linked_queue.specs.Leaving as queue
 use Rattle.linked_queue.specs.Queues.{IsAttached}
 use Rattle.part_calls.specs.Parts.{seen_by}
+use Rattle.directory_law.specs.declared.view.View.{View as DirectoryView}
 use Rattle.words_law.specs.Views.{View}
 use Rattle.words_protocol.specs.declared.law.WordsLaw.{WordsLaw}
-use Rattle.word_lanes.specs.Counting.{OnlyReads}
+use Rattle.word_lanes.specs.Counting.{UsesInterns}
 use Rattle.word_lanes.specs.Ready.{IsReady, Owns, Shared}
 
 pub owns_none : (a : SeatState View) → Owns a.view.core.owned a a
@@ -91,6 +92,19 @@ pub owns_drop : (fits : List ℕ → Type 0) (d : DomainState WordsLaw) (s : Slo
     → KnowsStill (without_strong s a.view.core) a b → Owns (without s a.view.core.owned) a b
 owns_drop fits d s a b drops knows = gives (ends drops.0) s _ a b drops.1.core knows
 
+-- and the seat is spent if it was
+spent_by : (e : Bool) (s : SlotId) (ms : List Move) (a b : SeatState View)
+    → b.view.core ≡ record (with_ended e s (without_strong s a.view.core)) {
+      trail = a.view.core.trail ++ ms;
+    }
+    → IsSpent a.view.core → IsSpent b.view.core
+spent_by true s ms a b core is = subst IsSpent (sym core) is
+spent_by false s ms a b core is = subst IsSpent (sym core) is
+
+pub spent_drop : (fits : List ℕ → Type 0) (d : DomainState WordsLaw) (s : SlotId)
+    (a b : SeatState View) → DropsStrong fits d s a b → IsSpent a.view.core → IsSpent b.view.core
+spent_drop fits d s a b drops is = spent_by (ends drops.0) s _ a b drops.1.core is
+
 -- the same references by another list
 pub owns_as : {os : List SlotId} (xs : List SlotId) (a b : SeatState View) → Owns os a b
     → ((x : SlotId) → times x os ≡ times x xs) → Owns xs a b
@@ -132,8 +146,32 @@ pub free_still : {os : List SlotId} (a b : SeatState View) → Owns os a b → H
     → HasTwoFree b.view.core
 free_still a b owns free = subst HasTwoFree (sym owns.same) free
 
-pub quota_same : (v w : View) → OnlyReads v w → HasQuota v.1 → HasQuota w.1
-quota_same v w only is = let q = only.quota in let u = only.used in omega (arith, is)
+pub quota_same : (v w : View) → UsesInterns 0 v w → HasQuota v.1 → HasQuota w.1
+quota_same v w uses is = let q = uses.quota in let u = uses.used in omega (arith, is)
+
+-- INTERNS that calls use, one after the other
+pub uses_none : (v w : View) → w.1 ≡ v.1 → UsesInterns 0 v w
+uses_none v w same = record {
+  quota = ap (λ (d : DirectoryView). d.quota) same;
+  used = let u = ap (λ (d : DirectoryView). d.used) same in omega arith;
+}
+
+pub uses_then : (m n : ℕ) (u v w : View) → UsesInterns m u v → UsesInterns n v w
+    → UsesInterns (m + n) u w
+uses_then m n u v w first second = record {
+  quota = second.quota ∙ first.quota;
+  used = let a = first.used in let b = second.used in omega arith;
+}
+
+-- after a call that left what the seat owns beside its answer, another that left what it owned
+pub owns_on : (os : List SlotId) (a b c : SeatState View) → Owns os a b
+    → ((x : SlotId) → times x a.view.core.owned ≤ times x os) → Owns b.view.core.owned b c
+    → Owns os a c
+owns_on os a b c first more second =
+    owns_as os a c
+    (owns_then a b c first second
+    (λ x. inl (let p = first.strongly x in let q = more x in omega arith)))
+    first.strongly
 
 -- a seat that was ready is so after a call
 pub ready_by : {d : DomainState WordsLaw} {on : Shared} {os : List SlotId} (a b : SeatState View)

@@ -1,7 +1,9 @@
 pub mod Begun
 pub mod Copied
 pub mod Counted
+pub mod Interned
 pub mod Kept
 pub mod Offered
+pub mod Passed
 pub mod Read
 pub mod Taken

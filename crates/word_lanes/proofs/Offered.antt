@@ -14,7 +14,7 @@ use Rattle.linked_queue.specs.Pops.{item_in}
 use Rattle.linked_queue.specs.Pushes.{Pushes, PushesNothing, pushed_too}
 use Rattle.linked_queue.specs.Queues.{deeds_in}
 use Rattle.weak_intern.specs.Knowing.{Knows}
-use Rattle.words_law.specs.Known.{KnowsMore, KnowsText}
+use Rattle.words_law.specs.Known.{ForgetsNothing, KnowsText}
 use Rattle.words_law.specs.Pushes.{MayPush}
 use Rattle.words_law.specs.Views.{View}
 use Rattle.core_events.specs.Steps.{HasRoom}
@@ -94,7 +94,7 @@ module _ (s : SlotId) (text : Text) (old new : SeatState View) (known : Knows te
       refl,
     );
     popped_words = ([], tt, refl);
-    more = subst (λ (v : DirectoryView). KnowsMore old.view.client.1 v) (sym same)
+    more = subst (λ (v : DirectoryView). ForgetsNothing old.view.client.1 v) (sym same)
         (more_none old.view.client.1);
   }
 
@@ -117,7 +117,7 @@ module _ (old new : SeatState View) (same : new.view.client.1 ≡ old.view.clien
     deeds = deeds ∙ sym (did_none (deeds_in old.view.client.0));
     pushed_words = ([], tt, refl);
     popped_words = ([], tt, refl);
-    more = subst (λ (v : DirectoryView). KnowsMore old.view.client.1 v) (sym same)
+    more = subst (λ (v : DirectoryView). ForgetsNothing old.view.client.1 v) (sym same)
         (more_none old.view.client.1);
   }
 

@@ -1,7 +1,7 @@
 -- The word of an item that was popped.
-use Rattle.std.proofs.Common.{◌≡◌, inl, inr, ℕ, arith, List, [], ◌∷◌, refl, sym, ap, subst, ◌∙◌}
-use Rattle.std.specs.Prelude.{Err, Ok, OnOk, Result}
-use Rattle.cdrc_text.specs.Tally.{CountsOneMore}
+use Rattle.std.proofs.Common.{◌≡◌, inl, inr, ℕ, arith, List, refl, sym, ap, subst, ◌∙◌}
+use Rattle.std.specs.Prelude.{Err, Ok, OnErr, OnOk, Result}
+use Rattle.cdrc_text.specs.Tally.{CountsOneMore, count_of}
 use Rattle.plain_state.specs.declared.slot.SlotId.{SlotId}
 use Rattle.domain_rule.specs.Views.{object_in}
 use Rattle.acquire_retire.specs.Seats.{SeatState}
@@ -14,7 +14,7 @@ use Rattle.directory_law.specs.Views.{In}
 use Rattle.directory_calls.specs.Learning.{LearnsIn}
 use Rattle.text_reading.specs.Reading.{HasBegun, HasRead, begun}
 use Rattle.words_law.specs.Views.{View}
-use Rattle.word_lanes.specs.Counting.{HasReadIn, OnlyReads, ReadsWord, Tallies, begins}
+use Rattle.word_lanes.specs.Counting.{HasReadIn, OnlyReads, ReadsWord, TalliesIf, begins}
 use Rattle.word_lanes.proofs.Counted.{tallies_one}
 use Rattle.word_lanes.proofs.Offered.{queues, texts}
 
@@ -33,16 +33,22 @@ module _ (s : SlotId) (old now : SeatState View)
     pub only : OnlyReads old.view.client new.view.client
     only = record {
       queue = ap queues last ∙ (ap queues learns.rest ∙ ap queues client);
-      quota = ap (λ (v : View). v.1.quota) last
-          ∙ (learns.part.quota ∙ ap (λ (v : View). v.1.quota) client);
-      used = let l = ap (λ (v : View). v.1.used) last in let m = learns.part.used in
-          let n = ap (λ (v : View). v.1.used) client in omega arith;
+      interns = record {
+        quota = ap (λ (v : View). v.1.quota) last
+            ∙ (learns.part.quota ∙ ap (λ (v : View). v.1.quota) client);
+        used = let l = ap (λ (v : View). v.1.used) last in let m = learns.part.used in
+            let n = ap (λ (v : View). v.1.used) client in omega arith;
+      };
       more = record {
-        kept = λ e in'. subst (λ (v : View). In e v.1.kept) (sym last)
-            (subst (λ (es : List Rope). In e es) (sym learns.part.notes.1)
-            (subst (λ (v : View). In e v.1.kept) (sym client) in'));
-        ran = λ e in'. subst (λ (v : View). In e v.1.ran) (sym last)
-            (learns.part.ran e (subst (λ (v : View). In e v.1.ran) (sym client) (inr in')));
+        knows = record {
+          kept = λ e in'. subst (λ (v : View). In e v.1.kept) (sym last)
+              (subst (λ (es : List Rope). In e es) (sym learns.part.notes.1)
+              (subst (λ (v : View). In e v.1.kept) (sym client) in'));
+          ran = λ e in'. subst (λ (v : View). In e v.1.ran) (sym last)
+              (learns.part.ran e (subst (λ (v : View). In e v.1.ran) (sym client) (inr in')));
+        };
+        saw = λ e in'. subst (λ (v : View). In e v.1.seen) (sym last)
+            (learns.part.seen e (subst (λ (v : View). In e v.1.seen) (sym client) in'));
       };
     }
 
@@ -64,11 +70,17 @@ module _ (s : SlotId) (old now : SeatState View)
 
 module _ (s : SlotId) (word : List ℕ) (old new : SeatState View) (before after : List (List ℕ × ℕ))
   where
-    pub reads_ok : {T E : Type 0} (r : Result T E) → ReadsWord s word old new
-        → OnOk r (CountsOneMore before after word)
-        → OnOk r ((word : List ℕ) × ReadsWord s word old new × Tallies (word ∷ []) before after)
-    reads_ok (Ok done) reads more = (word, reads, tallies_one word before after more)
-    reads_ok (Err error) reads more = tt
+    tallies_if : {T E : Type 0} (r : Result T E) → OnOk r (CountsOneMore before after word)
+        → OnErr r (after ≡ before) → OnErr r (count_of before word ≡ 0)
+        → TalliesIf r word before after
+    tallies_if (Ok done) more same new_word = tallies_one word before after more
+    tallies_if (Err error) more same new_word = (new_word, same)
+
+    pub reads_if : {T E : Type 0} (r : Result T E) → ReadsWord s word old new
+        → OnOk r (CountsOneMore before after word) → OnErr r (after ≡ before)
+        → OnErr r (count_of before word ≡ 0)
+        → (w : List ℕ) × ReadsWord s w old new × TalliesIf r w before after
+    reads_if r reads more same new_word = (word, reads, tallies_if r more same new_word)
 
 -- and it is so after a step that leaves the client's view
 pub reads_later : (s : SlotId) (word : List ℕ) (old new late : SeatState View)
@@ -83,7 +95,6 @@ reads_later s word old new late is same = record {
 module _ (s : SlotId) (old new late : SeatState View) (same : late.view.client ≡ new.view.client)
     (before after : List (List ℕ × ℕ)) where
   pub counts_later : {T E : Type 0} (r : Result T E)
-      → OnOk r ((word : List ℕ) × ReadsWord s word old new × Tallies (word ∷ []) before after)
-      → OnOk r ((word : List ℕ) × ReadsWord s word old late × Tallies (word ∷ []) before after)
-  counts_later (Ok done) is = (is.0, reads_later s is.0 old new late is.1 same, is.2)
-  counts_later (Err error) is = tt
+      → (word : List ℕ) × ReadsWord s word old new × TalliesIf r word before after
+      → (word : List ℕ) × ReadsWord s word old late × TalliesIf r word before after
+  counts_later r is = (is.0, reads_later s is.0 old new late is.1 same, is.2)

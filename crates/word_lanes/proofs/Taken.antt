@@ -1,5 +1,5 @@
 -- An item that was popped and read counts as one word.
-use Rattle.std.proofs.Common.{true, false, ◌≡◌, inl, inr, ℕ, List, [], ◌∷◌, ◌++◌, refl, sym, ap, subst, ◌∙◌}
+use Rattle.std.proofs.Common.{◌≡◌, inl, inr, ℕ, List, [], ◌∷◌, ◌++◌, refl, sym, ap, subst, ◌∙◌}
 use Rattle.plain_state.specs.declared.slot.SlotId.{SlotId}
 use Rattle.domain_rule.specs.Views.{object_in}
 use Rattle.acquire_retire.specs.Seats.{SeatState}
@@ -9,9 +9,9 @@ use Rattle.queue_law.specs.declared.view.View.{View as QueueView}
 use Rattle.queue_law.specs.Lists.{taken_items}
 use Rattle.directory_law.specs.Views.{In}
 use Rattle.linked_queue.specs.Queues.{deeds_in}
-use Rattle.words_law.specs.Known.{KnowsMore}
+use Rattle.words_law.specs.Known.{ForgetsNothing}
 use Rattle.words_law.specs.Views.{View}
-use Rattle.std.specs.Prelude.{Err, None, Ok, OnOk, Option, Result, Some}
+use Rattle.std.specs.Prelude.{Err, IfErr, IsErrAnd, None, Ok, Option, Result, Some}
 use Rattle.atomic_shared.specs.Places.{named}
 use Rattle.counted_handles.specs.Handles.{Handle}
 use Rattle.core_events.specs.Steps.{HasRoom}
@@ -23,15 +23,16 @@ use Rattle.directory_calls.specs.Directories.{HasQuota}
 use Rattle.linked_queue.specs.Pops.{Pops}
 use Rattle.linked_queue.specs.Queues.{IsAttached}
 use Rattle.words_protocol.specs.declared.law.WordsLaw.{WordsLaw}
-use Rattle.slot_store.specs.declared.making.MakeError.{MakeError}
 use Rattle.slot_store.specs.declared.making.MakeError.TheVariants as unmade
-use Rattle.linked_queue.specs.Waits.{SpendsAtLast}
-use Rattle.word_lanes.specs.Counting.{Counts, OnlyReads, ReadsWord, Takes, Tallies}
-use Rattle.word_lanes.specs.Ready.{HasPoppedIn, IsReady, IsSpentAtLast, Owns, Shared}
+use Rattle.linked_queue.specs.Waits.{PopsAtLast, SpendsAtLast}
+use Rattle.queue_protocol.specs.declared.law.QueueLaw.{QueueLaw}
+use Rattle.word_lanes.specs.Counting.{Counts, OnlyReads, ReadsWord, Takes, TalliesIf, UsesInterns}
+use Rattle.word_lanes.specs.Ready.{HasPoppedIn, IsReady, Owns, Shared}
+use Rattle.word_lanes.specs.Whys.{IsWhyNotTaken}
 use Rattle.word_lanes.specs.declared.refusal.LaneError.{LaneError}
 use Rattle.word_lanes.specs.declared.refusal.LaneError.TheVariants as refused
 use Rattle.word_lanes.proofs.Counted.{tallies_none}
-use Rattle.word_lanes.proofs.Kept.{owns_back, owns_queue, quota_same, ready_by}
+use Rattle.word_lanes.proofs.Kept.{owns_back, owns_queue, quota_same, ready_by, uses_none, uses_then}
 use Rattle.word_lanes.proofs.Offered.{idle, item_of, popped_did, queues, texts}
 
 in_last : (x : Item) (ts : List Taken) (n : ℕ)
@@ -80,17 +81,33 @@ module _ (s : SlotId) (old mid : SeatState View)
         ),
         ap (λ w. w ∷ []) read.bytes,
       );
-      more = subst (λ (v : View). KnowsMore v.1 new.view.client.1) beside only.more;
+      more = subst (λ (v : View). ForgetsNothing v.1 new.view.client.1) beside only.more;
     }
 
-    pub took_ok : {T E : Type 0} (r : Result T E) (done : T) (before after : List (List ℕ × ℕ))
-        → r ≡ Ok done
-        → OnOk r ((word : List ℕ) × ReadsWord s word mid new × Tallies (word ∷ []) before after)
-        → Takes true old.view.client new.view.client before after
-    took_ok r done before after is all =
-        let got = subst (λ (x : Result _ _). OnOk x ((word : List ℕ) × ReadsWord s word mid new
-        × Tallies (word ∷ []) before after)) is all in
-        record { words = got.0 ∷ []; some = refl; counts = took got.0 got.1; tallies = got.2 }
+    module _ {T E : Type 0} (r : Result T E) (before after : List (List ℕ × ℕ))
+        (all : (word : List ℕ) × ReadsWord s word mid new × TalliesIf r word before after) where
+      pub took_ok : (done : T) → r ≡ Ok done
+          → Takes [] 1 old.view.client new.view.client before after
+      took_ok done is = record {
+        words = all.0 ∷ [];
+        number = refl;
+        counts = took all.0 all.1;
+        tallies = subst (λ (x : Result T E). TalliesIf x all.0 before after) is all.2;
+      }
+
+      pub took_none : (error : E) → r ≡ Err error → {U : Type 0} (told : Result U LaneError)
+          → IsErrAnd told (λ why. why ≡ refused.OutOfMemory)
+          → IfErr told (λ why. IsWhyNotTaken why old new.view.client before after)
+      took_none error is (Ok x) told = tt
+      took_none error is (Err why) told =
+          let none = subst (λ (x : Result T E). TalliesIf x all.0 before after) is all.2 in
+          subst (λ (e : LaneError). IsWhyNotTaken e old new.view.client before after) (sym told)
+          (all.0, took all.0 all.1, none.0, none.1)
+
+    pub took_interns : UsesInterns 0 old.view.client new.view.client
+    took_interns =
+        uses_then 0 0 old.view.client mid.view.client new.view.client
+        (uses_none old.view.client mid.view.client (ap texts beside)) only.interns
 
     pub took_owns : Owns (without s mid.view.core.owned) mid new → Owns old.view.core.owned old new
     took_owns second =
@@ -103,14 +120,16 @@ module _ (s : SlotId) (old mid : SeatState View)
     took_ready ready attached second room rest =
         ready_by old new ready (took_owns second) room rest
         (subst IsAttached (sym only.queue) attached)
-        (quota_same mid.view.client new.view.client only
+        (quota_same mid.view.client new.view.client only.interns
         (subst (λ (v : View). HasQuota v.1) (sym beside) ready.quota))
 
--- why it was refused, where it was
-abbrev pub refused_in : {T : Type 0} → Result T LaneError → MakeError
-refused_in (Ok x) = unmade.AddsSpent
-refused_in (Err (refused.Refused why)) = why
-refused_in (Err refused.OutOfMemory) = unmade.AddsSpent
+-- where it found none
+pub finds_as : (fits : List ℕ → Type 0) (d : DomainState QueueLaw) (a b : SeatState View)
+    {o p : Option Handle} → o ≡ p
+    → PopsAtLast fits d (named o) (seen_by queues a) (seen_by queues b)
+    → PopsAtLast fits d (named p) (seen_by queues a) (seen_by queues b)
+finds_as fits d a b same pops =
+    subst (λ o. PopsAtLast fits d (named o) (seen_by queues a) (seen_by queues b)) same pops
 
 -- NOTHING WAS POPPED
 module _ (old new : SeatState View) (pops : Pops None (seen_by queues old) (seen_by queues new))
@@ -119,13 +138,16 @@ module _ (old new : SeatState View) (pops : Pops None (seen_by queues old) (seen
   none_popped = idle old new (ap texts beside) pops.deeds
 
   pub none_counts : (t : List (List ℕ × ℕ))
-      → Takes false old.view.client new.view.client t t
+      → Takes [] 0 old.view.client new.view.client t t
   none_counts t =
-      record { words = []; some = refl; counts = none_popped; tallies = tallies_none t }
+      record { words = []; number = refl; counts = none_popped; tallies = tallies_none t }
 
-  pub spent_so : (why : MakeError) → why ≡ unmade.AddsSpent
-      → SpendsAtLast 3 (seen_by queues old) → IsSpentAtLast why old new
-  spent_so why is few = record { is = is; few = few; none = none_popped }
+  pub spent_so : SpendsAtLast 3 (seen_by queues old) → (t : List (List ℕ × ℕ))
+      → IsWhyNotTaken (refused.Refused unmade.AddsSpent) old new.view.client t t
+  spent_so few t = (record { is = refl; few = few }, none_popped, refl)
+
+  pub none_interns : UsesInterns 0 old.view.client new.view.client
+  none_interns = uses_none old.view.client new.view.client (ap texts beside)
 
   pub none_owns : Owns old.view.core.owned old new
   none_owns = owns_queue old new pops.leaves

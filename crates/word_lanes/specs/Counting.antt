@@ -1,5 +1,5 @@
 -- What a seat pushed and popped between two of its views, as words.
-use Rattle.std.specs.Prelude.{◌≡◌, ℕ, ◌+◌, Bool, List, [], ◌∷◌, ◌++◌, cond, length, map}
+use Rattle.std.specs.Prelude.{◌≡◌, ℕ, ◌+◌, List, [], ◌∷◌, ◌++◌, Result, Ok, Err, length, map}
 use Rattle.cdrc_text.specs.Fold.{times}
 use Rattle.cdrc_text.specs.Tally.{count_of, total_of}
 use Rattle.plain_state.specs.declared.slot.SlotId.{SlotId}
@@ -14,7 +14,7 @@ use Rattle.directory_law.specs.Bytes.{text_bytes}
 use Rattle.directory_law.specs.Payloads.{IsText, Text}
 use Rattle.directory_law.specs.Views.{In}
 use Rattle.linked_queue.specs.Queues.{deeds_in}
-use Rattle.words_law.specs.Known.{KnowsMore, KnowsTexts}
+use Rattle.words_law.specs.Known.{ForgetsNothing, KnowsTexts}
 use Rattle.words_law.specs.Views.{View}
 
 -- the view tells these words of the items, in order
@@ -42,26 +42,35 @@ abbrev pub begins : Ran → View → View
 begins e v = (v.0, record v.1 { ran = e ∷ v.1.ran })
 
 -- From the one view to the other the seat pushed items of some words, and popped items of others. It has learnt their
--- words, and forgotten none. What it has beside of the queue is as it was, but for its notes on single nodes.
+-- words, and forgotten no text and no head that it saw. What it has beside of the queue is as it was, but for its notes
+-- on single nodes.
 pub record Counts (pushed popped : List (List ℕ)) (v w : View) : Type 0 where
   pub pushes : List Item
   pub pops : List Item
   pub deeds : deeds_in w.0 ≡ did pushes pops (deeds_in v.0)
   pub pushed_words : KnowsWords w.1 pushes pushed
   pub popped_words : KnowsWords w.1 pops popped
-  pub more : KnowsMore v.1 w.1
+  pub more : ForgetsNothing v.1 w.1
 
 -- the second tally counts these words more
 pub record Tallies (words : List (List ℕ)) (before after : List (List ℕ × ℕ)) : Type 0 where
   pub counts : (w : List ℕ) → count_of after w ≡ count_of before w + times w words
   pub sum : total_of after ≡ total_of before + length words
 
--- it popped an item, if it says so, and counted its word; else it popped none
-pub record Takes (one : Bool) (v w : View) (before after : List (List ℕ × ℕ)) : Type 0 where
+-- it pushed items of these words, popped so many, and counted the words of these
+pub record Takes (pushed : List (List ℕ)) (taken : ℕ) (v w : View)
+    (before after : List (List ℕ × ℕ)) : Type 0 where
   pub words : List (List ℕ)
-  pub some : length words ≡ cond one 1 0
-  pub counts : Counts [] words v w
+  pub number : length words ≡ taken
+  pub counts : Counts pushed words v w
   pub tallies : Tallies words before after
+
+-- The word was counted once more. Or it wasn't: it is a new one, for which there was no memory, and the tally is as it
+-- was.
+abbrev pub TalliesIf : {T E : Type 0} → Result T E → List ℕ → List (List ℕ × ℕ)
+    → List (List ℕ × ℕ) → Type 0
+TalliesIf (Ok done) word before after = Tallies (word ∷ []) before after
+TalliesIf (Err error) word before after = (count_of before word ≡ 0) × (after ≡ before)
 
 -- the seat has read that the object which it had in s has this word
 pub record ReadsWord (s : SlotId) (word : List ℕ) (old new : SeatState View) : Type 0 where
@@ -69,9 +78,13 @@ pub record ReadsWord (s : SlotId) (word : List ℕ) (old new : SeatState View) :
   pub bytes : text_bytes text ≡ word
   pub read : HasReadIn (object_in old.view s).life s text new.view.client.1
 
+-- it has as many interns as it had, and has used n more of them
+pub record UsesInterns (n : ℕ) (v w : View) : Type 0 where
+  pub quota : w.1.quota ≡ v.1.quota
+  pub used : w.1.used ≡ v.1.used + n
+
 -- the seat has read something, and of its view nothing else has changed
 pub record OnlyReads (v w : View) : Type 0 where
   pub queue : w.0 ≡ v.0
-  pub quota : w.1.quota ≡ v.1.quota
-  pub used : w.1.used ≡ v.1.used
-  pub more : KnowsMore v.1 w.1
+  pub interns : UsesInterns 0 v w
+  pub more : ForgetsNothing v.1 w.1

@@ -1,2 +1,5 @@
 pub mod Counting
+pub mod Draining
+pub mod Pieces
 pub mod Ready
+pub mod Whys

@@ -1,5 +1,5 @@
 -- What a seat needs to count words, and what a call leaves of it.
-use Rattle.std.specs.Prelude.{◌≡◌, ℕ, List, []}
+use Rattle.std.specs.Prelude.{◌≡◌, ℕ, List}
 use Rattle.plain_state.specs.declared.slot.SlotId.{SlotId}
 use Rattle.plain_state.specs.Lists.{times}
 use Rattle.core_events.specs.Steps.{HasRoom}
@@ -10,18 +10,14 @@ use Rattle.acquire_retire.specs.Seats.{SeatState}
 use Rattle.control_word.specs.Resting.{IsAtRest}
 use Rattle.directory_law.specs.Views.{In}
 use Rattle.queue_law.specs.Lists.{taken_items}
-use Rattle.part_calls.specs.Parts.{as_part, seen_by}
+use Rattle.part_calls.specs.Parts.{as_part}
 use Rattle.directory_calls.specs.Directories.{HasQuota, IsOver}
 use Rattle.directory_calls.specs.Steps.{aside}
 use Rattle.text_reading.specs.Reading.{HasTwoFree}
 use Rattle.linked_queue.specs.Queues.{IsAttached, IsQueueOf}
-use Rattle.linked_queue.specs.Waits.{SpendsAtLast}
-use Rattle.slot_store.specs.declared.making.MakeError.{MakeError}
-use Rattle.slot_store.specs.declared.making.MakeError.TheVariants as unmade
 use Rattle.words_law.specs.Views.{View}
 use Rattle.words_protocol.specs.declared.law.WordsLaw.{WordsLaw}
 pub use Rattle.word_lanes.specs.declared.shared.Shared.{Shared}
-use Rattle.word_lanes.specs.Counting.{Counts}
 
 -- the seat is at rest in a domain with this queue and this directory, and takes part in the queue
 pub record IsReady (d : DomainState WordsLaw) (on : Shared) (seat : SeatState View) : Type 0 where
@@ -40,12 +36,6 @@ HasPoppedIn s seat =
     (payload : List ℕ)
     × In (record { slot = s.0; life = (object_in seat.view s).life; payload = payload })
     (taken_items seat.view.client.0.popped)
-
--- it popped nothing, since at most three adds were left at its last try
-pub record IsSpentAtLast (why : MakeError) (old new : SeatState View) : Type 0 where
-  pub is : why ≡ unmade.AddsSpent
-  pub few : SpendsAtLast 3 (seen_by (λ (v : View). v.0) old)
-  pub none : Counts [] [] old.view.client new.view.client
 
 -- The seat owns these references strongly, and weakly what it owned, in some order. What it has beside is as it was,
 -- and so is what it knows of the objects that it held and still holds.

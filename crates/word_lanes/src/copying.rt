@@ -1,24 +1,30 @@
 //! A copy of a reference to a record goes on the queue.
-ghost use Rattle.std.specs.Prelude.{◌<◌, ◌∷◌, [], OnErr, OnOk};
+ghost use Rattle.std.specs.Prelude.{◌<◌, ◌∷◌, [], IfErr, OnErr, OnOk};
 ghost use Rattle.plain_state.specs.Lists.{times};
 ghost use Rattle.directory_law.specs.Bytes.{text_bytes};
 ghost use Rattle.directory_law.specs.Payloads.{Text};
 ghost use Rattle.weak_intern.specs.Knowing.{Knows};
 ghost use Rattle.words_law.specs.Views.{View};
-ghost use Rattle.word_lanes.specs.Counting.{Counts};
+ghost use Rattle.word_lanes.specs.Counting.{Counts, UsesInterns};
 ghost use Rattle.word_lanes.specs.Ready.{IsReady, Owns};
+ghost use Rattle.word_lanes.specs.Whys.{IsWhyNotCopied};
 
 use crate::offering::offer;
 use crate::shared::Shared;
 use acquire_retire::{Domain, Seat};
 use control_word::{copy_strong, drop_strong};
 use counted_handles::Strong;
+use directory_protocol::RecordKind;
+use plain_state::PayloadKind;
+use protocol_pairs::PairKind;
+use queue_protocol::NodeKind;
 use slot_store::MakeError;
 use std::sync::Wait;
 use words_protocol::WordsLaw;
 
-/// Pushes one reference more to a record whose text the seat knows, and keeps its own. Refused, it has pushed nothing.
-/// It may wait for other threads.
+/// Pushes one reference more to a record whose text the seat knows, and keeps its own. It is refused as `offer` is, and
+/// besides with `AddsSpent` where the seat has no add left for that reference. Then it has pushed nothing. One add more
+/// than `offer`. It may wait for other threads.
 pub fn offer_copy<R: Wait>(
     rt: &R,
     domain: &Domain<WordsLaw>,
@@ -34,6 +40,10 @@ pub fn offer_copy<R: Wait>(
         → Counts (text_bytes text ∷ []) [] seat.old.view.client seat.new.view.client) }
     ensures refused { OnErr result (Counts [] [] seat.old.view.client seat.new.view.client) }
     ensures owns { Owns seat.old.view.core.owned seat.old seat.new }
+    ensures why { IfErr result (λ why. IsWhyNotCopied
+        ⟦<PairKind<NodeKind, RecordKind> as PayloadKind>⟧.fits domain.now handle.now.slot why
+        seat.old seat.new) }
+    ensures interns { UsesInterns 0 seat.old.view.client seat.new.view.client }
     ensures ready { IsReady domain.now shared.now seat.new }
 {
     let Ok(copy) = copy_strong(domain, seat, handle) else {

@@ -6,19 +6,25 @@ ghost use Rattle.directory_law.specs.Bytes.{text_bytes};
 ghost use Rattle.directory_law.specs.Payloads.{Text};
 ghost use Rattle.weak_intern.specs.Knowing.{Knows};
 ghost use Rattle.words_law.specs.Views.{View};
-ghost use Rattle.word_lanes.specs.Counting.{Counts};
+ghost use Rattle.word_lanes.specs.Counting.{Counts, UsesInterns};
 ghost use Rattle.word_lanes.specs.Ready.{IsReady, Owns};
+ghost use Rattle.word_lanes.specs.Whys.{IsWhyNotOffered};
 
 use crate::shared::Shared;
 use acquire_retire::{Domain, Seat};
 use counted_handles::Strong;
+use directory_protocol::RecordKind;
 use linked_queue::PushRefused;
-use protocol_pairs::Left;
+use plain_state::PayloadKind;
+use protocol_pairs::{Left, PairKind};
+use queue_protocol::NodeKind;
 use std::sync::Wait;
 use words_protocol::WordsLaw;
 
-/// Pushes a record whose text the seat knows, and gives the seat's reference to it. It is refused as a push is; then
-/// nothing is pushed, and the reference is handed back. It may wait for other threads.
+/// Pushes a record whose text the seat knows, and gives the seat's reference to it. It is refused as a push is:
+/// `MakesSpent` where the seat has no make left, `Full` where each slot of the domain was found taken, `AddsSpent`
+/// where at most one add was left, or at most three at the last try. Then nothing is pushed, and the reference is
+/// handed back. Its steps are those of a push. It may wait for other threads.
 pub fn offer<R: Wait>(
     rt: &R,
     domain: &Domain<WordsLaw>,
@@ -37,9 +43,12 @@ pub fn offer<R: Wait>(
     ensures back { IfErr result (λ refused. refused.back ≡ handle) }
     ensures refused { OnErr result (Counts [] [] seat.old.view.client seat.new.view.client) }
     ensures kept { OnErr result (Owns seat.old.view.core.owned seat.old seat.new) }
+    ensures why { IfErr result (λ refused. IsWhyNotOffered
+        ⟦<PairKind<NodeKind, RecordKind> as PayloadKind>⟧.fits domain.now handle.slot refused.why
+        seat.old) }
+    ensures interns { UsesInterns 0 seat.old.view.client seat.new.view.client }
     ensures ready { IsReady domain.now shared.now seat.new }
 {
-    shared
-        .queue
-        .push::<Left, WordsLaw, R>(rt, domain, seat, handle)
+    let queue = &shared.queue;
+    queue.push::<Left, WordsLaw, R>(rt, domain, seat, handle)
 }

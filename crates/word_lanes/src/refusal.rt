@@ -21,3 +21,14 @@ impl From<OutOfMemory> for LaneError {
         LaneError::OutOfMemory
     }
 }
+
+/// At which step of a piece a lane went no further, and why.
+#[derive(Clone, Copy, PartialEq, Eq, Debug, Drop)]
+pub enum PieceError {
+    /// The piece got no record: no intern was used, and nothing pushed.
+    Interning(MakeError),
+    /// Its record wasn't pushed. The intern was used.
+    Offering(MakeError),
+    /// Its record was pushed, and then no word was counted. The intern was used.
+    Taking(LaneError),
+}

@@ -1,15 +1,14 @@
 //! An item is popped, and its word counted.
-ghost use Rattle.std.specs.Prelude.{◌≡◌, ◌^◌, ◌<◌, ℕ, List, [], ◌∷◌, Err, IfOk, OnOk};
+ghost use Rattle.std.specs.Prelude.{◌≡◌, ◌^◌, ◌<◌, false, ℕ, List, [], Ok, IfErr, IfOk, cond};
 ghost use Rattle.plain_state.specs.Lists.{times};
 ghost use Rattle.cdrc_text.specs.Tally.{total_of};
 ghost use Rattle.control_word.specs.Resting.{IsAtRest};
 ghost use Rattle.core_events.specs.Steps.{HasRoom};
 ghost use Rattle.core_events.specs.Views.{without};
 ghost use Rattle.text_reading.specs.Reading.{HasTwoFree};
-ghost use Rattle.word_lanes.specs.Counting.{OnlyReads, ReadsWord, Takes, Tallies};
-ghost use Rattle.slot_store.specs.declared.making.MakeError.{MakeError};
-ghost use Rattle.word_lanes.specs.Ready.{HasPoppedIn, IsReady, IsSpentAtLast, Owns};
-ghost use Rattle.word_lanes.specs.declared.refusal.LaneError.TheVariants as refused;
+ghost use Rattle.word_lanes.specs.Counting.{OnlyReads, ReadsWord, Takes, TalliesIf, UsesInterns};
+ghost use Rattle.word_lanes.specs.Ready.{HasPoppedIn, IsReady, Owns};
+ghost use Rattle.word_lanes.specs.Whys.{FindsNoItem, IsWhyNotTaken};
 
 use crate::reading::begin_read;
 use crate::refusal::LaneError;
@@ -18,16 +17,21 @@ use acquire_retire::{Domain, Seat, SlotId};
 use cdrc_text::Tally;
 use control_word::drop_strong;
 use counted_handles::{Spent, Strong};
+use directory_protocol::RecordKind;
 use out_of_memory::OutOfMemory;
-use protocol_pairs::{Left, Right};
+use plain_state::PayloadKind;
+use protocol_pairs::{Left, PairKind, Right};
+use queue_protocol::NodeKind;
 use slot_store::MakeError;
 use std::sync::Wait;
 use text_reading::read_text;
 use words_protocol::WordsLaw;
 
-/// Pops an item, if one is linked, and counts its word. True exactly where it popped one. `Refused` comes only where at
-/// most three adds were left at a try, and then nothing is popped. After `OutOfMemory` an item may be popped that isn't
-/// counted. It may wait for other threads.
+/// Pops an item, if one is linked, and counts its word. True exactly where it popped one; false only where nothing
+/// was linked behind the head's node at a step of the call. `Refused` is `AddsSpent`, and comes only where at most
+/// three adds were left at the last try; then nothing is popped. After `OutOfMemory` an item is popped whose word is a
+/// new one, and isn't counted. The tally is as it was after false and after a refusal. At most 29 steps and two
+/// collects for each try of the pop, and 700 steps more. It may wait for other threads.
 pub fn take_one<R: Wait>(
     rt: &R,
     domain: &Domain<WordsLaw>,
@@ -37,10 +41,13 @@ pub fn take_one<R: Wait>(
 ) -> Result<bool, LaneError>
     requires ready { IsReady domain.now shared.now seat.old }
     requires few { total_of tally.old < 2 ^ 63 }
-    ensures takes { IfOk result (λ one. Takes one seat.old.view.client seat.new.view.client
+    ensures takes { IfOk result (λ one. Takes [] (cond one 1 0) seat.old.view.client
+        seat.new.view.client tally.old tally.new) }
+    ensures none { result ≡ Ok false → FindsNoItem
+        ⟦<PairKind<NodeKind, RecordKind> as PayloadKind>⟧.fits domain.now seat.old seat.new }
+    ensures why { IfErr result (λ error. IsWhyNotTaken error seat.old seat.new.view.client
         tally.old tally.new) }
-    ensures spent { (why : MakeError) → result ≡ Err (refused.Refused why)
-        → IsSpentAtLast why seat.old seat.new × (tally.new ≡ tally.old) }
+    ensures interns { UsesInterns 0 seat.old.view.client seat.new.view.client }
     ensures owns { Owns seat.old.view.core.owned seat.old seat.new }
     ensures ready { IsReady domain.now shared.now seat.new }
 {
@@ -67,9 +74,8 @@ fn tally_item(
     requires owned { 0 < times item.slot seat.old.view.core.owned }
     requires popped { HasPoppedIn item.slot seat.old }
     requires few { total_of tally.old < 2 ^ 63 }
-    ensures counts { OnOk result ((word : List ℕ)
-        × ReadsWord item.slot word seat.old seat.new
-        × Tallies (word ∷ []) tally.old tally.new) }
+    ensures counts { (word : List ℕ) × ReadsWord item.slot word seat.old seat.new
+        × TalliesIf result word tally.old tally.new }
     ensures only { OnlyReads seat.old.view.client seat.new.view.client }
     ensures owns { Owns (without item.slot seat.old.view.core.owned) seat.old seat.new }
     ensures room { HasRoom seat.new.view.core }
@@ -93,8 +99,8 @@ fn tally_slot(
     requires owned { 0 < times slot seat.old.view.core.owned }
     requires popped { HasPoppedIn slot seat.old }
     requires few { total_of tally.old < 2 ^ 63 }
-    ensures counts { OnOk result ((word : List ℕ) × ReadsWord slot word seat.old seat.new
-        × Tallies (word ∷ []) tally.old tally.new) }
+    ensures counts { (word : List ℕ) × ReadsWord slot word seat.old seat.new
+        × TalliesIf result word tally.old tally.new }
     ensures only { OnlyReads seat.old.view.client seat.new.view.client }
     ensures owned { 0 < times slot seat.new.view.core.owned }
     ensures owns { Owns seat.old.view.core.owned seat.old seat.new }

@@ -1,10 +1,11 @@
-use Rattle.std.proofs.Common.{[], ap, subst, sym}
+use Rattle.std.proofs.Common.{[], inr, refl, ap, subst, sym}
 use Rattle.counted_handles.specs.Handles.{Handle}
 use Rattle.words_law.specs.Views.{View}
 use Rattle.word_lanes.specs.Counting.{Counts}
-use Rattle.word_lanes.proofs.Copied.{back_owns, copy_counts, copy_known, copy_owns, copy_ready, owns_copy}
+use Rattle.word_lanes.proofs.Copied.{back_owns, copy_counts, copy_interns, copy_known, copy_owns, copy_ready, copy_stays, owns_copy}
 use Rattle.word_lanes.proofs.Counted.{counts_none}
-use Rattle.word_lanes.proofs.Kept.{owns_drop}
+use Rattle.word_lanes.proofs.Offered.{texts}
+use Rattle.word_lanes.proofs.Kept.{owns_drop, uses_none}
 use Rattle.word_lanes.proofs.copying.offer_copy.Goals as goal
 
 pub returns-in_default-clause-refused : goal.returns-in_default-clause-refused
@@ -61,3 +62,24 @@ returns-in-Err-clause-ready g c =
     c.drop_strong.new.seat c.drop_strong.ensures.dropped c.drop_strong.ensures.objects)
     c.drop_strong.ensures.client (c.drop_strong.ensures.room c.offer.ensures.ready.room)
     c.drop_strong.ensures.rest
+
+pub returns-in_default-clause-interns : goal.returns-in_default-clause-interns
+returns-in_default-clause-interns g c =
+    uses_none c.args.seat.now.view.client c.copy_strong.new.seat.view.client
+    (ap texts c.copy_strong.ensures.client)
+
+pub returns-in-Ok-offer-clause-interns : goal.returns-in-Ok-offer-clause-interns
+returns-in-Ok-offer-clause-interns g c =
+    copy_interns c.args.seat.now c.copy_strong.new.seat c.offer.new.seat c.offer.new.seat
+    c.copy_strong.ensures.client c.offer.ensures.interns refl
+
+pub returns-in-Err-clause-why : goal.returns-in-Err-clause-why
+returns-in-Err-clause-why g c =
+    inr (copy_stays _ c.args.domain.now c.args.handle.now.slot c.in-Ok.copy.slot
+    c.in-Ok.ensures.copied.0 c.args.seat.now c.copy_strong.new.seat c.in-Ok.ensures.copied.1
+    c.in-Err.refused.why c.in-Err.ensures.why)
+
+pub returns-in-Err-clause-interns : goal.returns-in-Err-clause-interns
+returns-in-Err-clause-interns g c =
+    copy_interns c.args.seat.now c.copy_strong.new.seat c.offer.new.seat c.drop_strong.new.seat
+    c.copy_strong.ensures.client c.offer.ensures.interns c.drop_strong.ensures.client

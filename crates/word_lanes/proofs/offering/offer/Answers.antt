@@ -1,4 +1,5 @@
 use Rattle.std.proofs.Common.{ap}
+use Rattle.word_lanes.proofs.Kept.{uses_none}
 use Rattle.word_lanes.proofs.Offered.{may_push, offer_ready, offered_ok, refused_idle, texts}
 use Rattle.word_lanes.proofs.offering.offer.Goals as goal
 
@@ -20,3 +21,8 @@ returns-clause-ready g c =
     offer_ready c.args.seat.now c.push.new.seat (ap texts c.push.ensures.beside)
     c.args.handle.slot c.push.result c.push.ensures.pushed c.push.ensures.refused c.requires.ready
     c.push.ensures.room c.push.ensures.rest c.push.ensures.attached
+
+pub returns-clause-interns : goal.returns-clause-interns
+returns-clause-interns g c =
+    uses_none c.args.seat.now.view.client c.push.new.seat.view.client
+    (ap texts c.push.ensures.beside)

@@ -1,6 +1,6 @@
 use Rattle.word_lanes.proofs.Kept.{free_still, owns_queue}
-use Rattle.std.proofs.Common.{refl, sym, ap}
-use Rattle.word_lanes.proofs.Taken.{has_popped, none_counts, none_owns, none_ready, pops_as, refused_in, spent_so, took_ok, took_owns, took_ready}
+use Rattle.word_lanes.proofs.Taken.{finds_as, has_popped, none_counts, none_interns, none_owns, none_ready, pops_as, spent_so, took_interns, took_none, took_ok, took_owns, took_ready}
+use Rattle.word_lanes.specs.Whys.{queue_of}
 use Rattle.word_lanes.proofs.taking.take_one.Goals as goal
 
 pub tally_item-requires-clause-free : goal.tally_item-requires-clause-free
@@ -33,8 +33,8 @@ returns-in_ok-tally_item-in-Ok-Some-clause-takes g c =
     took_ok c.in-Ok-Some.item.slot c.args.seat.now c.pop.new.seat (pops_as c.args.seat.now c.pop.new.seat c.in-Ok-Some.field-0-is
     c.in-Ok-Some.ensures.popped)
     c.pop.ensures.beside c.tally_item.new.seat c.tally_item.ensures.only c.tally_item.result
-    _ c.args.tally.now c.tally_item.new.tally c.in_ok-tally_item-in-Ok-Some.was
-    c.tally_item.ensures.counts
+    c.args.tally.now c.tally_item.new.tally c.tally_item.ensures.counts _
+    c.in_ok-tally_item-in-Ok-Some.was
 
 pub returns-in_ok-tally_item-in-Ok-Some-clause-owns : goal.returns-in_ok-tally_item-in-Ok-Some-clause-owns
 returns-in_ok-tally_item-in-Ok-Some-clause-owns g c =
@@ -67,9 +67,44 @@ returns-in-Ok-None-clause-ready g c =
     c.in-Ok-None.field-0-is c.in-Ok-None.ensures.popped) c.pop.ensures.beside
     c.requires.ready c.pop.ensures.attached c.pop.ensures.room c.pop.ensures.rest
 
-pub returns-in-Err-clause-spent : goal.returns-in-Err-clause-spent
-returns-in-Err-clause-spent g c = λ why is. (
-  spent_so c.args.seat.now c.pop.new.seat c.in-Err.ensures.popped c.pop.ensures.beside why
-      (sym (ap refused_in is)) c.in-Err.ensures.why,
-  refl,
-)
+pub returns-in-Ok-None-clause-none : goal.returns-in-Ok-None-clause-none
+returns-in-Ok-None-clause-none g c = λ is.
+    finds_as _ (queue_of c.args.domain.now) c.args.seat.now c.pop.new.seat
+    c.in-Ok-None.field-0-is c.in-Ok-None.ensures.events
+
+pub returns-in-Ok-None-clause-interns : goal.returns-in-Ok-None-clause-interns
+returns-in-Ok-None-clause-interns g c =
+    none_interns c.args.seat.now c.pop.new.seat (pops_as c.args.seat.now c.pop.new.seat
+    c.in-Ok-None.field-0-is c.in-Ok-None.ensures.popped) c.pop.ensures.beside
+
+pub returns-in-Err-clause-why : goal.returns-in-Err-clause-why
+returns-in-Err-clause-why g c =
+    spent_so c.args.seat.now c.pop.new.seat c.in-Err.ensures.popped c.pop.ensures.beside
+    c.in-Err.ensures.why c.args.tally.now
+
+pub returns-in-Err-clause-interns : goal.returns-in-Err-clause-interns
+returns-in-Err-clause-interns g c =
+    none_interns c.args.seat.now c.pop.new.seat c.in-Err.ensures.popped c.pop.ensures.beside
+
+pub returns-in_err-tally_item-in-Ok-Some-clause-interns : goal.returns-in_err-tally_item-in-Ok-Some-clause-interns
+returns-in_err-tally_item-in-Ok-Some-clause-interns g c =
+    took_interns c.in-Ok-Some.item.slot c.args.seat.now c.pop.new.seat
+    (pops_as c.args.seat.now c.pop.new.seat c.in-Ok-Some.field-0-is
+    c.in-Ok-Some.ensures.popped)
+    c.pop.ensures.beside c.tally_item.new.seat c.tally_item.ensures.only
+
+pub returns-in_ok-tally_item-in-Ok-Some-clause-interns : goal.returns-in_ok-tally_item-in-Ok-Some-clause-interns
+returns-in_ok-tally_item-in-Ok-Some-clause-interns g c =
+    took_interns c.in-Ok-Some.item.slot c.args.seat.now c.pop.new.seat
+    (pops_as c.args.seat.now c.pop.new.seat c.in-Ok-Some.field-0-is
+    c.in-Ok-Some.ensures.popped)
+    c.pop.ensures.beside c.tally_item.new.seat c.tally_item.ensures.only
+
+pub returns-in_err-tally_item-in-Ok-Some-clause-why : goal.returns-in_err-tally_item-in-Ok-Some-clause-why
+returns-in_err-tally_item-in-Ok-Some-clause-why g c =
+    took_none c.in-Ok-Some.item.slot c.args.seat.now c.pop.new.seat
+    (pops_as c.args.seat.now c.pop.new.seat c.in-Ok-Some.field-0-is
+    c.in-Ok-Some.ensures.popped)
+    c.pop.ensures.beside c.tally_item.new.seat c.tally_item.ensures.only c.tally_item.result
+    c.args.tally.now c.tally_item.new.tally c.tally_item.ensures.counts _
+    c.in_err-tally_item-in-Ok-Some.was c.from_residual.result c.from_residual.ensures.1
