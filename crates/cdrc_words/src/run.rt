@@ -28,8 +28,10 @@ use std::thread::Threads;
 /// output's last line tells; 9 where there was no memory, which may come in place of any but 2. Over a source that
 /// doesn't tell the content, what is said of it is said of some content.
 ///
-/// With 0 and 8 the sink took the whole output, with 4 a prefix of it, with 9 a prefix or nothing, and else nothing. Then
-/// a script whose first line opened a heap hands on the seat of its domain, whose trail shows each command that was run.
+/// With 0 and 8 the sink took the whole output, with 4 a prefix of it, with 9 a prefix or nothing, and else nothing.
+///
+/// With 0 and 8 `why` is the seat of a script's domain, if the script's first line opened one: its trail shows each
+/// command that was run. Else it is nothing.
 pub fn run<R: Threads + Wait + Sync, F: Files, K: Sink, G: Gate + Sync>(
     rt: &R,
     alloc: Global,

@@ -22,7 +22,8 @@ impl DomainDesk {
         ensures makes { IfOk result (λ answer.
             MakesOne (desk_of self.old) name.now weight answer (desk_of self.new)) }
         ensures shows { IfOk result (λ answer.
-            ShowsCommand (command.Make name.now weight) answer (core_of self.old) (core_of self.new)) }
+            ShowsCommand (command.Make name.now weight) answer
+            (core_of self.old) (core_of self.new)) }
         ensures kept { OnOk result (IsKept self.new) }
     {
         let number = self.makes;

@@ -31,7 +31,8 @@ impl DomainDesk {
         requires bound { IsBoundTo self.old.names name.now (taken_by place.now) }
         ensures begins { Begins (desk_of self.old) (command.Put place.now name.now) said.Nothing
             (desk_of self.new) }
-        ensures shows { ShowsCommand (command.Put place.now name.now) said.Nothing (core_of self.old) (core_of self.new) }
+        ensures shows { ShowsCommand (command.Put place.now name.now) said.Nothing
+            (core_of self.old) (core_of self.new) }
         ensures kept { IsKept self.new }
     {
         let at = place_of(&self.names, self.sizes(), place);
@@ -47,7 +48,8 @@ impl DomainDesk {
         requires needs { AreMet self.old.names (place_needs place.now) }
         ensures begins { Begins (desk_of self.old) (command.Clear place.now) said.Nothing
             (desk_of self.new) }
-        ensures shows { ShowsCommand (command.Clear place.now) said.Nothing (core_of self.old) (core_of self.new) }
+        ensures shows { ShowsCommand (command.Clear place.now) said.Nothing
+            (core_of self.old) (core_of self.new) }
         ensures kept { IsKept self.new }
     {
         let at = place_of(&self.names, self.sizes(), place);
@@ -63,7 +65,8 @@ impl DomainDesk {
         ensures acts { IfOk result (λ answer. Acts (desk_of self.old)
             (command.Load place.now new.now) answer (desk_of self.new)) }
         ensures shows { IfOk result (λ answer.
-            ShowsCommand (command.Load place.now new.now) answer (core_of self.old) (core_of self.new)) }
+            ShowsCommand (command.Load place.now new.now) answer
+            (core_of self.old) (core_of self.new)) }
         ensures kept { OnOk result (IsKept self.new) }
     {
         let at = place_of(&self.names, self.sizes(), place);
@@ -134,7 +137,8 @@ impl DomainDesk {
         requires given { AreMet self.old.names (need_of new.now is_strong) }
         ensures begins { Begins (desk_of self.old) (command.Replace place.now old.now new.now)
             result (desk_of self.new) }
-        ensures shows { ShowsCommand (command.Replace place.now old.now new.now) result (core_of self.old) (core_of self.new) }
+        ensures shows { ShowsCommand (command.Replace place.now old.now new.now) result
+            (core_of self.old) (core_of self.new) }
         ensures kept { IsKept self.new }
     {
         let at = place_of(&self.names, self.sizes(), place);

@@ -26,7 +26,8 @@ impl DomainDesk {
         ensures acts { IfOk result (λ answer. Acts (desk_of self.old)
             (command.Copy name.now new.now) answer (desk_of self.new)) }
         ensures shows { IfOk result (λ answer.
-            ShowsCommand (command.Copy name.now new.now) answer (core_of self.old) (core_of self.new)) }
+            ShowsCommand (command.Copy name.now new.now) answer
+            (core_of self.old) (core_of self.new)) }
         ensures kept { OnOk result (IsKept self.new) }
     {
         let slot = self.names.strong_slot(name);
@@ -48,7 +49,8 @@ impl DomainDesk {
         ensures acts { IfOk result (λ answer. Acts (desk_of self.old)
             (command.Weaken name.now new.now) answer (desk_of self.new)) }
         ensures shows { IfOk result (λ answer.
-            ShowsCommand (command.Weaken name.now new.now) answer (core_of self.old) (core_of self.new)) }
+            ShowsCommand (command.Weaken name.now new.now) answer
+            (core_of self.old) (core_of self.new)) }
         ensures kept { OnOk result (IsKept self.new) }
     {
         let slot = self.names.strong_slot(name);
@@ -70,7 +72,8 @@ impl DomainDesk {
         ensures acts { IfOk result (λ answer. Acts (desk_of self.old)
             (command.CopyWeak name.now new.now) answer (desk_of self.new)) }
         ensures shows { IfOk result (λ answer.
-            ShowsCommand (command.CopyWeak name.now new.now) answer (core_of self.old) (core_of self.new)) }
+            ShowsCommand (command.CopyWeak name.now new.now) answer
+            (core_of self.old) (core_of self.new)) }
         ensures kept { OnOk result (IsKept self.new) }
     {
         let slot = self.names.weak_slot(name);
@@ -92,7 +95,8 @@ impl DomainDesk {
         ensures acts { IfOk result (λ answer. Acts (desk_of self.old)
             (command.Upgrade name.now new.now) answer (desk_of self.new)) }
         ensures shows { IfOk result (λ answer.
-            ShowsCommand (command.Upgrade name.now new.now) answer (core_of self.old) (core_of self.new)) }
+            ShowsCommand (command.Upgrade name.now new.now) answer
+            (core_of self.old) (core_of self.new)) }
         ensures kept { OnOk result (IsKept self.new) }
     {
         let slot = self.names.weak_slot(name);

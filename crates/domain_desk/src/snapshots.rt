@@ -38,7 +38,8 @@ impl DomainDesk {
         ensures acts { IfOk result (λ answer. Acts (desk_of self.old)
             (command.Snap place.now new.now) answer (desk_of self.new)) }
         ensures shows { IfOk result (λ answer.
-            ShowsCommand (command.Snap place.now new.now) answer (core_of self.old) (core_of self.new)) }
+            ShowsCommand (command.Snap place.now new.now) answer
+            (core_of self.old) (core_of self.new)) }
         ensures kept { OnOk result (IsKept self.new) }
     {
         let at = place_of(&self.names, self.sizes(), place);
@@ -63,7 +64,8 @@ impl DomainDesk {
         ensures acts { IfOk result (λ answer. Acts (desk_of self.old)
             (command.Keep name.now new.now) answer (desk_of self.new)) }
         ensures shows { IfOk result (λ answer.
-            ShowsCommand (command.Keep name.now new.now) answer (core_of self.old) (core_of self.new)) }
+            ShowsCommand (command.Keep name.now new.now) answer
+            (core_of self.old) (core_of self.new)) }
         ensures kept { OnOk result (IsKept self.new) }
     {
         let slot = self.names.slot(name);

@@ -22,7 +22,8 @@ impl DomainDesk {
         requires word { word < 16 }
         ensures acts { Acts (desk_of self.old) (command.Read name.now word) result
             (desk_of self.new) }
-        ensures shows { ShowsCommand (command.Read name.now word) result (core_of self.old) (core_of self.new) }
+        ensures shows { ShowsCommand (command.Read name.now word) result
+            (core_of self.old) (core_of self.new) }
         ensures kept { IsKept self.new }
     {
         let slot = self.names.slot(name);
@@ -36,7 +37,8 @@ impl DomainDesk {
         requires bound { IsBoundTo self.old.names name.now is_any }
         ensures acts { Acts (desk_of self.old) (command.Counts name.now) result
             (desk_of self.new) }
-        ensures shows { ShowsCommand (command.Counts name.now) result (core_of self.old) (core_of self.new) }
+        ensures shows { ShowsCommand (command.Counts name.now) result
+            (core_of self.old) (core_of self.new) }
         ensures kept { IsKept self.new }
     {
         let slot = self.names.slot(name);

@@ -1,9 +1,9 @@
 //! Trials of texts that are interned in the weak cells of a directory, found, read back and given up, by one seat and
 //! by threads.
 //!
-//! Each call here makes one call of `weak_intern`, or a few, and gives up what it got, but for `intern_for_good`. Before
-//! it and after it a seat is in no call, under no snapshot, and has room. The tests say what texts they are and where
-//! their records must stand.
+//! Each call here makes one call of `weak_intern`, or a few, and gives up what it got, but for `intern_for_good`.
+//! Before it and after it a seat is in no call, under no snapshot, and has room. The tests say what texts they are and
+//! where their records must stand.
 //!
 //! It is for tests: nothing is promised but that each call may be made, and how many interns it uses.
 //!

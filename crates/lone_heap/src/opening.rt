@@ -21,8 +21,8 @@ const WIDE: Quota = Quota {
 };
 
 /// A domain with nothing in it, its one seat, and words that protect nothing: 1 to 4,194,304 slots, at most 65,536
-/// strong cells and 4,194,304 weak ones. `OutOfMemory` comes only of an allocation failure. It takes all the memory that
-/// the domain ever needs; linear in the slots and the cells.
+/// strong cells and 4,194,304 weak ones. `OutOfMemory` comes only of an allocation failure. It takes all the memory
+/// that the domain ever needs; linear in the slots and the cells.
 pub fn open<K: PayloadKind>(
     alloc: Global,
     slots: u32,
