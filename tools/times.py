@@ -1,84 +1,84 @@
 #!/usr/bin/env python3
-"""Times the proof of each crate, lowest first, in a fresh clone of what is committed.
+"""Tells what the merge gate costs, crate by crate.
 
-    tools/times.py [--edits] [NAME..]
+    tools/times.py COMMAND..       as tools/times.py rt ci
 
-For each crate it runs `rt check`, `rt check --test`, and with --edits `rt must-fail`, and prints the seconds of each
-and the processor seconds of all. With names it prints those crates alone, but checks those below them too. It needs
-the machine for itself.
+It runs the command in the repository's top folder, looks twice a second at the checkers that run on this machine, and
+prints a row for each crate at the end: its lines of code, definitions and proofs, and the processor seconds of its
+proof, of its proof with the tests, and of its must-fail edits. What the machine has kept from earlier runs isn't run
+again and has no number. Processor seconds depend little on what else the machine does; other checkers that run
+meanwhile are counted too.
 """
 import os
-import re
 import subprocess
 import sys
-import tempfile
 import time
+from collections import defaultdict
 from pathlib import Path
 
 TOP = Path(__file__).resolve().parent.parent
-
-
-def crates(text):
-    """The crates of crates.txt, lowest first, each with those that its line names."""
-    lines = re.findall(r"^(\w+)[^:#\n]*:(.*)$", text, re.M)
-    names = {name for name, _ in lines}
-    return {name: [word for word in rest.split() if word in names] for name, rest in lines}
-
-
-def wanted(below, names):
-    """The named crates and all below them."""
-    found, more = set(), list(names)
-    while more:
-        name = more.pop()
-        if name not in found:
-            found.add(name)
-            more += below[name]
-    return found
+TICKS = os.sysconf("SC_CLK_TCK")
 
 
 def lines_of(folder):
     return sum(len(path.read_text().splitlines()) for kind in ("*.rt", "*.antt") for path in folder.rglob(kind))
 
 
-def run(command, folder):
-    """The seconds that a command takes. One that fails ends the script with what it said."""
-    begun = time.monotonic()
-    done = subprocess.run(command, cwd=folder, capture_output=True, text=True)
-    if done.returncode:
-        told = f"{' '.join(command)} in {folder.name} ended with {done.returncode}"
-        sys.exit(f"times: {told}\n{done.stdout}{done.stderr}")
-    return time.monotonic() - begun
+def read(path):
+    try:
+        return Path(path).read_bytes()
+    except OSError:
+        return b""
 
 
-def processor():
-    spent = os.times()
-    return spent.children_user + spent.children_system
+def checker(process):
+    """The crate on which a process works, and as what: None where it is no checker."""
+    words = read(process / "cmdline").decode(errors="replace").split("\0")
+    if not words[0].endswith("/rattle") or "--crate-name" not in words:
+        return None
+    name = words[words.index("--crate-name") + 1]
+    try:
+        folder = os.readlink(process / "cwd")
+    except OSError:
+        return None
+    if f"/crates/{name}" not in folder or os.path.basename(folder) != name:
+        return name, "edits"
+    return name, "tests" if "--test" in words else "proof"
 
 
-def main(words):
-    edits = "--edits" in words
-    names = [word for word in words if word != "--edits"]
-    with tempfile.TemporaryDirectory() as folder:
-        clone = Path(folder) / "clone"
-        subprocess.run(["git", "clone", "-q", str(TOP), str(clone)], check=True)
-        below = crates((clone / "crates.txt").read_text())
-        unknown = [name for name in names if name not in below]
-        if unknown:
-            sys.exit(f"times: no crate {' '.join(unknown)}\n{__doc__}")
-        print("| Crate | Lines | Check | Tests | Edits | Processor |\n|---|---|---|---|---|---|")
-        for name in below:
-            if name not in wanted(below, names or below):
-                continue
-            crate, begun = clone / "crates" / name, processor()
-            took = [run(["rt", "check"], crate)]
-            if not names or name in names:
-                took.append(run(["rt", "check", "--test"], crate))
-                if edits and (crate / "must-fail").is_dir():
-                    took.append(run(["rt", "must-fail", name], clone))
-                cells = [f"{seconds:.0f}" for seconds in took] + [""] * (3 - len(took))
-                spent = f"{processor() - begun:.0f}"
-                print("|", " | ".join([name, str(lines_of(crate)), *cells, spent]), "|", flush=True)
+def seconds(process):
+    """When the process began, and the processor seconds that it and what it waited for have used."""
+    rest = read(process / "stat").rpartition(b")")[2].split()
+    return (rest[19], sum(map(int, rest[11:15])) / TICKS) if rest else (b"", 0)
+
+
+def watch(command):
+    """The processor seconds of each crate by kind of work, while the command runs, and its exit status."""
+    used, run = {}, subprocess.Popen(command, cwd=TOP)
+    while run.poll() is None:
+        for process in Path("/proc").glob("[0-9]*"):
+            work = checker(process)
+            if work:
+                begun, spent = seconds(process)
+                used[process.name, begun, work] = max(spent, used.get((process.name, begun, work), 0))
+        time.sleep(0.5)
+    total = defaultdict(float)
+    for (_, _, work), spent in used.items():
+        total[work] += spent
+    return total, run.returncode
+
+
+def main(command):
+    if not command:
+        sys.exit(__doc__)
+    total, status = watch(command)
+    kinds = ("proof", "tests", "edits")
+    print("| Crate | Lines | Proof | Tests | Edits |\n|---|---|---|---|---|")
+    for folder in sorted((TOP / "crates").iterdir()):
+        cells = [f"{total[folder.name, kind]:.0f}" if (folder.name, kind) in total else "" for kind in kinds]
+        print("|", " | ".join([folder.name, str(lines_of(folder)), *cells]), "|")
+    return status
 
 
 if __name__ == "__main__":
-    main(sys.argv[1:])
+    sys.exit(main(sys.argv[1:]))

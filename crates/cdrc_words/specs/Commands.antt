@@ -22,6 +22,10 @@ Asks line Words file = (line ≡ codes "words" ∷ file ∷ []) × IsOperand fil
 Asks line Script file = (rest : List (List ℕ)) × (line ≡ codes "script" ∷ rest) × IsOneFile rest file
 Asks line Steps file = (rest : List (List ℕ)) × (line ≡ codes "steps" ∷ rest) × IsOneFile rest file
 
+-- this holds of the task and the file that the words ask for, if they ask for some
+abbrev pub OfTask : List (List ℕ) → (Task → List ℕ → Type 0) → Type 0
+OfTask line holds = (task : Task) (file : List ℕ) → Asks line task file → holds task file
+
 -- the words ask for a task on a file
 abbrev pub AsksTask : List (List ℕ) → Type 0
 AsksTask line = (task : Task) × (file : List ℕ) × Asks line task file

@@ -1,9 +1,8 @@
 //! The top call.
-ghost use Rattle.std.specs.Prelude.{◌≡◌, ◌≢◌, ◌↔◌, ◌≤◌, ◌⊎◌, ℕ, List, IfErr, IfOk, IfSome, length, map, string_bytes, true, false};
+ghost use Rattle.std.specs.Prelude.{◌≡◌, ◌≢◌, ◌↔◌, ◌≤◌, ◌⊎◌, IfErr, IfOk, IfSome, length, map, string_bytes, true, false};
 ghost use Rattle.lane_gate.specs.Causes.{Rose, Stood};
-ghost use Rattle.cdrc_words.specs.declared.command.Task.{Task as Work};
 ghost use Rattle.cdrc_words.specs.declared.drawing.Draws.{Draws as Drawing};
-ghost use Rattle.cdrc_words.specs.Commands.{Asks, AsksText, IsCommand};
+ghost use Rattle.cdrc_words.specs.Commands.{AsksText, IsCommand, OfTask};
 ghost use Rattle.cdrc_words.specs.Outcomes.{EndsWith, IsContent, IsTooLarge, IsTooLong, IsWithinLimits, PassesLimit, TookOutput, TookPartOfOutput, text_of_draws};
 ghost use Rattle.cdrc_words.specs.Statuses.{IsStatus};
 ghost use Rattle.cdrc_words.specs.declared.outcome.Refusal.TheVariants as refusal;
@@ -43,36 +42,30 @@ pub fn run<R: Threads + Wait + Sync, F: Files, K: Sink, G: Gate + Sync>(
     ensures statuses { IsStatus result.status }
     ensures why { result.status ≢ 0 → result.status ≢ 8 → result.why ≡ Why.Nothing }
     ensures usage { (result.status ≡ 2) ↔ ¬ (IsCommand (map string_bytes words.now)) }
-    ensures done { result.status ≡ 0 →
-        (task : Work) (file : List ℕ) → Asks (map string_bytes words.now) task file →
+    ensures done { result.status ≡ 0 → OfTask (map string_bytes words.now) (λ task file.
         TookOutput task (F.told files.old file) false result.why
-        (K.taken sink.old) (K.taken sink.new) }
-    ensures refused { result.status ≡ 8 →
-        (task : Work) (file : List ℕ) → Asks (map string_bytes words.now) task file →
+        (K.taken sink.old) (K.taken sink.new)) }
+    ensures refused { result.status ≡ 8 → OfTask (map string_bytes words.now) (λ task file.
         TookOutput task (F.told files.old file) true result.why
-        (K.taken sink.old) (K.taken sink.new) }
+        (K.taken sink.old) (K.taken sink.new)) }
     ensures read { result.status ≡ 3 → Rose (F.faults files.old) (F.faults files.new) }
     ensures write { result.status ≡ 4 → Rose (K.faults sink.old) (K.faults sink.new) }
-    ensures write_part { result.status ≡ 4 →
-        (task : Work) (file : List ℕ) → Asks (map string_bytes words.now) task file →
-        TookPartOfOutput task (F.told files.old file) (K.taken sink.old) (K.taken sink.new) }
-    ensures large { result.status ≡ 5 →
-        (task : Work) (file : List ℕ) → Asks (map string_bytes words.now) task file →
-        IsTooLarge task (F.told files.old file) (F.overlong files.old) (F.overlong files.new) }
-    ensures large_exactly { (task : Work) (file : List ℕ) →
-        Asks (map string_bytes words.now) task file →
+    ensures write_part { result.status ≡ 4 → OfTask (map string_bytes words.now) (λ task file.
+        TookPartOfOutput task (F.told files.old file) (K.taken sink.old) (K.taken sink.new)) }
+    ensures large { result.status ≡ 5 → OfTask (map string_bytes words.now) (λ task file.
+        IsTooLarge task (F.told files.old file) (F.overlong files.old) (F.overlong files.new)) }
+    ensures large_exactly { OfTask (map string_bytes words.now) (λ task file.
         IfSome (F.told files.old file) (λ content. PassesLimit task content →
         Stood (F.faults files.old) (F.faults files.new) →
-        (result.status ≡ 5) ⊎ (result.status ≡ 9)) }
-    ensures complete { (task : Work) (file : List ℕ) → Asks (map string_bytes words.now) task file →
+        (result.status ≡ 5) ⊎ (result.status ≡ 9))) }
+    ensures complete { OfTask (map string_bytes words.now) (λ task file.
         IfSome (F.told files.old file) (λ content. IsWithinLimits task content →
         Stood (F.faults files.old) (F.faults files.new) →
         Stood (K.faults sink.old) (K.faults sink.new) →
-        (result.status ≡ 0) ⊎ (result.status ≡ 8) ⊎ (result.status ≡ 9)) }
-    ensures memory { result.status ≡ 9 →
-        (task : Work) (file : List ℕ) → Asks (map string_bytes words.now) task file →
+        (result.status ≡ 0) ⊎ (result.status ≡ 8) ⊎ (result.status ≡ 9))) }
+    ensures memory { result.status ≡ 9 → OfTask (map string_bytes words.now) (λ task file.
         (K.taken sink.new ≡ K.taken sink.old)
-        ⊎ TookPartOfOutput task (F.told files.old file) (K.taken sink.old) (K.taken sink.new) }
+        ⊎ TookPartOfOutput task (F.told files.old file) (K.taken sink.old) (K.taken sink.new)) }
     ensures nothing { (result.status ≡ 2) ⊎ (result.status ≡ 3) ⊎ (result.status ≡ 5) →
         K.taken sink.new ≡ K.taken sink.old }
     ensures drawn { (draws : Drawing) → AsksText (map string_bytes words.now) draws →
