@@ -4,8 +4,8 @@
 //!
 //! `DomainDesk::fault` tells why a command is refused. `DomainDesk::run` does one with which nothing is wrong, as its
 //! row says in `script_desk/specs/Effects`, by the calls of the domain's seat, and then the seat settles. What it does
-//! is told of the plain state that the seat knows, in the words of the desk for one thread, and by what the seat's trail
-//! shows. `DomainDesk::close` gives up all handles, and hands out the domain and its seat.
+//! is told of the plain state that the seat knows, in the words of the desk for one thread, and by what the seat's
+//! trail shows. `DomainDesk::close` gives up all handles, and hands out the domain and its seat.
 //!
 //! Nothing is promised of a desk after `OutOfMemory`.
 //!
