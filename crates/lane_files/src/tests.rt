@@ -40,7 +40,7 @@ struct Noted {
 
 impl Gate for Noted {
     fn pass<R: Wait>(&self, _rt: &R, lane: u32, turn: u64) {
-        if lane == 3 && turn == self.next.load() {
+        if lane == 3 && turn < 100 && turn == self.next.load() {
             self.next.store(turn + 1);
         }
     }
