@@ -4,7 +4,7 @@ use Rattle.queue_law.specs.declared.view.Item.{Item}
 use Rattle.queue_law.specs.declared.view.View.{View}
 use Rattle.queue_law.specs.Pushes.{carried_item}
 use Rattle.queue_law.specs.Views.{first_view}
-use Rattle.part_calls.specs.Parts.{seen_by}
+use Rattle.part_calls.specs.Parts.{seen_by, as_part}
 use Rattle.part_calls.proofs.Beside.{stays_beside}
 use Rattle.linked_queue.specs.Pops.{item_in}
 use Rattle.linked_queue.specs.Pushes.{pushed_too}
@@ -15,6 +15,7 @@ use Rattle.linked_queue.proofs.Leavings.{drop_leaves}
 use Rattle.double_link_queue.specs.Pushes.{landed_in}
 use Rattle.double_link_queue.proofs.Leavings.{both_same}
 use Rattle.double_link_queue.proofs.Owning.{both_of, nothing_gives, through_both}
+use Rattle.linked_queue.proofs.Pushings.{never_pushed}
 use Rattle.double_link_queue.proofs.queue.DoubleQueue.push.Goals as goal
 
 pub returns-in-Err-clause-beside : goal.returns-in-Err-clause-beside
@@ -94,12 +95,8 @@ returns-in-Err-push_at_last-clause-beside g c =
     g.P.Part.puts_over c.args.seat.now c.push_at_last.new.seat
     (c.push_at_last.ensures.beside_part ∙ c.load_node.ensures.beside_part)
 
-pub returns-in-Err-push_at_last-clause-why : goal.returns-in-Err-push_at_last-clause-why
-returns-in-Err-push_at_last-clause-why g c =
-    inr (
-      refl,
-      c.in-Ok.node.slot,
-      (seen_by g.P.Part.seen c.load_node.new.seat),
-      c.in-Ok.ensures.events,
-      c.in-Err-push_at_last.ensures.why,
-    )
+pub returns-in-Err-clause-why : goal.returns-in-Err-clause-why
+returns-in-Err-clause-why g c =
+    never_pushed g.P.Kind.PayloadKind.fits (as_part g.P.Part.part c.args.domain.now) 1 c.in-Err.why
+    (seen_by g.P.Part.seen c.args.seat.now) (seen_by g.P.Part.seen c.load_node.new.seat)
+    c.in-Err.ensures.why c.in-Err.ensures.spent
