@@ -1,4 +1,4 @@
-use Rattle.std.proofs.Common.{[], ◌∷◌, ◌++◌, inr, refl, ap, sym, ◌∙◌, arith}
+use Rattle.std.proofs.Common.{[], ◌∷◌, ◌++◌, refl, ap, sym, ◌∙◌, arith}
 use Rattle.std.specs.Prelude.{None}
 use Rattle.queue_law.specs.declared.view.Item.{Item}
 use Rattle.queue_law.specs.declared.view.View.{View}
@@ -11,7 +11,7 @@ use Rattle.linked_queue.specs.Pushes.{pushed_too}
 use Rattle.linked_queue.specs.Queues.{deeds_in}
 use Rattle.linked_queue.proofs.Accepting.{may_still}
 use Rattle.core_events.specs.Views.{without}
-use Rattle.linked_queue.proofs.Leavings.{drop_leaves}
+use Rattle.linked_queue.proofs.Leavings.{drop_leaves, drop_makes}
 use Rattle.double_link_queue.specs.Pushes.{landed_in}
 use Rattle.double_link_queue.proofs.Leavings.{both_same}
 use Rattle.double_link_queue.proofs.Owning.{both_of, nothing_gives, through_both}
@@ -100,3 +100,17 @@ returns-in-Err-clause-why g c =
     never_pushed g.P.Kind.PayloadKind.fits (as_part g.P.Part.part c.args.domain.now) 1 c.in-Err.why
     (seen_by g.P.Part.seen c.args.seat.now) (seen_by g.P.Part.seen c.load_node.new.seat)
     c.in-Err.ensures.why c.in-Err.ensures.spent
+
+pub returns-in-Ok-push_at_last-clause-makes : goal.returns-in-Ok-push_at_last-clause-makes
+returns-in-Ok-push_at_last-clause-makes g c =
+    let same = drop_makes c.args.item.slot (seen_by g.P.Part.seen c.push_at_last.new.seat)
+    (seen_by g.P.Part.seen c.drop_strong.new.seat) c.drop_strong.ensures.dropped in
+    let none = c.push_at_last.ensures.makes in
+    let makes = c.load_node.ensures.makes in omega arith
+
+pub returns-in-Ok-push_at_last-clause-makes_kept : goal.returns-in-Ok-push_at_last-clause-makes_kept
+returns-in-Ok-push_at_last-clause-makes_kept g c =
+    let same = drop_makes c.args.item.slot (seen_by g.P.Part.seen c.push_at_last.new.seat)
+    (seen_by g.P.Part.seen c.drop_strong.new.seat) c.drop_strong.ensures.dropped in
+    let none = c.push_at_last.ensures.makes in
+    let makes = c.load_node.ensures.makes_kept in omega arith
