@@ -1,6 +1,6 @@
 -- One piece more of a file.
 use Rattle.std.proofs.Common.{◌≡◌, inl, ℕ, ◌+◌, ◌<◌, ◌≤◌, Bool, true, false, List, [], ◌∷◌, ◌++◌, refl, sym, ap, subst, ◌∙◌, arith, append_assoc}
-use Rattle.std.specs.Prelude.{cond, length, map, nat_lt}
+use Rattle.std.specs.Prelude.{cond, length, nat_lt}
 use Rattle.std.proofs.lemmas.Bool.{ltb-true}
 use Rattle.std.proofs.lemmas.List.{append-nil, length-append, map-append}
 use Rattle.plain_state.specs.declared.slot.SlotId.{SlotId}
@@ -12,7 +12,6 @@ use Rattle.acquire_retire.specs.Seats.{SeatState}
 use Rattle.words_protocol.specs.declared.law.WordsLaw.{WordsLaw}
 use Rattle.words_law.specs.Views.{View}
 use Rattle.word_lanes.specs.Counting.{Takes, UsesInterns}
-use Rattle.word_lanes.specs.Ready.{Owns}
 use Rattle.word_lanes.proofs.Counted.{counts_then, tallies_then, takes_none}
 use Rattle.word_lanes.proofs.Kept.{owns_as, owns_none, owns_then, uses_none, uses_then}
 use Rattle.lane_files.specs.declared.lane.Lane.{Lane}

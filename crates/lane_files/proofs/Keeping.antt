@@ -1,12 +1,10 @@
 -- A reference that is kept, or given up.
-use Rattle.std.proofs.Common.{◌≡◌, ⊎_elim, ℕ, ◌<◌, Bool, true, false, List, [], ◌∷◌, ◌++◌, refl, sym, ap, subst, ◌∙◌, arith}
-use Rattle.std.specs.Prelude.{◌==◌, cond, nat_eq}
-use Rattle.std.proofs.lemmas.Bool.{cases_eq}
+use Rattle.std.proofs.Common.{◌≡◌, ℕ, ◌<◌, Bool, true, false, [], ◌∷◌, ◌++◌, sym, ap, subst, ◌∙◌, arith}
+use Rattle.std.specs.Prelude.{◌==◌, cond}
 use Rattle.std.proofs.lemmas.Bool.Decides.{nat_tests}
 use Rattle.std.proofs.lemmas.List.{append-nil}
 use Rattle.plain_state.specs.declared.slot.SlotId.{SlotId}
 use Rattle.plain_state.specs.Lists.{times}
-use Rattle.core_events.specs.Counts.{one}
 use Rattle.core_events.specs.Views.{without}
 use Rattle.core_invariant.proofs.Kit.{times_push, times_without}
 use Rattle.counted_handles.specs.Handles.{Handle}
@@ -15,7 +13,7 @@ use Rattle.words_law.specs.Views.{View}
 use Rattle.word_lanes.specs.Ready.{Owns}
 use Rattle.word_lanes.proofs.Kept.{owns_as, owns_none}
 use Rattle.lane_files.specs.declared.keeper.Keeper.{Keeper}
-use Rattle.lane_files.specs.Keeping.{KeepsOne, has, slots_of}
+use Rattle.lane_files.specs.Keeping.{KeepsOne, has}
 
 same_mark : (a b : ℕ) (x y : Bool) → (a ≡ b → x ≡ true) → (a ≡ b → y ≡ true) → (¬ (a ≡ b) → y ≡ x)
     → y ≡ cond (a == b) true x

@@ -1,5 +1,5 @@
 -- What the seat owns after one piece more.
-use Rattle.std.proofs.Common.{◌≡◌, inl, ℕ, ◌+◌, ◌<◌, ◌≤◌, Bool, true, false, List, [], ◌∷◌, ◌++◌, refl, sym, ap, ◌∙◌, arith}
+use Rattle.std.proofs.Common.{◌≡◌, inl, ℕ, ◌<◌, Bool, true, false, List, [], ◌∷◌, ◌++◌, refl, ap, ◌∙◌, arith}
 use Rattle.std.specs.Prelude.{cond}
 use Rattle.plain_state.specs.declared.slot.SlotId.{SlotId}
 use Rattle.plain_state.specs.Lists.{times}
@@ -7,7 +7,6 @@ use Rattle.core_events.specs.Views.{without}
 use Rattle.core_events.specs.Counts.{one}
 use Rattle.core_invariant.proofs.Kit.{one_same, times_append, times_push, times_without}
 use Rattle.counted_handles.specs.Handles.{Handle}
-use Rattle.domain_rule.specs.Views.{object_in}
 use Rattle.acquire_retire.specs.Seats.{SeatState}
 use Rattle.weak_intern.specs.Knowing.{KnowsRecord}
 use Rattle.words_law.specs.Views.{View}

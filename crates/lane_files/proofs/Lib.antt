@@ -1,7 +1,11 @@
 pub mod Counted
+pub mod Drawn
+pub mod Giving
 pub mod Keeping
 pub mod Kept
 pub mod Nexts
 pub mod Pieces
 pub mod Records
+pub mod Runs
+pub mod Tickets
 pub mod Tidied

@@ -1,6 +1,6 @@
 -- A piece by its number.
-use Rattle.std.proofs.Common.{◌≡◌, ℕ, ◌+◌, ◌<◌, ◌≤◌, List, [], ◌∙◌, subst, sym, arith}
-use Rattle.std.specs.Prelude.{drop, length, map, slice_index_or, take}
+use Rattle.std.proofs.Common.{◌≡◌, ℕ, ◌<◌, ◌≤◌, List, [], subst, sym, arith}
+use Rattle.std.specs.Prelude.{drop, length, slice_index_or}
 use Rattle.std.proofs.lemmas.List.{get_or-map, length-drop, length-map, length-take-le}
 use Rattle.std.proofs.lemmas.List.Elements.{All-get_or}
 use Rattle.cdrc_text.specs.Pieces.{bytes_at}

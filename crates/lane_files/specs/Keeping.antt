@@ -1,10 +1,13 @@
 -- The references that a lane keeps.
-use Rattle.std.specs.Prelude.{ℕ, ◌≡◌, ◌==◌, ◌++◌, Bool, true, cond, List, [], ◌∷◌, map}
+use Rattle.std.specs.Prelude.{◌≡◌, ◌==◌, ◌+◌, ◌++◌, Bool, true, cond, List, [], ◌∷◌, map}
 use Rattle.std.specs.HashSet.{contains_by}
 use Rattle.plain_state.specs.declared.slot.SlotId.{SlotId}
-use Rattle.core_events.specs.Views.{without}
+use Rattle.plain_state.specs.Lists.{times}
+use Rattle.core_events.specs.Views.{Holds, without}
 use Rattle.counted_handles.specs.Handles.{Handle}
+use Rattle.domain_rule.specs.Views.{object_in}
 use Rattle.acquire_retire.specs.Seats.{SeatState}
+use Rattle.directory_calls.specs.Steps.{aside}
 use Rattle.words_law.specs.Views.{View}
 use Rattle.word_lanes.specs.Ready.{Owns}
 use Rattle.lane_files.specs.declared.keeper.Keeper.{Keeper}
@@ -30,3 +33,15 @@ pub record KeepsOne (handle : Handle) (before after : Keeper) (old new : SeatSta
   pub marks : (s : SlotId) → has after s ≡ cond (handle.slot.0 == s.0) true (has before s)
   pub owns :
       Owns (without handle.slot old.view.core.owned ++ slots_of more) old new
+
+-- The seat has given up these references. What it owns weakly and has beside is as it was, and so is what it knows of
+-- the objects that it still holds.
+pub record GivesUp (gone : List SlotId) (old new : SeatState View) : Type 0 where
+  pub strongly :
+      (x : SlotId) → times x new.view.core.owned + times x gone
+      ≡ times x old.view.core.owned
+  pub weakly : (x : SlotId) → times x new.view.core.weaks ≡ times x old.view.core.weaks
+  pub same : aside new.view.core ≡ aside old.view.core
+  pub knows :
+      (x : SlotId) → Holds old.view.core x → Holds new.view.core x
+      → object_in new.view x ≡ object_in old.view x

@@ -1,4 +1,6 @@
 pub mod Counting
 pub mod Files
 pub mod Keeping
+pub mod Lanes
 pub mod Next
+pub mod Work

@@ -1,10 +1,10 @@
 //! The references that a lane keeps.
-ghost use Rattle.std.specs.Prelude.{◌≡◌, ◌==◌, ◌<◌, [], OnErr, OnOk, cond, false, true, vec_capacity, vec_len};
+ghost use Rattle.std.specs.Prelude.{◌≡◌, ◌==◌, ◌<◌, ◌≤◌, [], OnErr, OnOk, cond, drop, false, take, true, vec_capacity, vec_len};
 ghost use Rattle.plain_state.specs.declared.slot.SlotId.{SlotId};
 ghost use Rattle.plain_state.specs.Lists.{times};
 ghost use Rattle.core_events.specs.Views.{without};
 ghost use Rattle.word_lanes.specs.Ready.{IsReady, Owns};
-ghost use Rattle.lane_files.specs.Keeping.{IsSameKeeper, KeepsOne, has};
+ghost use Rattle.lane_files.specs.Keeping.{GivesUp, IsSameKeeper, KeepsOne, has, slots_of};
 
 use acquire_retire::{Domain, Seat};
 use control_word::drop_strong;
@@ -71,6 +71,31 @@ impl Keeper {
         }
         self.kept.push_reserved(handle);
         Ok(())
+    }
+
+    /// Gives up what is kept, but for the first so many references. At most three steps for each.
+    pub fn give_back(
+        &mut self,
+        domain: &Domain<WordsLaw>,
+        seat: &mut Seat<WordsLaw>,
+        shared: &Shared,
+        first: usize,
+    )
+        requires ready { IsReady domain.now shared.now seat.old }
+        requires first { first ≤ vec_len self.old.kept }
+        requires owned { (s : SlotId) → times s (slots_of (drop first self.old.kept.items))
+            ≤ times s seat.old.view.core.owned }
+        ensures kept { self.new.kept.items ≡ take first self.old.kept.items }
+        ensures gives { GivesUp (slots_of (drop first self.old.kept.items)) seat.old seat.new }
+        ensures client { seat.new.view.client ≡ seat.old.view.client }
+        ensures ready { IsReady domain.now shared.now seat.new }
+    {
+        while self.kept.len() > first {
+            let Some(handle) = self.kept.pop() else {
+                unreachable!()
+            };
+            drop_strong(domain, seat, handle);
+        }
     }
 
     /// Notes a slot for the present file, and makes room for one reference more.

@@ -1,7 +1,9 @@
-//! Why a lane counts no further in a file.
+//! Why a lane counts no further.
 ghost use Rattle.std.specs.Prelude.{◌≡◌};
 ghost use Rattle.lane_files.specs.declared.refusal.FileError.TheVariants as refused;
+ghost use Rattle.lane_files.specs.declared.refusal.LaneStop.TheVariants as stopped;
 
+use counted_handles::Spent;
 use out_of_memory::OutOfMemory;
 use word_lanes::PieceError;
 
@@ -27,5 +29,30 @@ impl From<PieceError> for FileError {
 
     fn from(error: PieceError) -> FileError {
         FileError::Piece(error)
+    }
+}
+
+/// Why a lane draws no further ticket.
+#[derive(Clone, Copy, PartialEq, Eq, Debug, Drop)]
+pub enum LaneStop {
+    /// The seat had no add left for a ticket.
+    Spent,
+    /// A file wasn't counted to its end.
+    File(FileError),
+}
+
+impl From<Spent> for LaneStop {
+    ghost from_gives = { λ _ r. r ≡ stopped.Spent };
+
+    fn from(_error: Spent) -> LaneStop {
+        LaneStop::Spent
+    }
+}
+
+impl From<FileError> for LaneStop {
+    ghost from_gives = { λ error r. r ≡ stopped.File error };
+
+    fn from(error: FileError) -> LaneStop {
+        LaneStop::File(error)
     }
 }

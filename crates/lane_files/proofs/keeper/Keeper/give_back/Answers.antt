@@ -1,0 +1,46 @@
+use Rattle.std.proofs.Common.{◌∷◌, ◌++◌, [], refl, sym, ap, ◌∙◌, arith, append-nil, append_assoc}
+use Rattle.word_lanes.proofs.Copied.{copy_ready}
+use Rattle.word_lanes.proofs.Kept.{owns_drop}
+use Rattle.lane_files.proofs.Giving.{gives_next, gives_none, owned_next}
+use Rattle.lane_files.proofs.keeper.Keeper.give_back.Goals as goal
+
+pub loop-self-init : goal.loop-self-init
+loop-self-init c = record {
+  ready = c.requires.ready;
+  client = refl;
+  first = c.requires.first;
+  gone = ([], sym (append-nil c.args.self.now.kept.items), gives_none c.args.seat.now);
+}
+
+pub drop_strong-requires-clause-owned : goal.drop_strong-requires-clause-owned
+drop_strong-requires-clause-owned c =
+    let gone = c.loop-self.invariant.gone in
+    owned_next c.args.first c.args.self.now.kept.items c.pop.new.self.items c.in-Some.handle
+    gone.0
+    (gone.1 ∙ ap (λ hs. hs ++ gone.0) c.in-Some.ensures.items
+    ∙ append_assoc c.pop.new.self.items (c.in-Some.handle ∷ []) gone.0)
+    (let t = c.loop-self-test.true in let e = c.len.ensures in let l = c.in-Some.ensures.len in
+    omega (arith, t))
+    c.args.seat.now c.loop-self.seat gone.2 (c.requires.owned c.in-Some.handle.slot)
+
+pub loop-self-preserved : goal.loop-self-preserved
+loop-self-preserved c =
+    let gone = c.loop-self.invariant.gone in
+    let drops = owns_drop _ c.args.domain.now c.in-Some.handle.slot c.loop-self.seat
+    c.drop_strong.new.seat c.drop_strong.ensures.dropped c.drop_strong.ensures.objects in
+    record {
+      ready = copy_ready c.loop-self.seat c.drop_strong.new.seat c.loop-self.invariant.ready drops
+          c.drop_strong.ensures.client
+          (c.drop_strong.ensures.room c.loop-self.invariant.ready.room)
+          c.drop_strong.ensures.rest;
+      client = c.drop_strong.ensures.client ∙ c.loop-self.invariant.client;
+      first = let t = c.loop-self-test.true in let e = c.len.ensures in
+          let l = c.in-Some.ensures.len in omega (arith, t);
+      gone = (
+        c.in-Some.handle ∷ gone.0,
+        gone.1 ∙ ap (λ hs. hs ++ gone.0) c.in-Some.ensures.items
+            ∙ append_assoc c.pop.new.self.items (c.in-Some.handle ∷ []) gone.0,
+        gives_next c.in-Some.handle gone.0 c.args.seat.now c.loop-self.seat
+            c.drop_strong.new.seat gone.2 (drop_strong-requires-clause-owned c.before) drops,
+      );
+    }

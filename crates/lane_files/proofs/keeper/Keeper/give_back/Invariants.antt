@@ -1,0 +1,18 @@
+use Rattle.std.proofs.Common.{◌≡◌, ◌≤◌, ◌++◌, List}
+use Rattle.std.specs.Prelude.{vec_len}
+use Rattle.counted_handles.specs.Handles.{Handle}
+use Rattle.word_lanes.specs.Ready.{IsReady}
+use Rattle.lane_files.specs.Keeping.{GivesUp, slots_of}
+use Rattle.lane_files.proofs.keeper.Keeper.give_back.Given as goal
+
+abbrev pub invariant-loop-self : goal.invariant-loop-self
+invariant-loop-self l = record {
+  ready : IsReady l.domain l.shared l.seat;
+  client : l.seat.view.client ≡ l.fn.seat.view.client;
+  first : l.first ≤ vec_len l.self.kept;
+  gone : (gone : List Handle) × (l.fn.self.kept.items ≡ l.self.kept.items ++ gone)
+      × GivesUp (slots_of gone) l.fn.seat l.seat;
+}
+
+abbrev pub decreases-loop-self : goal.decreases-loop-self
+decreases-loop-self l = vec_len l.self.kept
