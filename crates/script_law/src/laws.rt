@@ -1,0 +1,6 @@
+//! Laws.
+
+/// Nothing.
+pub fn placeholder()
+    ensures { Unit {0} }
+{}
