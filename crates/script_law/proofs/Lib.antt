@@ -1,3 +1,4 @@
 pub mod Sums
 pub mod Counts
 pub mod States
+pub mod Tidying
