@@ -28,13 +28,22 @@ renamed_place to (Field s i) = Field (to s) i
 renamed_place to (WeakCell i) = WeakCell i
 renamed_place to (WeakField s) = WeakField (to s)
 
+-- the fields of a slot, and those of the slot of its new name
+pub record FieldsAlike (to : SlotId → SlotId) (x y : PlainSlot) : Type 0 where
+  pub first : y.first ≡ renamed to x.first
+  pub second : y.second ≡ renamed to x.second
+  pub weak_field : y.weak_field ≡ renamed to x.weak_field
+
+pub fields_of : (to : SlotId → SlotId) (x y : PlainSlot) → SlotsAlike to x y → FieldsAlike to x y
+fields_of to x y same = record { first = same.first; second = same.second; weak_field = same.weak_field }
+
 module _ (to from : SlotId → SlotId) (n : ℕ) (r : IsRenaming n to from) where
-  pub strong_fields_alike : (s : SlotId) (x y : PlainSlot) → SlotsAlike to x y → strong_fields (to s) y ≡ strong_fields s x
+  pub strong_fields_alike : (s : SlotId) (x y : PlainSlot) → FieldsAlike to x y → strong_fields (to s) y ≡ strong_fields s x
   strong_fields_alike s x y same =
       let a = ap (held_in (to s)) same.first ∙ held_renamed to from r.back r.forth s x.first in
       let b = ap (held_in (to s)) same.second ∙ held_renamed to from r.back r.forth s x.second in omega arith
 
-  pub weak_fields_alike : (s : SlotId) (x y : PlainSlot) → SlotsAlike to x y → weak_fields (to s) y ≡ weak_fields s x
+  pub weak_fields_alike : (s : SlotId) (x y : PlainSlot) → FieldsAlike to x y → weak_fields (to s) y ≡ weak_fields s x
   weak_fields_alike s x y same = ap (held_in (to s)) same.weak_field ∙ held_renamed to from r.back r.forth s x.weak_field
 
   either_field : (x y : PlainSlot) → SlotsAlike to x y → (first : Bool)
@@ -42,27 +51,37 @@ module _ (to from : SlotId → SlotId) (n : ℕ) (r : IsRenaming n to from) wher
   either_field x y same true = same.first
   either_field x y same false = same.second
 
-  module _ (p q : Plain) (size : n ≡ length p.slots) (alike : StatesAlike to p q) where
-    -- a number that is read off each slot adds up to the same
-    pub slots_alike : (f g : PlainSlot → ℕ) → ((s : SlotId) → s.0 < n → g (slot_at q (to s)) ≡ f (slot_at p s))
-        → over_slots g q.slots ≡ over_slots f p.slots
-    slots_alike f g same =
-        slots_total g q.slots
-        ∙ ap (λ (m : ℕ). total m (λ s. g (slot_at q s))) (alike.size ∙ sym size)
-        ∙ total_renamed n to from (λ s. f (slot_at p s)) (λ s. g (slot_at q s)) r same
-        ∙ ap (λ (m : ℕ). total m (λ s. f (slot_at p s))) size
-        ∙ sym (slots_total f p.slots)
+  -- a number that is read off each slot adds up to the same
+  pub slots_alike : (p q : Plain) → n ≡ length p.slots → length q.slots ≡ length p.slots → (f g : PlainSlot → ℕ)
+      → ((s : SlotId) → s.0 < n → g (slot_at q (to s)) ≡ f (slot_at p s))
+      → over_slots g q.slots ≡ over_slots f p.slots
+  slots_alike p q size sizes f g same =
+      slots_total g q.slots
+      ∙ ap (λ (m : ℕ). total m (λ s. g (slot_at q s))) (sizes ∙ sym size)
+      ∙ total_renamed n to from (λ s. f (slot_at p s)) (λ s. g (slot_at q s)) r same
+      ∙ ap (λ (m : ℕ). total m (λ s. f (slot_at p s))) size
+      ∙ sym (slots_total f p.slots)
 
+  -- where all fields and cells are the same, so are the numbers of places that hold a slot
+  pub held_alike : (p q : Plain) → n ≡ length p.slots → length q.slots ≡ length p.slots
+      → ((s : SlotId) → FieldsAlike to (slot_at p s) (slot_at q (to s)))
+      → q.cells ≡ map (renamed to) p.cells → q.weak_cells ≡ map (renamed to) p.weak_cells
+      → (k : Kind) (s : SlotId) → places k q (to s) ≡ places k p s
+  held_alike p q size sizes fields cells weak_cells Strong s =
+      let a = ap (cell_times (to s)) cells ∙ cells_renamed to from r.back r.forth s p.cells in
+      let b = slots_alike p q size sizes (strong_fields s) (strong_fields (to s))
+      (λ t h. strong_fields_alike s (slot_at p t) (slot_at q (to t)) (fields t)) in omega arith
+  held_alike p q size sizes fields cells weak_cells Weak s =
+      let a = ap (cell_times (to s)) weak_cells ∙ cells_renamed to from r.back r.forth s p.weak_cells in
+      let b = slots_alike p q size sizes (weak_fields s) (weak_fields (to s))
+      (λ t h. weak_fields_alike s (slot_at p t) (slot_at q (to t)) (fields t)) in omega arith
+  held_alike p q size sizes fields cells weak_cells Disposal s = refl
+
+  module _ (p q : Plain) (size : n ≡ length p.slots) (alike : StatesAlike to p q) where
     pub places_alike : (k : Kind) (s : SlotId) → places k q (to s) ≡ places k p s
-    places_alike Strong s =
-        let a = ap (cell_times (to s)) alike.cells ∙ cells_renamed to from r.back r.forth s p.cells in
-        let b = slots_alike (strong_fields s) (strong_fields (to s))
-        (λ t h. strong_fields_alike s (slot_at p t) (slot_at q (to t)) (alike.slots t)) in omega arith
-    places_alike Weak s =
-        let a = ap (cell_times (to s)) alike.weak_cells ∙ cells_renamed to from r.back r.forth s p.weak_cells in
-        let b = slots_alike (weak_fields s) (weak_fields (to s))
-        (λ t h. weak_fields_alike s (slot_at p t) (slot_at q (to t)) (alike.slots t)) in omega arith
-    places_alike Disposal s = refl
+    places_alike =
+        held_alike p q size alike.size (λ s. fields_of to (slot_at p s) (slot_at q (to s)) (alike.slots s))
+        alike.cells alike.weak_cells
 
     module _ (one : length p.seats ≡ 1) (other : length q.seats ≡ 1) where
       -- a number that is read off the one seat

@@ -99,7 +99,7 @@ ended_fate x y z f taken filled same dead blank = record {
 
 -- the seat is written, and keeps its lists of handles
 module _ (p m : Plain) (t : Tidying p m) (w : PlainSeat) where
-  there : 0 < length m.seats
+  pub there : 0 < length m.seats
   there = let a = t.seats in omega arith
 
   seat_is : seat_at (with_seat m 0 w) 0 ≡ w
@@ -182,16 +182,16 @@ seat_slots : (p m : Plain) (w : PlainSeat) → KeepsSlots p m → KeepsSlots p (
 seat_slots p m w k = record { size = k.size; cells = k.cells; weak_cells = k.weak_cells; fates = k.fates }
 
 -- the slot that is cleared keeps its object
-cleared : (m : Plain) (place : EventPlace) (w : PlainSeat) → IsDyingField m 0 place → Sound m → 0 < length m.seats
+pub cleared : (m : Plain) (place : EventPlace) (w : PlainSeat) → IsDyingField m 0 place → Sound m → 0 < length m.seats
     → (s : SlotId) × (y : PlainSlot) × (stage_at m s ≡ Ended) × (with_content (with_seat m 0 w) place None ≡ with_slot (with_seat m 0 w) s y)
     × (y.stage ≡ stage_at m s) × (y.payload ≡ (slot_at m s).payload)
-cleared m (Cell i) w d so there = absurd d
-cleared m (WeakCell i) w d so there = absurd d
-cleared m (Field s i) w d so there =
+cleared m (Cell i) w d so here = absurd d
+cleared m (WeakCell i) w d so here = absurd d
+cleared m (Field s i) w d so here =
     let o = field_object None (slot_at m s) (i == 0) in
-    (s, with_field i None (slot_at m s), dying_ended m 0 s so there d.1.0, refl, o.0, o.3)
-cleared m (WeakField s) w d so there =
-    (s, record (slot_at m s) { weak_field = None }, dying_ended m 0 s so there d.0, refl, refl, refl)
+    (s, with_field i None (slot_at m s), dying_ended m 0 s so here d.1.0, refl, o.0, o.3)
+cleared m (WeakField s) w d so here =
+    (s, record (slot_at m s) { weak_field = None }, dying_ended m 0 s so here d.0, refl, refl, refl)
 
 null_holds : (k j : Kind) (s : SlotId) → of_kind k j (held_in s None) ≡ 0
 null_holds Strong Strong s = held_none s
@@ -222,10 +222,10 @@ clear_field m place w there same not Disposal s = let z = not (held_in s (conten
 clear_places : (m : Plain) (place : EventPlace) (w : PlainSeat) → IsDyingField m 0 place → Sound m → 0 < length m.seats
     → (k : Kind) (s : SlotId) → places k (with_content (with_seat m 0 w) place None) s
     + of_kind k (place_kind place) (held_in s (content m place)) ≡ places k m s
-clear_places m (Cell i) w d so there k s = absurd d
-clear_places m (WeakCell i) w d so there k s = absurd d
-clear_places m (Field x i) w d so there k s = clear_field m (Field x i) w (is_there m x (λ f. let e = dying_ended m 0 x so there d.1.0 in cc)) refl (λ n. refl) k s
-clear_places m (WeakField x) w d so there k s = clear_field m (WeakField x) w (is_there m x (λ f. let e = dying_ended m 0 x so there d.0 in cc)) refl (λ n. refl) k s
+clear_places m (Cell i) w d so here k s = absurd d
+clear_places m (WeakCell i) w d so here k s = absurd d
+clear_places m (Field x i) w d so here k s = clear_field m (Field x i) w (is_there m x (λ f. let e = dying_ended m 0 x so here d.1.0 in cc)) refl (λ n. refl) k s
+clear_places m (WeakField x) w d so here k s = clear_field m (WeakField x) w (is_there m x (λ f. let e = dying_ended m 0 x so here d.0 in cc)) refl (λ n. refl) k s
 
 -- a step that writes the seat
 module _ (p m q : Plain) (t : Tidying p m) (w : PlainSeat) (sound : Sound q) (seats : q.seats ≡ set m.seats 0 w) where
