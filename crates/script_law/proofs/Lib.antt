@@ -4,3 +4,4 @@ pub mod States
 pub mod Tidying
 pub mod Outliving
 pub mod Settled
+pub mod Backwards
