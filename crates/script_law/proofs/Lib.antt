@@ -5,3 +5,5 @@ pub mod Tidying
 pub mod Outliving
 pub mod Settled
 pub mod Backwards
+pub mod Names
+pub mod Orderly

@@ -1,3 +1,4 @@
 pub mod Renamings
 pub mod States
 pub mod Desks
+pub mod Orderly
