@@ -7,3 +7,5 @@ pub mod Settled
 pub mod Backwards
 pub mod Names
 pub mod Orderly
+pub mod Moving
+pub mod Steps
