@@ -9,3 +9,5 @@ pub mod Names
 pub mod Orderly
 pub mod Moving
 pub mod Steps
+pub mod Faults
+pub mod Desks

@@ -76,7 +76,7 @@ one_end x Free Blank rest a b = absurd (blank_only x Free b.4 a.4 (λ e. cc))
 one_end x Husk Blank rest a b = absurd (blank_only x Husk b.4 a.4 (λ e. cc))
 
 -- what isn't free wasn't free
-was_taken : (x y : Stage) → (y ≡ x) ⊎ ((y ≢ Live) × (y ≢ Blank) × (x ≢ Free) × (x ≢ Blank)) → y ≢ Free → x ≢ Free
+pub was_taken : (x y : Stage) → (y ≡ x) ⊎ ((y ≢ Live) × (y ≢ Blank) × (x ≢ Free) × (x ≢ Blank)) → y ≢ Free → x ≢ Free
 was_taken x y later taken free = ⊎_elim (λ (e : y ≡ x). taken (e ∙ free)) (λ o. o.2 free) later
 
 live_or_not : (x : Stage) → (x ≡ Live) ⊎ (x ≢ Live)
