@@ -11,3 +11,4 @@ pub mod Moving
 pub mod Steps
 pub mod Faults
 pub mod Desks
+pub mod Acting
