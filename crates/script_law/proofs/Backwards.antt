@@ -20,7 +20,7 @@ pub renaming_back : (n : ℕ) (to from : SlotId → SlotId) → IsRenaming n to 
 renaming_back n to from r = record { back = r.forth; forth = r.back; inside = r.inside_back; inside_back = r.inside }
 
 module _ (to from : SlotId → SlotId) (n : ℕ) (r : IsRenaming n to from) where
-  renamed_back : (o : Option SlotId) → renamed from (renamed to o) ≡ o
+  pub renamed_back : (o : Option SlotId) → renamed from (renamed to o) ≡ o
   renamed_back None = refl
   renamed_back (Some s) = ap Some (r.back s)
 

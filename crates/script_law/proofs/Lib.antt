@@ -12,3 +12,5 @@ pub mod Steps
 pub mod Faults
 pub mod Desks
 pub mod Acting
+pub mod Places
+pub mod Acts
