@@ -50,13 +50,13 @@ refused_marked p q s (here, (held, cases)) = ⊎_elim (λ x. absurd (omega (arit
 refused_is : (p q : Plain) (s : SlotId) → Does p 0 (act.Add s) 1 q → q ≡ with_seat p 0 (record (seat_at p 0) { adds = (seat_at p 0).adds + 1 })
 refused_is p q s (here, (held, cases)) = ⊎_elim (λ x. absurd (omega (arith, x.0))) (λ x. x.2) cases
 
-strong_is : (s t : SlotId) → Strong s ≡ Strong t → s ≡ t
+pub strong_is : (s t : SlotId) → Strong s ≡ Strong t → s ≡ t
 strong_is s t e = cc
 
-weak_is : (s t : SlotId) → Weak s ≡ Weak t → s ≡ t
+pub weak_is : (s t : SlotId) → Weak s ≡ Weak t → s ≡ t
 weak_is s t e = cc
 
-snapshot_is : (s t : SlotId) (b c : Bool) → Snapshot (s, b) ≡ Snapshot (t, c) → (s ≡ t) × (b ≡ c)
+pub snapshot_is : (s t : SlotId) (b c : Bool) → Snapshot (s, b) ≡ Snapshot (t, c) → (s ≡ t) × (b ≡ c)
 snapshot_is s t b c e =
     let same : Snapshot (s, b) ≡ Snapshot (t, c) = e in
     let pair : (s, b) ≡ (t, c) = cc in (ap (λ (x : SlotId × Bool). x.0) pair, ap (λ (x : SlotId × Bool). x.1) pair)
@@ -64,7 +64,7 @@ snapshot_is s t b c e =
 module _ (to from : SlotId → SlotId) (d d' e e' : Desk) (r : IsRenaming (length d.plain.slots) to from) (alike : DesksAlike to d d')
     (k : IsOrderly d) (k' : IsOrderly d') (m : Moves d.plain e.plain) where
   -- ---- handles that are gained and given up
-  gains_two : (new : List ℕ) (s s' : SlotId) → s' ≡ to s → Gains d.plain s s e.plain → Gets d new (Strong s) e
+  pub gains_two : (new : List ℕ) (s s' : SlotId) → s' ≡ to s → Gains d.plain s s e.plain → Gets d new (Strong s) e
       → Gains d'.plain s' s' e'.plain → Gets d' new (Strong s') e' → DesksAlike to e e'
   gains_two new s s' is g gets g' gets' =
       let h = subst (λ (x : SlotId). Gains d'.plain x x e'.plain) is g' in
@@ -73,7 +73,7 @@ module _ (to from : SlotId → SlotId) (d d' e e' : Desk) (r : IsRenaming (lengt
       (gains_is d.plain e.plain s g) (gains_is d'.plain e'.plain (to s) h))
       new (Strong s) gets (subst (λ (x : SlotId). Gets d' new (Strong x) e') is gets')
 
-  weakly_gains_two : (new : List ℕ) (s s' : SlotId) → s' ≡ to s → WeaklyGains d.plain s s e.plain → Gets d new (Weak s) e
+  pub weakly_gains_two : (new : List ℕ) (s s' : SlotId) → s' ≡ to s → WeaklyGains d.plain s s e.plain → Gets d new (Weak s) e
       → WeaklyGains d'.plain s' s' e'.plain → Gets d' new (Weak s') e' → DesksAlike to e e'
   weakly_gains_two new s s' is g gets g' gets' =
       let h = subst (λ (x : SlotId). WeaklyGains d'.plain x x e'.plain) is g' in
@@ -81,21 +81,21 @@ module _ (to from : SlotId → SlotId) (d d' e e' : Desk) (r : IsRenaming (lengt
       (weakly_gained_alike to from (length d.plain.slots) r d.plain d'.plain refl k.one k'.one alike.plain e.plain e'.plain s g.1.1.2 h.1.1.2)
       new (Weak s) gets (subst (λ (x : SlotId). Gets d' new (Weak x) e') is gets')
 
-  drops_two : (name : List ℕ) (s s' : SlotId) → s' ≡ to s → Does d.plain 0 (act.Drop s) 0 e.plain → Gives d name e
+  pub drops_two : (name : List ℕ) (s s' : SlotId) → s' ≡ to s → Does d.plain 0 (act.Drop s) 0 e.plain → Gives d name e
       → Does d'.plain 0 (act.Drop s') 0 e'.plain → Gives d' name e' → DesksAlike to e e'
   drops_two name s s' is g gives g' gives' =
       let h = subst (λ (x : SlotId). Does d'.plain 0 (act.Drop x) 0 e'.plain) is g' in
       gives_alike to d d' alike e e' m
       (drops_alike to from (length d.plain.slots) r d.plain d'.plain refl k.one k'.one alike.plain e.plain e'.plain s 0 0 g h) name gives gives'
 
-  weak_drops_two : (name : List ℕ) (s s' : SlotId) → s' ≡ to s → Does d.plain 0 (act.WeakDrop s) 0 e.plain → Gives d name e
+  pub weak_drops_two : (name : List ℕ) (s s' : SlotId) → s' ≡ to s → Does d.plain 0 (act.WeakDrop s) 0 e.plain → Gives d name e
       → Does d'.plain 0 (act.WeakDrop s') 0 e'.plain → Gives d' name e' → DesksAlike to e e'
   weak_drops_two name s s' is g gives g' gives' =
       let h = subst (λ (x : SlotId). Does d'.plain 0 (act.WeakDrop x) 0 e'.plain) is g' in
       gives_alike to d d' alike e e' m
       (weak_drops_alike to from (length d.plain.slots) r d.plain d'.plain refl k.one k'.one alike.plain e.plain e'.plain s 0 0 g h) name gives gives'
 
-  ends_two : (name : List ℕ) (s s' : SlotId) (counted counted' : Bool) → s' ≡ to s → counted' ≡ counted
+  pub ends_two : (name : List ℕ) (s s' : SlotId) (counted counted' : Bool) → s' ≡ to s → counted' ≡ counted
       → Does d.plain 0 (ending s counted) 0 e.plain → Gives d name e
       → Does d'.plain 0 (ending s' counted') 0 e'.plain → Gives d' name e' → DesksAlike to e e'
   ends_two name s s' true true is same g gives g' gives' = drops_two name s s' is g gives g' gives'
@@ -124,7 +124,7 @@ module _ (to from : SlotId → SlotId) (d d' e e' : Desk) (r : IsRenaming (lengt
   same_mark : (s s' : SlotId) → s' ≡ to s → (slot_at d'.plain s').marked ≡ (slot_at d.plain s).marked
   same_mark s s' is = ap (λ (x : SlotId). (slot_at d'.plain x).marked) is ∙ (alike.plain.slots s).marked
 
-  upgrades_two : (s s' : SlotId) (new : List ℕ) (a b : Said) → s' ≡ to s → UpgradesOne d s new a e → UpgradesOne d' s' new b e'
+  pub upgrades_two : (s s' : SlotId) (new : List ℕ) (a b : Said) → s' ≡ to s → UpgradesOne d s new a e → UpgradesOne d' s' new b e'
       → (a ≡ b) × DesksAlike to e e'
   upgrades_two s s' new a b is one two =
       ⊎_elim
@@ -145,7 +145,7 @@ module _ (to from : SlotId → SlotId) (d d' e e' : Desk) (r : IsRenaming (lengt
       one
 
   -- ---- places
-  same_plain : e.plain ≡ d.plain → e'.plain ≡ d'.plain → StatesAlike to e.plain e'.plain
+  pub same_plain : e.plain ≡ d.plain → e'.plain ≡ d'.plain → StatesAlike to e.plain e'.plain
   same_plain is is' = subst₂ (StatesAlike to) (sym is) (sym is') alike.plain
 
   module _ (at at' : EventPlace) (same : at' ≡ renamed_place to at) where
@@ -193,7 +193,7 @@ module _ (to from : SlotId → SlotId) (d d' e e' : Desk) (r : IsRenaming (lengt
         two)
         one
 
-    load_two : (place : TextPlace) (new : List ℕ) (a b : Said) → LoadsOne d place at new a e → LoadsOne d' place at' new b e'
+    pub load_two : (place : TextPlace) (new : List ℕ) (a b : Said) → LoadsOne d place at new a e → LoadsOne d' place at' new b e'
         → (a ≡ b) × DesksAlike to e e'
     load_two (text.Cell i) new a b one two = loads_two new a b one two
     load_two (text.Field name i) new a b one two = loads_two new a b one two

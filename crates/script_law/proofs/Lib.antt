@@ -14,3 +14,5 @@ pub mod Desks
 pub mod Acting
 pub mod Places
 pub mod Acts
+pub mod Replacing
+pub mod Commands

@@ -131,7 +131,7 @@ module _ (to from : SlotId → SlotId) (n : ℕ) (r : IsRenaming n to from) wher
         written_alike q q' _ _ e e' (snapshots_alike (seat_at p 0) (seat_at p' 0) es fs alike.seat
         (entries_gain to from r.back r.forth (seat_at p 0).snapshots (seat_at p' 0).snapshots es fs k s alike.seat.snapshots l m))
 
-    same_kind : (place : EventPlace) → place_kind (renamed_place to place) ≡ place_kind place
+    pub same_kind : (place : EventPlace) → place_kind (renamed_place to place) ≡ place_kind place
     same_kind (Cell i) = refl
     same_kind (Field s i) = refl
     same_kind (WeakCell i) = refl
