@@ -8,9 +8,13 @@ use Rattle.plain_state.specs.declared.slot.Kind.TheVariants as kind
 use Rattle.plain_state.specs.declared.slot.SlotId.{SlotId}
 use Rattle.plain_state.specs.Places.{content, place_kind}
 use Rattle.plain_state.specs.Sound.{Sound}
-use Rattle.plain_state.specs.State.{Plain, seat_at}
-use Rattle.plain_state.specs.Steps.{Does, Replaces}
+use Rattle.plain_state.specs.Lists.{entry_times}
+use Rattle.plain_state.specs.References.{held_in}
+use Rattle.plain_state.specs.State.{Plain, PlainSeat, seat_at}
+use Rattle.plain_state.specs.Steps.{Does, GivesUp, Replaces, joined}
 use Rattle.plain_state.proofs.EveryStep.{step_sound}
+use Rattle.plain_state.proofs.Kit.{of_kind}
+use Rattle.plain_state.proofs.PlaceRows.{gave, joined_times}
 use Rattle.plain_state.proofs.SeatRows.{open_there}
 use Rattle.plain_store.specs.Calls.{Gains, Loads, Puts, Tries, WeaklyGains, WeaklyLoads, gained, spent}
 use Rattle.plain_settling.specs.Snapshots.{Takes}
@@ -85,34 +89,47 @@ module _ (p : Plain) (so : Sound p) (one : length p.seats ≡ 1) where
   add_moves : (q : Plain) (s : SlotId) (f : ℕ) → Does p 0 (act.Add s) f q → Moves p q
   add_moves q s f d =
       let sound = step_sound p q 0 (act.Add s) f so d in
-      ⊎_elim (λ x. seat_moves p so one q _ sound x.2) (λ x. seat_moves p so one q _ sound x.2) d.1.1
+      ⊎_elim (λ x. seat_moves p so one q _ sound x.2 refl) (λ x. seat_moves p so one q _ sound x.2 refl) d.1.1
 
   weak_gain_moves : (q : Plain) (s : SlotId) (f : ℕ) → Does p 0 (act.WeakGain s) f q → Moves p q
-  weak_gain_moves q s f d = seat_moves p so one q _ (step_sound p q 0 (act.WeakGain s) f so d) d.1.2
+  weak_gain_moves q s f d = seat_moves p so one q _ (step_sound p q 0 (act.WeakGain s) f so d) d.1.2 refl
 
   give_moves : (q : Plain) (h : Handle) → Does p 0 (giving h) 0 q → Moves p q
-  give_moves q (Strong s) (here, (xs, l, z, e)) = seat_moves p so one q _ (step_sound p q 0 (act.Drop s) 0 so (here, (xs, l, z, e))) e
-  give_moves q (Weak s) (here, (xs, l, z, e)) = seat_moves p so one q _ (step_sound p q 0 (act.WeakDrop s) 0 so (here, (xs, l, z, e))) e
-  give_moves q (Snapshot (s, true)) (here, (xs, l, z, e)) = seat_moves p so one q _ (step_sound p q 0 (act.Drop s) 0 so (here, (xs, l, z, e))) e
+  give_moves q (Strong s) (here, (xs, l, z, e)) = seat_moves p so one q _ (step_sound p q 0 (act.Drop s) 0 so (here, (xs, l, z, e))) e refl
+  give_moves q (Weak s) (here, (xs, l, z, e)) = seat_moves p so one q _ (step_sound p q 0 (act.WeakDrop s) 0 so (here, (xs, l, z, e))) e refl
+  give_moves q (Snapshot (s, true)) (here, (xs, l, z, e)) = seat_moves p so one q _ (step_sound p q 0 (act.Drop s) 0 so (here, (xs, l, z, e))) e refl
   give_moves q (Snapshot (s, false)) (here, (xs, l, z, e)) =
-      seat_moves p so one q _ (step_sound p q 0 (act.EndSnapshot kind.Strong s) 0 so (here, (xs, l, z, e))) e
+      seat_moves p so one q _ (step_sound p q 0 (act.EndSnapshot kind.Strong s) 0 so (here, (xs, l, z, e))) e refl
 
   load_moves : (q : Plain) (place : EventPlace) (s : SlotId) → Loads p place (Some s) q → Moves p q
   load_moves q place s (holds, e, runs) =
-      seat_moves p so one q _ (runs_sound (act.Check 0 place ∷ act.Add s ∷ act.EndSnapshot (place_kind place) s ∷ []) p q so runs) e
+      seat_moves p so one q _ (runs_sound (act.Check 0 place ∷ act.Add s ∷ act.EndSnapshot (place_kind place) s ∷ []) p q so runs) e refl
 
   weakly_load_moves : (q : Plain) (place : EventPlace) (s : SlotId) → WeaklyLoads p place (Some s) q → Moves p q
   weakly_load_moves q place s (holds, e, runs) = 
-      seat_moves p so one q _ (runs_sound (act.Check 0 place ∷ act.WeakGain s ∷ act.EndSnapshot (place_kind place) s ∷ []) p q so runs) e
+      seat_moves p so one q _ (runs_sound (act.Check 0 place ∷ act.WeakGain s ∷ act.EndSnapshot (place_kind place) s ∷ []) p q so runs) e refl
 
   pub look_same : (q : Plain) (place : EventPlace) → Does p 0 (act.Look place) 0 q → q ≡ p
   look_same q place (here, (readable, found, e)) = e
+
+  no_disposal : (place : EventPlace) (n : ℕ) → of_kind kind.Disposal (place_kind place) n ≡ 0
+  no_disposal (Cell i) n = refl
+  no_disposal (Field s i) n = refl
+  no_disposal (WeakCell i) n = refl
+  no_disposal (WeakField s) n = refl
+
+  deferred_calm : (place : EventPlace) (new : Option SlotId) (w : PlainSeat) → GivesUp (place_kind place) new (seat_at p 0) w → (s : SlotId)
+      → entry_times kind.Disposal s (joined (place_kind place) (content p place) w.deferred) ≡ entry_times kind.Disposal s (seat_at p 0).deferred
+  deferred_calm place new w gives s =
+      let a = joined_times kind.Disposal (place_kind place) s (content p place) w.deferred in
+      let b = no_disposal place (held_in s (content p place)) in
+      let c = ap (entry_times kind.Disposal s) (gave (place_kind place) new (seat_at p 0) w s gives).deferred in omega arith
 
   put_moves : (q : Plain) (place : EventPlace) (new : Option SlotId) → Puts p place new q → Moves p q
   put_moves q place new (here, (opened, found, (w, gives, e))) =
       place_moves p so one q _ place new
       (step_sound p q 0 (act.Replace place new) _ so (here, (opened, found, (w, gives, e))))
-      (open_there p 0 place so seated opened) e
+      (open_there p 0 place so seated opened) e (deferred_calm place new w gives)
 
   -- a try that is lost changes nothing
   pub lost_same : (q : Plain) (place : EventPlace) (old new : Option SlotId) → Tries p place old new false q → q ≡ p
@@ -126,14 +143,14 @@ module _ (p : Plain) (so : Sound p) (one : length p.seats ≡ 1) where
   try_moves q place old new done (exactly, (here, (opened, found, cases))) =
       let sound = step_sound p q 0 (act.TryReplace place old new) _ so (here, (opened, found, cases)) in
       ⊎_elim
-      (λ x. place_moves p so one q _ place new sound (open_there p 0 place so seated opened) x.1.2)
+      (λ x. place_moves p so one q _ place new sound (open_there p 0 place so seated opened) x.1.2 (deferred_calm place new x.1.0 x.1.1))
       (λ x. still_moves p so one q x.1)
       cases
 
   take_moves : (q : Plain) (place : EventPlace) (s : SlotId) (counted : Bool) → Takes p place (Some (s, counted)) q → Moves p q
   take_moves q place s true (full, l) = load_moves q place s l
   take_moves q place s false (room, t) =
-      seat_moves p so one q _ (step_sound p q 0 (act.Check 0 place) _ so t.checks) t.under.2
+      seat_moves p so one q _ (step_sound p q 0 (act.Check 0 place) _ so t.checks) t.under.2 refl
 
 -- ---- what becomes of the desk
 module _ (d : Desk) (k : IsOrderly d) where
@@ -155,9 +172,9 @@ module _ (d : Desk) (k : IsOrderly d) where
     orderly = orderly_more d e name h k m (none_of (bound d.names name) free) more gets;
   }
 
-  gave : (e : Desk) (name : List ℕ) (h : Handle) → bound d.names name ≡ Some h → Moves d.plain e.plain → HasMore e.plain h d.plain
+  gave_up : (e : Desk) (name : List ℕ) (h : Handle) → bound d.names name ≡ Some h → Moves d.plain e.plain → HasMore e.plain h d.plain
       → Gives d name e → Acted d e
-  gave e name h is m fewer gives = record { moves = m; orderly = orderly_fewer d e name h k m is fewer gives }
+  gave_up e name h is m fewer gives = record { moves = m; orderly = orderly_fewer d e name h k m is fewer gives }
 
   gains_acted : (e : Desk) (new : List ℕ) (s : SlotId) → (IsSome (bound d.names new) → ⊥) → Gains d.plain s s e.plain
       → Gets d new (Strong s) e → Acted d e
@@ -172,7 +189,7 @@ module _ (d : Desk) (k : IsOrderly d) where
   gives_acted : (e : Desk) (name : List ℕ) (h : Handle) → bound d.names name ≡ Some h → Does d.plain 0 (giving h) 0 e.plain
       → Gives d name e → Acted d e
   gives_acted e name h is does gives =
-      gave e name h is (give_moves d.plain k.sound k.one e.plain h does) (gives_fewer d.plain e.plain h does) gives
+      gave_up e name h is (give_moves d.plain k.sound k.one e.plain h does) (gives_fewer d.plain e.plain h does) gives
 
   upgrades_acted : (e : Desk) (s : SlotId) (new : List ℕ) (answer : Said) → (IsSome (bound d.names new) → ⊥) → UpgradesOne d s new answer e
       → Acted d e
@@ -235,7 +252,7 @@ module _ (d : Desk) (k : IsOrderly d) where
   puts_acted : (e : Desk) (place : TextPlace) (at : EventPlace) (name : List ℕ) (h : Handle) → IsPlace d.names place at
       → bound d.names name ≡ Some h → taken_by place h ≡ true → Puts d.plain at (Some (slot_of h)) e.plain → Gives d name e → Acted d e
   puts_acted e place at name h is-at is takes puts gives =
-      gave e name h is (put_moves d.plain k.sound k.one e.plain at (Some (slot_of h)) puts)
+      gave_up e name h is (put_moves d.plain k.sound k.one e.plain at (Some (slot_of h)) puts)
       (put_fewer d.plain e.plain d.names place at h is-at takes (seated d.plain k.sound k.one) puts.1.2) gives
 
   clears_acted : (e : Desk) (at : EventPlace) → Puts d.plain at None e.plain → Keeps d e → Acted d e
@@ -267,7 +284,7 @@ module _ (d : Desk) (k : IsOrderly d) where
       let done = tries_done d.plain e.plain at old slot x.1 in
       let r : Replaces d.plain 0 at (Some (slot_of h)) e.plain = subst (λ (o : Option SlotId). Replaces d.plain 0 at o e.plain) is done.1 in
       let kind = kind_of (bound d.names name) is_strong h (first_met d.names name is_strong [] met) bound-to in
-      gave e name h bound-to m (put_strong d.plain e.plain at h strong kind done.0 r) x.2)
+      gave_up e name h bound-to m (put_strong d.plain e.plain at h strong kind done.0 r) x.2)
       (λ x. still e (lost_same d.plain k.sound k.one e.plain at old slot x.1) x.2)
       cases
 

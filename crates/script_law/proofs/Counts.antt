@@ -10,7 +10,7 @@ use Rattle.plain_state.specs.References.{held_in}
 use Rattle.plain_state.proofs.Kit.{cases_slot, cells_none, entries_in, entry_cons, entry_in, entry_loses, entry_none, entry_self, held_none, held_other, held_same, of_kind, slot_is, times_loses, times_push}
 use Rattle.script_law.specs.Renamings.{renamed}
 
-cells_cons : (s : SlotId) (c : Option SlotId) (cs : List (Option SlotId))
+pub cells_cons : (s : SlotId) (c : Option SlotId) (cs : List (Option SlotId))
     → cell_times s (c ∷ cs) ≡ held_in s c + cell_times s cs
 unfolding cell_times held_in
 cells_cons s c cs = sum_by-cons (λ (d : Option SlotId). if holds s d then 1 else 0) c cs

@@ -1,7 +1,8 @@
 -- Desks that are alike: what names are bound to, and what is alike after a step.
-use Rattle.std.proofs.Common.{◌≡◌, ◌≢◌, ⊎_elim, ℕ, List, [], length, refl, ap, ap₂, sym, ◌∙◌, subst, subst₂, Option, Some, None}
+use Rattle.std.proofs.Common.{◌≡◌, ◌≢◌, ⊎_elim, ℕ, List, [], length, refl, ap, ap₂, sym, ◌∙◌, subst, subst₂, arith, Option, Some, None}
 use Rattle.std.specs.Prelude.{map}
 use Rattle.std.proofs.lemmas.List.{length-map}
+use Rattle.plain_state.specs.declared.slot.Kind.TheVariants.{Disposal}
 use Rattle.plain_state.specs.declared.slot.SlotId.{SlotId}
 use Rattle.plain_state.specs.declared.slot.Stage.{Stage}
 use Rattle.plain_state.specs.declared.slot.Stage.TheVariants.{Free}
@@ -117,6 +118,7 @@ tidying_moves : (p q : Plain) → Tidying p q → Moves p q
 tidying_moves p q t = record {
   sound = t.sound;
   one = t.seats;
+  quiet = λ quiet s. let a = t.balance.most Disposal s in let b = quiet s in omega arith;
   taken = λ s taken. was_taken (stage_at p s) (stage_at q s) (t.slots.fates s).later taken;
 }
 

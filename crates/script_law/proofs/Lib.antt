@@ -16,3 +16,6 @@ pub mod Places
 pub mod Acts
 pub mod Replacing
 pub mod Commands
+pub mod Unheld
+pub mod Swapping
+pub mod Making

@@ -11,7 +11,7 @@ use Rattle.script_desk.specs.declared.handle.Handle.{Handle}
 use Rattle.script_desk.specs.Desks.{Binds, Desk, Maker, MadeBy, Names, SameMakers, bound, maker_at, maker_of}
 use Rattle.script_desk.specs.Effects.{Gets, Gives, Keeps}
 use Rattle.script_desk.specs.Holding.{HasMore, HasSame, HoldsFor, announced_by, owned_by, weakly_owned_by}
-use Rattle.script_law.specs.Orderly.{IsOrderly, OnceEach}
+use Rattle.script_law.specs.Orderly.{IsOrderly, IsQuiet, OnceEach}
 use Rattle.script_law.proofs.Names.{Without, bound_else, bound_here, same_name, without}
 
 -- a step of a sound heap of one seat, by which no slot is taken
@@ -19,6 +19,7 @@ pub record Moves (p q : Plain) : Type 0 where
   pub sound : Sound q
   pub one : length q.seats ≡ 1
   pub taken : (s : SlotId) → stage_at q s ≢ Free → stage_at p s ≢ Free
+  pub quiet : IsQuiet p → IsQuiet q
 
 -- what the seat has for the listed names
 pub holds_more : (p q : Plain) (listed : Names) (name : List ℕ) (h : Handle) → HoldsFor p (values_of listed) → HasMore p h q
@@ -69,6 +70,7 @@ module _ (d e : Desk) (k : IsOrderly d) (moves : Moves d.plain e.plain) (makers 
   orderly_by listed once same holds = record {
     sound = moves.sound;
     one = moves.one;
+    quiet = moves.quiet k.quiet;
     listed = listed;
     once = once;
     same = same;

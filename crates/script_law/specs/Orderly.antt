@@ -1,10 +1,12 @@
 -- What holds of a desk between two commands.
 use Rattle.std.specs.Prelude.{ℕ, ◌≡◌, ◌≢◌, ◌<◌, List, [], ◌∷◌, length, Option, None}
 use Rattle.std.specs.Map.{values_of}
+use Rattle.plain_state.specs.declared.slot.Kind.TheVariants.{Disposal}
 use Rattle.plain_state.specs.declared.slot.SlotId.{SlotId}
 use Rattle.plain_state.specs.declared.slot.Stage.TheVariants.{Free}
 use Rattle.plain_state.specs.Sound.{Sound}
-use Rattle.plain_state.specs.State.{stage_at}
+use Rattle.plain_state.specs.Lists.{entry_times}
+use Rattle.plain_state.specs.State.{Plain, seat_at, stage_at}
 use Rattle.script_desk.specs.Desks.{Desk, Names, bound, maker_of}
 use Rattle.script_desk.specs.Holding.{HoldsFor}
 
@@ -13,11 +15,15 @@ abbrev pub OnceEach : Names → Type 0
 OnceEach [] = Unit {0}
 OnceEach (entry ∷ rest) = (bound rest entry.0 ≡ None) × OnceEach rest
 
+abbrev pub IsQuiet : Plain → Type 0
+IsQuiet p = (s : SlotId) → entry_times Disposal s (seat_at p 0).deferred ≡ 0
+
 pub record IsOrderly (d : Desk) : Type 0 where
-  -- its heap is sound, and has one seat,
+  -- its heap is sound, has one seat, and lets no disposal wait: only snapshots are of that kind;
   pub sound : Sound d.plain
   pub one : length d.plain.seats ≡ 1
-  -- which has just what the names are bound to, where each name is listed once;
+  pub quiet : IsQuiet d.plain
+  -- the seat has just what the names are bound to, where each name is listed once;
   pub listed : Names
   pub once : OnceEach listed
   pub same : (name : List ℕ) → bound listed name ≡ bound d.names name
