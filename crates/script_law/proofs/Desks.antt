@@ -118,6 +118,7 @@ tidying_moves : (p q : Plain) → Tidying p q → Moves p q
 tidying_moves p q t = record {
   sound = t.sound;
   one = t.seats;
+  size = t.slots.size;
   quiet = λ quiet s. let a = t.balance.most Disposal s in let b = quiet s in omega arith;
   taken = λ s taken. was_taken (stage_at p s) (stage_at q s) (t.slots.fates s).later taken;
 }

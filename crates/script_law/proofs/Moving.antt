@@ -13,7 +13,7 @@ use Rattle.plain_state.specs.Lists.{entry_times}
 use Rattle.plain_state.specs.State.{Plain, PlainSeat, seat_at, stage_at, with_seat}
 use Rattle.plain_state.proofs.Changes.{IsThere, content_object}
 use Rattle.plain_state.proofs.EveryStep.{step_sound}
-use Rattle.script_desk.proofs.Grows.{placed, written}
+use Rattle.script_desk.proofs.Grows.{placed, placed_same_sizes, written}
 use Rattle.script_law.specs.Orderly.{IsQuiet}
 use Rattle.script_law.proofs.Orderly.{Moves}
 
@@ -29,6 +29,7 @@ module _ (p : Plain) (so : Sound p) (one : length p.seats ≡ 1) where
   still_moves q e = record {
     sound = subst Sound (sym e) so;
     one = ap (λ (r : Plain). length r.seats) e ∙ one;
+    size = ap (λ (r : Plain). length r.slots) e;
     quiet = λ quiet. subst IsQuiet (sym e) quiet;
     taken = λ s. subst (λ (r : Plain). stage_at r s ≢ Free → stage_at p s ≢ Free) (sym e) (λ t. t);
   }
@@ -37,6 +38,7 @@ module _ (p : Plain) (so : Sound p) (one : length p.seats ≡ 1) where
   seat_moves q w sound e same = record {
     sound = sound;
     one = ap (λ (r : Plain). length r.seats) e ∙ length-set p.seats 0 w ∙ one;
+    size = ap (λ (r : Plain). length r.slots) e;
     quiet = λ quiet s. ap (λ (v : PlainSeat). entry_times Disposal s v.deferred) (written p q w seated e) ∙ ap (entry_times Disposal s) same ∙ quiet s;
     taken = λ s. subst (λ (r : Plain). stage_at r s ≢ Free → stage_at p s ≢ Free) (sym e) (λ t. t);
   }
@@ -60,6 +62,7 @@ module _ (p : Plain) (so : Sound p) (one : length p.seats ≡ 1) where
   place_moves q w place new sound there e same = record {
     sound = sound;
     one = ap (λ (r : Plain). length r.seats) e ∙ ap length (placed_seats w place new) ∙ length-set p.seats 0 w ∙ one;
+    size = (placed_same_sizes p q w place new e).slots;
     quiet = λ quiet s. ap (λ (v : PlainSeat). entry_times Disposal s v.deferred) (placed p q w place new seated e) ∙ same s ∙ quiet s;
     taken = λ s. subst (λ (r : Plain). stage_at r s ≢ Free → stage_at p s ≢ Free) (sym e)
         (λ taken free. taken ((content_object (with_seat p 0 w) place new s (there_too w place there)).0 ∙ free));

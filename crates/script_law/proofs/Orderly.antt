@@ -18,6 +18,7 @@ use Rattle.script_law.proofs.Names.{Without, bound_else, bound_here, same_name, 
 pub record Moves (p q : Plain) : Type 0 where
   pub sound : Sound q
   pub one : length q.seats ≡ 1
+  pub size : length q.slots ≡ length p.slots
   pub taken : (s : SlotId) → stage_at q s ≢ Free → stage_at p s ≢ Free
   pub quiet : IsQuiet p → IsQuiet q
 

@@ -21,7 +21,7 @@ use Rattle.script_law.proofs.States.{content_alike, place_alike, renamed_place, 
 
 module _ (to from : SlotId → SlotId) (n : ℕ) (r : IsRenaming n to from) where
   -- ---- the seat
-  own_more : (v w : PlainSeat) (s : SlotId) (a b : ℕ) → SeatsAlike to v w
+  pub own_more : (v w : PlainSeat) (s : SlotId) (a b : ℕ) → SeatsAlike to v w
       → SeatsAlike to (record v { owned = v.owned ++ s ∷ []; adds = a }) (record w { owned = w.owned ++ to s ∷ []; adds = b })
   own_more v w s a b same = record {
     owned = slots_push to from r.back r.forth v.owned w.owned s same.owned;
