@@ -19,3 +19,7 @@ pub mod Commands
 pub mod Unheld
 pub mod Swapping
 pub mod Making
+pub mod Reaching
+pub mod Walking
+pub mod Counting
+pub mod Audits

@@ -77,7 +77,7 @@ pub total : ℕ → (SlotId → ℕ) → ℕ
 total zero f = 0
 total (suc n) f = total n f + f (slot n)
 
-total_zero : (f : SlotId → ℕ) → total 0 f ≡ 0
+pub total_zero : (f : SlotId → ℕ) → total 0 f ≡ 0
 unfolding total
 total_zero f = refl
 
