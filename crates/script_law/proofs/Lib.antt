@@ -23,3 +23,5 @@ pub mod Reaching
 pub mod Walking
 pub mod Counting
 pub mod Audits
+pub mod Running
+pub mod Fresh

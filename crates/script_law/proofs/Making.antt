@@ -130,7 +130,7 @@ makes_orderly d e k name weight answer free cases =
     cases
 
 -- where no slot is free, none is
-none_there : (p : Plain) → NoneFree p → (t : SlotId) → t.0 < length p.slots → stage_at p t ≡ Free → ⊥
+pub none_there : (p : Plain) → NoneFree p → (t : SlotId) → t.0 < length p.slots → stage_at p t ≡ Free → ⊥
 none_there p none t there = All-get_or (λ (x : PlainSlot). x.stage ≢ Free) p.slots t.0 new_slot there none
 
 -- two makes at desks that are alike, where the slot of the one is the new name of that of the other

@@ -6,8 +6,8 @@ use Rattle.plain_state.specs.declared.slot.SlotId.{SlotId}
 use Rattle.plain_state.specs.declared.slot.Stage.TheVariants.{Free}
 use Rattle.plain_state.specs.Sound.{Sound}
 use Rattle.plain_state.specs.Lists.{entry_times}
-use Rattle.plain_state.specs.State.{Plain, seat_at, stage_at}
-use Rattle.script_desk.specs.Desks.{Desk, Names, bound, maker_of}
+use Rattle.plain_state.specs.State.{Plain, empty, seat_at, stage_at}
+use Rattle.script_desk.specs.Desks.{Desk, Names, bound, maker_of, nobody}
 use Rattle.script_desk.specs.Holding.{HoldsFor}
 
 -- no name is bound twice
@@ -32,3 +32,9 @@ pub record IsOrderly (d : Desk) : Type 0 where
   pub made : (s : SlotId) → stage_at d.plain s ≢ Free → (maker_of d s).number < d.makes
   pub own : (s t : SlotId) → stage_at d.plain s ≢ Free → stage_at d.plain t ≢ Free
       → (maker_of d s).number ≡ (maker_of d t).number → s ≡ t
+
+-- a desk with so many slots, cells and weak cells, of which no command was run
+abbrev pub IsFresh : ℕ → ℕ → ℕ → Desk → Type 0
+IsFresh slots cells weak_cells d =
+    (d.plain ≡ empty 1 slots cells weak_cells) × (d.names ≡ []) × (d.makes ≡ 0)
+    × ((s : SlotId) → maker_of d s ≡ nobody)
