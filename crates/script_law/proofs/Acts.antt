@@ -1,42 +1,28 @@
 -- A command but `make` and `audit`, at desks that are alike, answers the same and leaves desks that are alike.
-use Rattle.std.proofs.Common.{◌≡◌, ◌≢◌, ◌⊎◌, ⊎_elim, ℕ, ◌+◌, ◌<◌, ◌≤◌, List, [], ◌∷◌, ◌++◌, length, refl, ap, ap₂, sym, ◌∙◌, subst, subst₂, arith, Bool, true, false, Option, Some, None}
-use Rattle.std.specs.Prelude.{slice_index}
+use Rattle.std.proofs.Common.{◌≡◌, ⊎_elim, ℕ, ◌+◌, List, length, refl, ap, sym, ◌∙◌, subst, subst₂, arith, Bool, true, false}
 use Rattle.plain_state.specs.declared.act.EventPlace.{EventPlace}
 use Rattle.plain_state.specs.declared.act.PlainAct.TheVariants as act
-use Rattle.plain_state.specs.declared.slot.Kind.{Kind}
 use Rattle.plain_state.specs.declared.slot.Kind.TheVariants as kind
 use Rattle.plain_state.specs.declared.slot.SlotId.{SlotId}
-use Rattle.plain_state.specs.Lists.{Loses}
-use Rattle.plain_state.specs.Places.{content, place_kind}
-use Rattle.plain_state.specs.References.{strong_refs, weak_refs}
-use Rattle.plain_state.specs.State.{Plain, PlainSeat, seat_at, slot_at, with_seat}
-use Rattle.plain_state.specs.Steps.{Does, Replaces}
-use Rattle.plain_state.proofs.SeatRows.{open_there}
-use Rattle.plain_store.specs.Calls.{Gains, Loads, Puts, Tries, WeaklyGains, WeaklyLoads, ending, gained, weakly_gained}
-use Rattle.plain_settling.specs.Snapshots.{Takes, TakesAs}
-use Rattle.script_lines.specs.declared.command.Command.{Command}
-use Rattle.script_lines.specs.declared.command.Command.TheVariants as command
+use Rattle.plain_state.specs.State.{Plain, seat_at, slot_at, with_seat}
+use Rattle.plain_state.specs.Steps.{Does}
+use Rattle.plain_store.specs.Calls.{Gains, WeaklyGains, ending, gained, weakly_gained}
 use Rattle.script_lines.specs.declared.command.TextPlace.{TextPlace}
 use Rattle.script_lines.specs.declared.command.TextPlace.TheVariants as text
-use Rattle.script_desk.specs.declared.handle.Handle.{Handle}
 use Rattle.script_desk.specs.declared.handle.Handle.TheVariants.{Strong, Weak, Snapshot}
 use Rattle.script_desk.specs.declared.said.Said.{Said}
-use Rattle.script_desk.specs.declared.said.Said.TheVariants as said
-use Rattle.script_desk.specs.Desks.{Desk, bound}
-use Rattle.script_desk.specs.Effects.{Acts, Gets, Gives, GivesNew, IsPlace, IsSlotOf, Keeps, LoadsOne, LoadsStrong, LoadsWeak, ReplacesOne, SnapsOne, UpgradesOne, snapped}
-use Rattle.script_desk.specs.Handles.{slot_of}
-use Rattle.script_desk.proofs.Placing.{tries_done}
-use Rattle.script_law.specs.Desks.{DesksAlike, renamed_handle}
+use Rattle.script_desk.specs.Desks.{Desk}
+use Rattle.script_desk.specs.Effects.{Gets, Gives, Keeps, LoadsOne, LoadsStrong, LoadsWeak, UpgradesOne}
+use Rattle.script_law.specs.Desks.{DesksAlike}
 use Rattle.script_law.specs.Orderly.{IsOrderly}
-use Rattle.script_law.specs.Renamings.{IsRenaming, renamed}
-use Rattle.script_law.specs.States.{SeatsAlike, StatesAlike}
-use Rattle.script_law.proofs.Acting.{look_same, lost_same}
-use Rattle.script_law.proofs.Counts.{entries_length}
-use Rattle.script_law.proofs.Desks.{bound_alike, gets_alike, gives_alike, keeps_alike, still_alike}
+use Rattle.script_law.specs.Renamings.{IsRenaming}
+use Rattle.script_law.specs.States.{StatesAlike}
+use Rattle.script_law.proofs.Heaps.{look_same}
+use Rattle.script_law.proofs.Desks.{gets_alike, gives_alike, keeps_alike}
 use Rattle.script_law.proofs.Orderly.{Moves}
-use Rattle.script_law.proofs.Places.{content_then, expected_back, expected_too, handle_taken, holds_alike, is_place_alike, is_slot_alike, one_holds, other_holds, slot_bound_alike}
-use Rattle.script_law.proofs.States.{renamed_place, strong_refs_alike, weak_refs_alike}
-use Rattle.script_law.proofs.Steps.{drops_alike, ends_alike, gained_alike, replaces_alike, snaps_alike, weak_drops_alike, weakly_gained_alike, written_alike}
+use Rattle.script_law.proofs.Places.{holds_alike, one_holds, other_holds}
+use Rattle.script_law.proofs.States.{renamed_place}
+use Rattle.script_law.proofs.Steps.{drops_alike, ends_alike, gained_alike, weak_drops_alike, weakly_gained_alike, written_alike}
 
 gains_is : (p q : Plain) (s : SlotId) → Gains p s s q → q ≡ gained p s
 gains_is p q s (same, (here, (held, cases))) = ⊎_elim (λ x. x.2) (λ x. absurd (omega (arith, x.0))) cases

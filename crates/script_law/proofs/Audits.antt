@@ -1,12 +1,12 @@
 -- Audits of desks that are alike are written alike.
-use Rattle.std.proofs.Common.{◌≡◌, ◌≢◌, ◌⊎◌, inl, inr, ⊎_elim, ℕ, ◌+◌, ◌<◌, List, [], ◌∷◌, length, All, refl, ap, sym, ◌∙◌, subst, arith}
-use Rattle.std.specs.Prelude.{map, slice_index, string_bytes}
+use Rattle.std.proofs.Common.{◌≡◌, ◌≢◌, inr, ⊎_elim, ℕ, ◌<◌, List, [], ◌∷◌, length, All, refl, ap, sym, ◌∙◌, subst, arith}
+use Rattle.std.specs.Prelude.{map}
 use Rattle.std.proofs.lemmas.List.Elements.{All-cons, All-head, All-nil, All-tail}
 use Rattle.plain_state.specs.declared.slot.PlainSlot.{PlainSlot}
 use Rattle.plain_state.specs.declared.slot.SlotId.{SlotId}
 use Rattle.plain_state.specs.declared.slot.Stage.{Stage}
 use Rattle.plain_state.specs.declared.slot.Stage.TheVariants.{Free, Blank, Live, Ended, Husk}
-use Rattle.plain_state.specs.State.{Plain, PlainSeat, seat_at, slot_at, stage_at}
+use Rattle.plain_state.specs.State.{Plain, seat_at, slot_at, stage_at}
 use Rattle.plain_state.proofs.Kit.{none_or_some}
 use Rattle.plain_state.proofs.SeatRows.{is_there}
 use Rattle.heap_audit.specs.declared.finding.Audit.{Audit}
@@ -18,7 +18,6 @@ use Rattle.heap_audit.proofs.Alone.{one_walk_among}
 use Rattle.plain_audit.specs.Audits.{IsAudit, deferred_entries, if_live, live_bytes, live_slots}
 use Rattle.plain_audit.specs.Reached.{HasField, IsUnreached}
 use Rattle.script_desk.specs.declared.said.Said.{Said}
-use Rattle.script_desk.specs.declared.said.Said.TheVariants.{Audited}
 use Rattle.script_desk.specs.declared.said.Shown.{Shown}
 use Rattle.script_desk.specs.Audits.{AnswersAudit, AreRanks, Shows}
 use Rattle.script_desk.specs.Desks.{Desk, Maker, maker_of}
@@ -27,7 +26,7 @@ use Rattle.script_law.specs.Desks.{DesksAlike}
 use Rattle.script_law.specs.Orderly.{IsOrderly}
 use Rattle.script_law.specs.Renamings.{IsRenaming}
 use Rattle.script_law.specs.Said.{SaidAlike, ShownAlike}
-use Rattle.script_law.specs.States.{SlotsAlike, StatesAlike}
+use Rattle.script_law.specs.States.{SlotsAlike}
 use Rattle.script_law.proofs.Counting.{as_many}
 use Rattle.script_law.proofs.Counts.{entries_length}
 use Rattle.script_law.proofs.Reaching.{field_back, field_renamed, unreached_back, unreached_renamed}

@@ -1,10 +1,9 @@
 -- What is alike by some names is alike by those that lead back; and so alike states are tidied to alike states.
-use Rattle.std.proofs.Common.{◌≡◌, ◌≢◌, ℕ, List, [], ◌∷◌, length, refl, ap, ap₂, sym, ◌∙◌, subst, Option, Some, None}
+use Rattle.std.proofs.Common.{◌≡◌, ℕ, List, [], ◌∷◌, length, refl, ap, ap₂, sym, ◌∙◌, subst, Option, Some, None}
 use Rattle.std.specs.Prelude.{map}
-use Rattle.plain_state.specs.declared.slot.Kind.{Kind}
 use Rattle.plain_state.specs.declared.slot.PlainSlot.{PlainSlot}
 use Rattle.plain_state.specs.declared.slot.SlotId.{SlotId}
-use Rattle.plain_state.specs.declared.slot.Stage.TheVariants.{Free, Live}
+use Rattle.plain_state.specs.declared.slot.Stage.TheVariants.{Live}
 use Rattle.plain_state.specs.Lists.{entry_times, times}
 use Rattle.plain_state.specs.Sound.{Sound}
 use Rattle.plain_state.specs.State.{Plain, seat_at, slot_at, stage_at}
@@ -14,7 +13,8 @@ use Rattle.script_law.specs.Renamings.{IsRenaming, renamed}
 use Rattle.script_law.specs.States.{SlotsAlike, StatesAlike}
 use Rattle.script_law.proofs.Outliving.{Outlived, outlived_first, outlived_step}
 use Rattle.script_law.proofs.Settled.{settled_alike}
-use Rattle.script_law.proofs.Tidying.{Tidying, along, tidying_none}
+use Rattle.script_law.proofs.Fates.{Tidying, tidying_none}
+use Rattle.script_law.proofs.Tidying.{along}
 
 pub renaming_back : (n : ℕ) (to from : SlotId → SlotId) → IsRenaming n to from → IsRenaming n from to
 renaming_back n to from r = record { back = r.forth; forth = r.back; inside = r.inside_back; inside_back = r.inside }

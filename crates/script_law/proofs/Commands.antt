@@ -1,5 +1,5 @@
 -- A command but `make` and `audit`, at desks that are alike, answers the same and leaves desks that are alike.
-use Rattle.std.proofs.Common.{◌≡◌, ◌⊎◌, ℕ, List, length, refl, ap, ap₂, sym, ◌∙◌, subst, Bool, true, false, Option, Some, None}
+use Rattle.std.proofs.Common.{◌≡◌, ℕ, List, length, refl, ap, sym, ◌∙◌, Bool, Some}
 use Rattle.std.specs.Prelude.{slice_index}
 use Rattle.plain_state.specs.declared.slot.SlotId.{SlotId}
 use Rattle.plain_state.specs.References.{strong_refs, weak_refs}
@@ -11,11 +11,11 @@ use Rattle.script_desk.specs.declared.handle.Handle.TheVariants.{Strong, Weak, S
 use Rattle.script_desk.specs.declared.said.Said.{Said}
 use Rattle.script_desk.specs.declared.said.Said.TheVariants as said
 use Rattle.script_desk.specs.Desks.{Desk, bound}
-use Rattle.script_desk.specs.Effects.{Acts, GivesNew}
+use Rattle.script_desk.specs.Effects.{Acts}
 use Rattle.script_desk.specs.Handles.{slot_of}
-use Rattle.script_law.specs.Desks.{DesksAlike, renamed_handle}
+use Rattle.script_law.specs.Desks.{DesksAlike}
 use Rattle.script_law.specs.Orderly.{IsOrderly}
-use Rattle.script_law.specs.Renamings.{IsRenaming, renamed}
+use Rattle.script_law.specs.Renamings.{IsRenaming}
 use Rattle.script_law.proofs.Acts.{drops_two, ends_two, gains_two, load_two, snapshot_is, strong_is, upgrades_two, weak_drops_two, weak_is, weakly_gains_two}
 use Rattle.script_law.proofs.Desks.{bound_alike, still_alike}
 use Rattle.script_law.proofs.Orderly.{Moves}

@@ -1,17 +1,13 @@
 -- Desks that are alike: what names are bound to, and what is alike after a step.
-use Rattle.std.proofs.Common.{◌≡◌, ◌≢◌, ⊎_elim, ℕ, List, [], length, refl, ap, ap₂, sym, ◌∙◌, subst, subst₂, arith, Option, Some, None}
-use Rattle.std.specs.Prelude.{map}
+use Rattle.std.proofs.Common.{◌≡◌, ◌≢◌, ⊎_elim, ℕ, List, length, refl, ap, sym, ◌∙◌, subst, subst₂, arith, Option, Some, None}
 use Rattle.std.proofs.lemmas.List.{length-map}
 use Rattle.plain_state.specs.declared.slot.Kind.TheVariants.{Disposal}
 use Rattle.plain_state.specs.declared.slot.SlotId.{SlotId}
-use Rattle.plain_state.specs.declared.slot.Stage.{Stage}
 use Rattle.plain_state.specs.declared.slot.Stage.TheVariants.{Free}
 use Rattle.plain_state.specs.State.{Plain, seat_at, stage_at}
-use Rattle.plain_store.specs.Settling.{IsSettled}
 use Rattle.script_desk.specs.declared.handle.Handle.{Handle}
 use Rattle.script_desk.specs.declared.handle.Handle.TheVariants.{Strong, Weak, Snapshot}
-use Rattle.script_desk.specs.declared.sizes.Sizes.{Sizes}
-use Rattle.script_desk.specs.Desks.{Binds, Desk, Maker, Names, SameMakers, Settles, Tidied, bound, maker_at, maker_of, scope_of}
+use Rattle.script_desk.specs.Desks.{Binds, Desk, Maker, Names, SameMakers, Settles, bound, maker_at, maker_of, scope_of}
 use Rattle.script_desk.specs.Effects.{Gets, Gives, Keeps}
 use Rattle.script_desk.specs.Handles.{slot_of}
 use Rattle.script_desk.specs.Holding.{HasSame}
@@ -24,7 +20,7 @@ use Rattle.script_law.proofs.Backwards.{alike_back, tidied, tidied_alike}
 use Rattle.script_law.proofs.Names.{same_name}
 use Rattle.script_law.proofs.Orderly.{Moves, orderly_same}
 use Rattle.script_law.proofs.Settled.{was_taken}
-use Rattle.script_law.proofs.Tidying.{Tidying}
+use Rattle.script_law.proofs.Fates.{Tidying}
 
 pub slot_of_renamed : (to : SlotId → SlotId) (h : Handle) → slot_of (renamed_handle to h) ≡ to (slot_of h)
 slot_of_renamed to (Strong s) = refl

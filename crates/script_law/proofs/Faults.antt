@@ -1,5 +1,5 @@
 -- Desks that are alike have the same faults.
-use Rattle.std.proofs.Common.{◌≡◌, ◌⊎◌, inl, inr, ⊎_elim, ℕ, ◌<◌, Bool, true, false, List, [], ◌∷◌, ◌++◌, length, get_or, refl, ap, sym, ◌∙◌, subst, Option, Some, None}
+use Rattle.std.proofs.Common.{◌≡◌, inl, inr, ⊎_elim, ℕ, Bool, false, List, [], ◌∷◌, ◌++◌, refl, ap, sym, ◌∙◌, subst, Option, Some, None}
 use Rattle.std.specs.Prelude.{All, IsSome, IsSomeAnd}
 use Rattle.std.specs.List.{Any}
 use Rattle.std.proofs.lemmas.List.Elements.{All-append, All-cons, All-get_or, All-nil}
@@ -13,7 +13,7 @@ use Rattle.script_lines.specs.declared.command.TextPlace.TheVariants as text
 use Rattle.script_desk.specs.declared.handle.Handle.{Handle}
 use Rattle.script_desk.specs.declared.handle.Handle.TheVariants.{Strong, Weak, Snapshot}
 use Rattle.script_desk.specs.declared.sizes.Sizes.{Sizes}
-use Rattle.script_desk.specs.Desks.{Names, Scope, bound, scope}
+use Rattle.script_desk.specs.Desks.{Names, bound, scope}
 use Rattle.script_desk.specs.Faults.{HasKindFault, HasNameFault, IsFault, IsFaultless, IsMissing, IsOther, Need, binds, need_of, needs, place_needs, taken_by}
 use Rattle.script_desk.specs.Handles.{is_any, is_firm, is_snapshot, is_strong, is_weak}
 use Rattle.script_law.specs.Desks.{renamed_bound, renamed_handle}

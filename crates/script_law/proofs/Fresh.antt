@@ -1,24 +1,23 @@
 -- Desks of which no command was run, and equal desks.
-use Rattle.std.proofs.Common.{◌≡◌, ◌≢◌, ℕ, ◌+◌, ◌<◌, List, [], ◌∷◌, length, refl, ap, ap₂, sym, ◌∙◌, subst, subst₂, arith, Option, Some, None}
+use Rattle.std.proofs.Common.{◌≡◌, ℕ, List, [], ◌∷◌, length, refl, ap, ap₂, sym, ◌∙◌, subst, arith, Option, Some, None}
 use Rattle.std.specs.Prelude.{map}
 use Rattle.plain_state.specs.declared.slot.PlainSlot.{PlainSlot}
 use Rattle.plain_state.specs.declared.slot.SlotId.{SlotId}
-use Rattle.plain_state.specs.declared.slot.Stage.{Stage}
 use Rattle.plain_state.specs.declared.slot.Stage.TheVariants.{Free}
 use Rattle.plain_state.specs.declared.slot.Kind.TheVariants as kind
-use Rattle.plain_state.specs.Lists.{entry_times, times}
+use Rattle.plain_state.specs.Lists.{entry_times}
 use Rattle.plain_state.specs.Sound.{Sound}
 use Rattle.plain_state.specs.State.{Plain, empty, seat_at, slot_at, stage_at}
 use Rattle.plain_state.proofs.Kit.{entry_none, times_none}
 use Rattle.plain_state.proofs.Start.{every_slot_new, empty_sound}
 use Rattle.script_desk.specs.declared.handle.Handle.{Handle}
 use Rattle.script_desk.specs.declared.handle.Handle.TheVariants.{Strong, Weak, Snapshot}
-use Rattle.script_desk.specs.Desks.{Desk, Names, bound, maker_of, nobody}
+use Rattle.script_desk.specs.Desks.{Desk, Names, bound, maker_of}
 use Rattle.script_desk.specs.Holding.{HoldsFor}
-use Rattle.script_law.specs.Desks.{Alike, DesksAlike, renamed_bound}
+use Rattle.script_law.specs.Desks.{Alike, renamed_bound}
 use Rattle.script_law.specs.Orderly.{IsFresh, IsOrderly}
 use Rattle.script_law.specs.Renamings.{IsRenaming, renamed}
-use Rattle.script_law.specs.States.{SlotsAlike, StatesAlike}
+use Rattle.script_law.specs.States.{StatesAlike}
 
 -- each slot keeps its name
 abbrev pub own_name : SlotId → SlotId

@@ -1,6 +1,7 @@
 pub mod Sums
 pub mod Counts
 pub mod States
+pub mod Fates
 pub mod Tidying
 pub mod Outliving
 pub mod Settled
@@ -11,6 +12,7 @@ pub mod Moving
 pub mod Steps
 pub mod Faults
 pub mod Desks
+pub mod Heaps
 pub mod Acting
 pub mod Places
 pub mod Acts
@@ -25,3 +27,4 @@ pub mod Counting
 pub mod Audits
 pub mod Running
 pub mod Fresh
+pub mod Equal

@@ -1,39 +1,34 @@
 -- A make: what it leaves of an orderly desk, and that it doesn't matter which free slot it takes.
-use Rattle.std.proofs.Common.{◌≡◌, ◌≢◌, ◌⊎◌, ⊎_elim, ℕ, ◌+◌, ◌<◌, List, [], ◌∷◌, ◌++◌, length, get_or-set_same, length-set, refl, ap, sym, ◌∙◌, subst, subst₂, arith, true, false, Option, Some, None}
+use Rattle.std.proofs.Common.{◌≡◌, ◌≢◌, ⊎_elim, ℕ, ◌+◌, ◌<◌, List, [], ◌∷◌, ◌++◌, length, get_or-set_same, length-set, refl, ap, sym, ◌∙◌, subst, subst₂, arith, Some, None}
 use Rattle.std.specs.Prelude.{IsSome}
-use Rattle.std.specs.Map.{values_of}
 use Rattle.std.proofs.lemmas.List.Elements.{All-get_or}
 use Rattle.plain_state.specs.declared.act.PlainAct.TheVariants as act
 use Rattle.plain_state.specs.declared.slot.PlainSlot.{PlainSlot}
 use Rattle.plain_state.specs.declared.slot.SlotId.{SlotId}
-use Rattle.plain_state.specs.declared.slot.Stage.TheVariants.{Free, Live}
+use Rattle.plain_state.specs.declared.slot.Stage.TheVariants.{Free}
 use Rattle.plain_state.specs.Lists.{entry_times}
 use Rattle.plain_state.specs.declared.slot.Kind.TheVariants.{Disposal}
-use Rattle.plain_state.specs.State.{Plain, PlainSeat, new_seat, new_slot, seat_at, slot_at, stage_at, with_seat, with_slot}
-use Rattle.plain_state.proofs.Changes.{slot_other, slot_same}
+use Rattle.plain_state.specs.State.{Plain, PlainSeat, new_seat, new_slot, seat_at, slot_at, stage_at, with_seat}
+use Rattle.plain_state.proofs.Changes.{slot_other}
 use Rattle.plain_state.proofs.Kit.{cases_slot, slot_is}
 use Rattle.plain_store.specs.Heaps.{Makes, NoneFree, fills, made_slot}
 use Rattle.plain_store.proofs.Making.{IsMake, made, make_is}
-use Rattle.script_lines.specs.declared.command.Command.{Command}
-use Rattle.script_lines.specs.declared.command.Command.TheVariants as command
-use Rattle.script_desk.specs.declared.handle.Handle.{Handle}
-use Rattle.script_desk.specs.declared.handle.Handle.TheVariants.{Strong, Weak, Snapshot}
+use Rattle.script_desk.specs.declared.handle.Handle.TheVariants.{Strong}
 use Rattle.script_desk.specs.declared.said.Said.{Said}
-use Rattle.script_desk.specs.Desks.{Binds, Desk, MadeBy, Maker, Names, bound, maker_of}
+use Rattle.script_desk.specs.Desks.{Binds, Desk, MadeBy, Maker, bound, maker_of}
 use Rattle.script_desk.specs.Effects.{MakesOne}
 use Rattle.script_desk.specs.Kinds.{script_payload}
 use Rattle.script_desk.proofs.Gaining.{makes_more}
-use Rattle.script_law.specs.Desks.{DesksAlike, renamed_bound}
-use Rattle.script_law.specs.Orderly.{IsOrderly, IsQuiet}
-use Rattle.script_law.specs.Renamings.{IsRenaming, renamed}
+use Rattle.script_law.specs.Desks.{DesksAlike}
+use Rattle.script_law.specs.Orderly.{IsOrderly}
+use Rattle.script_law.specs.Renamings.{IsRenaming}
 use Rattle.script_law.specs.States.{SeatsAlike, SlotsAlike, StatesAlike}
 use Rattle.script_law.proofs.Acting.{none_of}
-use Rattle.script_law.proofs.Desks.{binds_alike, still_alike}
+use Rattle.script_law.proofs.Desks.{binds_alike}
 use Rattle.script_law.proofs.Moving.{runs_sound}
 use Rattle.script_law.proofs.Orderly.{holds_more, listed_more}
 use Rattle.script_law.proofs.States.{seat_alike, slot_alike}
 use Rattle.script_law.proofs.Steps.{own_more}
-use Rattle.script_law.proofs.Swapping.{desks_turned, turned, turned_back, turned_first, turned_renaming}
 
 -- the payload of every slot has sixteen words
 long_enough : (d : Desk) → IsOrderly d → (t : SlotId) → t.0 < length d.plain.slots → length (slot_at d.plain t).payload ≡ 16

@@ -1,6 +1,5 @@
 -- A desk stays orderly where the seat has one handle more and a name for it, one fewer, or just what it had.
-use Rattle.std.proofs.Common.{◌≡◌, ◌≢◌, ⊎_elim, ℕ, ◌+◌, ◌<◌, List, [], ◌∷◌, length, refl, ap, sym, ◌∙◌, subst, arith, Option, Some, None}
-use Rattle.std.specs.List.{sum_by}
+use Rattle.std.proofs.Common.{◌≡◌, ◌≢◌, ⊎_elim, ℕ, ◌<◌, List, ◌∷◌, length, ap, sym, ◌∙◌, subst, arith, Some, None}
 use Rattle.std.specs.Map.{values_of}
 use Rattle.std.proofs.lemmas.List.Sums.{sum_by-cons}
 use Rattle.plain_state.specs.declared.slot.SlotId.{SlotId}
@@ -8,7 +7,7 @@ use Rattle.plain_state.specs.declared.slot.Stage.TheVariants.{Free}
 use Rattle.plain_state.specs.Sound.{Sound}
 use Rattle.plain_state.specs.State.{Plain, stage_at}
 use Rattle.script_desk.specs.declared.handle.Handle.{Handle}
-use Rattle.script_desk.specs.Desks.{Binds, Desk, Maker, MadeBy, Names, SameMakers, bound, maker_at, maker_of}
+use Rattle.script_desk.specs.Desks.{Binds, Desk, Maker, Names, SameMakers, bound, maker_at, maker_of}
 use Rattle.script_desk.specs.Effects.{Gets, Gives, Keeps}
 use Rattle.script_desk.specs.Holding.{HasMore, HasSame, HoldsFor, announced_by, owned_by, weakly_owned_by}
 use Rattle.script_law.specs.Orderly.{IsOrderly, IsQuiet, OnceEach}

@@ -1,19 +1,17 @@
 -- What lives when all is tidied lives at every step of every tidying.
-use Rattle.std.proofs.Common.{◌≡◌, ◌≢◌, ◌⊎◌, ⊎_elim, ℕ, suc, zero, ◌+◌, ◌<◌, ◌≤◌, List, [], ◌∷◌, ◌++◌, length, get_or, refl, ap, sym, ◌∙◌, subst, arith, true, false}
+use Rattle.std.proofs.Common.{◌≡◌, ◌≢◌, ◌⊎◌, ⊎_elim, ℕ, suc, ◌<◌, List, [], ◌∷◌, ◌++◌, length, get_or, refl, ap, sym, ◌∙◌, subst, arith, true}
 use Rattle.std.proofs.lemmas.List.Sums.{sum_by-cons}
-use Rattle.plain_state.specs.declared.act.EventPlace.{EventPlace}
 use Rattle.plain_state.specs.declared.act.PlainAct.{PlainAct}
 use Rattle.plain_state.specs.declared.act.PlainAct.TheVariants as act
-use Rattle.plain_state.specs.declared.slot.Kind.{Kind}
-use Rattle.plain_state.specs.declared.slot.Kind.TheVariants.{Strong, Weak, Disposal}
+use Rattle.plain_state.specs.declared.slot.Kind.TheVariants.{Strong}
 use Rattle.plain_state.specs.declared.slot.PlainSlot.{PlainSlot}
 use Rattle.plain_state.specs.declared.slot.SlotId.{SlotId}
 use Rattle.plain_state.specs.declared.slot.Stage.{Stage}
 use Rattle.plain_state.specs.declared.slot.Stage.TheVariants.{Free, Blank, Live, Ended, Husk}
-use Rattle.plain_state.specs.Lawful.{HasNullFields, IsVacant}
+use Rattle.plain_state.specs.Lawful.{IsVacant}
 use Rattle.plain_state.specs.Lists.{cell_times, entry_times, times}
 use Rattle.plain_state.specs.Places.{content, place_kind}
-use Rattle.plain_state.specs.References.{dying_times, held_in, over_slots, snapshot_times, strong_fields, strong_refs}
+use Rattle.plain_state.specs.References.{held_in, over_slots, snapshot_times, strong_fields, strong_refs}
 use Rattle.plain_state.specs.Sound.{Sound}
 use Rattle.plain_state.specs.State.{Plain, PlainSeat, new_slot, with_slot, seat_at, slot_at, stage_at, with_seat}
 use Rattle.plain_state.specs.Steps.{Does, joined}
@@ -25,11 +23,12 @@ use Rattle.plain_store.specs.Settling.{IsSettled}
 use Rattle.plain_settling.specs.Settling.{Tidies}
 use Rattle.plain_audit.proofs.Numbers.{seat_alone}
 use Rattle.heap_audit.specs.Heaps.{slot}
-use Rattle.script_law.specs.Renamings.{IsRenaming, renamed}
+use Rattle.script_law.specs.Renamings.{IsRenaming}
 use Rattle.script_law.specs.States.{StatesAlike}
 use Rattle.script_law.proofs.Counts.{cells_renamed}
 use Rattle.script_law.proofs.States.{fields_of, strong_fields_alike}
-use Rattle.script_law.proofs.Tidying.{Tidying, cleared, there}
+use Rattle.script_law.proofs.Fates.{Tidying, there}
+use Rattle.script_law.proofs.Tidying.{cleared}
 
 -- a slot of which something is counted
 pub some_slot : (f : PlainSlot → ℕ) (xs : List PlainSlot) → 0 < over_slots f xs

@@ -1,7 +1,7 @@
 -- The places and the slots that the words of a command name, at desks that are alike.
-use Rattle.std.proofs.Common.{◌≡◌, ◌≢◌, ℕ, ◌+◌, ◌<◌, List, length, refl, ap, sym, ◌∙◌, subst, arith, Bool, true, false, Option, Some, None}
+use Rattle.std.proofs.Common.{◌≡◌, ◌≢◌, ℕ, ◌<◌, List, length, refl, ap, sym, ◌∙◌, arith, true, false, Option, Some, None}
 use Rattle.plain_state.specs.declared.act.EventPlace.{EventPlace}
-use Rattle.plain_state.specs.declared.act.EventPlace.TheVariants.{Cell, Field, WeakCell, WeakField}
+use Rattle.plain_state.specs.declared.act.EventPlace.TheVariants.{Field, WeakField}
 use Rattle.plain_state.specs.declared.slot.SlotId.{SlotId}
 use Rattle.plain_state.specs.declared.slot.Stage.TheVariants.{Free}
 use Rattle.plain_state.specs.Places.{content}
@@ -16,7 +16,7 @@ use Rattle.script_desk.specs.Effects.{IsPlace, IsSlotOf}
 use Rattle.script_desk.specs.Handles.{slot_of}
 use Rattle.script_desk.specs.Holding.{HasHandle}
 use Rattle.script_desk.proofs.Sums.{has_bound}
-use Rattle.script_law.specs.Desks.{DesksAlike, renamed_handle}
+use Rattle.script_law.specs.Desks.{DesksAlike}
 use Rattle.script_law.specs.Orderly.{IsOrderly}
 use Rattle.script_law.specs.Renamings.{IsRenaming, renamed}
 use Rattle.script_law.proofs.Backwards.{renamed_back}

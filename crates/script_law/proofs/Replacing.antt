@@ -1,27 +1,25 @@
 -- A place that is replaced, and a snapshot of one, at desks that are alike.
-use Rattle.std.proofs.Common.{◌≡◌, ◌≢◌, ◌⊎◌, ⊎_elim, ℕ, ◌+◌, ◌<◌, ◌≤◌, List, [], ◌∷◌, ◌++◌, length, refl, ap, ap₂, sym, ◌∙◌, subst, subst₂, arith, Bool, true, false, Option, Some, None}
+use Rattle.std.proofs.Common.{◌≡◌, ⊎_elim, ℕ, List, length, refl, ap, sym, ◌∙◌, subst₂, arith, Bool, true, false, Option, Some, None}
 use Rattle.plain_state.specs.declared.act.EventPlace.{EventPlace}
 use Rattle.plain_state.specs.declared.slot.Kind.{Kind}
 use Rattle.plain_state.specs.declared.slot.SlotId.{SlotId}
-use Rattle.plain_state.specs.Lists.{Entry, Loses}
+use Rattle.plain_state.specs.Lists.{Loses}
 use Rattle.plain_state.specs.Places.{IsOpen, content, place_kind}
-use Rattle.plain_state.specs.State.{Plain, seat_at}
+use Rattle.plain_state.specs.State.{seat_at}
 use Rattle.plain_state.specs.Steps.{Replaces}
-use Rattle.plain_state.proofs.Changes.{IsThere}
 use Rattle.plain_state.proofs.SeatRows.{open_there}
-use Rattle.plain_store.specs.Calls.{Puts, Tries, gained}
+use Rattle.plain_store.specs.Calls.{Puts, gained}
 use Rattle.plain_settling.specs.Snapshots.{Takes}
-use Rattle.script_desk.specs.declared.handle.Handle.{Handle}
-use Rattle.script_desk.specs.declared.handle.Handle.TheVariants.{Strong, Weak, Snapshot}
+use Rattle.script_desk.specs.declared.handle.Handle.TheVariants.{Snapshot}
 use Rattle.script_desk.specs.declared.said.Said.{Said}
-use Rattle.script_desk.specs.Desks.{Desk, bound}
+use Rattle.script_desk.specs.Desks.{Desk}
 use Rattle.script_desk.specs.Effects.{Gets, Gives, GivesNew, Keeps, ReplacesOne, SnapsOne, snapped}
 use Rattle.script_desk.proofs.Placing.{tries_done}
-use Rattle.script_law.specs.Desks.{DesksAlike, renamed_handle}
+use Rattle.script_law.specs.Desks.{DesksAlike}
 use Rattle.script_law.specs.Orderly.{IsOrderly}
 use Rattle.script_law.specs.Renamings.{IsRenaming, renamed}
 use Rattle.script_law.specs.States.{StatesAlike}
-use Rattle.script_law.proofs.Acting.{look_same, lost_same, seated}
+use Rattle.script_law.proofs.Heaps.{look_same, lost_same, seated}
 use Rattle.script_law.proofs.Acts.{same_plain}
 use Rattle.script_law.proofs.Counts.{entries_length}
 use Rattle.script_law.proofs.Desks.{gets_alike, gives_alike, keeps_alike}

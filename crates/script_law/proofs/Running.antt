@@ -1,16 +1,14 @@
 -- A command at desks that are alike.
-use Rattle.std.proofs.Common.{◌≡◌, ◌≢◌, ◌⊎◌, inl, inr, ⊎_elim, ℕ, ◌<◌, List, length, length-set, refl, ap, sym, ◌∙◌, subst, arith, Option, Some, None}
-use Rattle.std.specs.Prelude.{IsSome}
+use Rattle.std.proofs.Common.{◌≡◌, inl, inr, ⊎_elim, ℕ, ◌<◌, List, length, length-set, refl, ap, sym, ◌∙◌, subst, arith, Option, None}
 use Rattle.line_words.specs.declared.reason.Reason.{Reason}
 use Rattle.plain_state.specs.declared.slot.SlotId.{SlotId}
-use Rattle.plain_state.specs.declared.slot.Stage.TheVariants.{Free}
 use Rattle.plain_state.specs.State.{Plain, stage_at}
 use Rattle.plain_store.specs.Heaps.{Makes, NoneFree}
 use Rattle.script_lines.specs.declared.command.Command.{Command}
 use Rattle.script_lines.specs.declared.command.Command.TheVariants as command
 use Rattle.script_desk.specs.declared.said.Said.{Said}
 use Rattle.script_desk.specs.declared.sizes.Sizes.{Sizes}
-use Rattle.script_desk.specs.Desks.{Desk, Settles, bound, scope, scope_of}
+use Rattle.script_desk.specs.Desks.{Desk, scope, scope_of}
 use Rattle.script_desk.specs.Effects.{Acts, MakesOne, Runs}
 use Rattle.script_desk.specs.Faults.{IsFault, IsFaultless}
 use Rattle.script_desk.specs.Kinds.{script_payload}
@@ -25,7 +23,6 @@ use Rattle.script_law.proofs.Commands.{IsPlainer, plainer}
 use Rattle.script_law.proofs.Desks.{desks_back, settles_alike, settles_orderly, sizes_alike, still_alike}
 use Rattle.script_law.proofs.Faults.{fault_so}
 use Rattle.script_law.proofs.Making.{is_make, makes_alike, makes_orderly, none_there}
-use Rattle.script_law.proofs.Orderly.{Moves}
 use Rattle.script_law.proofs.Swapping.{desks_turned, turned, turned_back, turned_first, turned_renaming}
 
 -- alike desks, by names that are one to one

@@ -1,9 +1,8 @@
 -- States that are alike settle to states that are alike.
-use Rattle.std.proofs.Common.{◌≡◌, ◌≢◌, ◌⊎◌, inl, inr, ⊎_elim, ℕ, ◌+◌, ◌<◌, ◌≤◌, List, [], length, refl, ap, sym, ◌∙◌, subst, subst₂, arith, true, Option, None}
+use Rattle.std.proofs.Common.{◌≡◌, ◌≢◌, ◌⊎◌, inl, inr, ⊎_elim, ℕ, ◌+◌, ◌<◌, length, refl, ap, sym, ◌∙◌, subst, subst₂, arith}
 use Rattle.std.specs.Prelude.{map}
 use Rattle.plain_state.specs.declared.slot.Kind.{Kind}
-use Rattle.plain_state.specs.declared.slot.Kind.TheVariants.{Strong, Weak, Disposal}
-use Rattle.plain_state.specs.declared.slot.PlainSlot.{PlainSlot}
+use Rattle.plain_state.specs.declared.slot.Kind.TheVariants.{Weak}
 use Rattle.plain_state.specs.declared.slot.SlotId.{SlotId}
 use Rattle.plain_state.specs.declared.slot.Stage.{Stage}
 use Rattle.plain_state.specs.declared.slot.Stage.TheVariants.{Free, Blank, Live, Ended, Husk}
@@ -14,13 +13,12 @@ use Rattle.plain_state.specs.Sound.{Sound}
 use Rattle.plain_state.specs.State.{Plain, seat_at, slot_at, stage_at}
 use Rattle.plain_state.proofs.Kit.{none_by}
 use Rattle.plain_store.specs.Settling.{IsSettled}
-use Rattle.plain_settling.specs.Settling.{TidiesTo}
 use Rattle.plain_audit.proofs.Numbers.{seat_alone}
 use Rattle.script_law.specs.Renamings.{IsRenaming, renamed}
 use Rattle.script_law.specs.States.{SeatsAlike, SlotsAlike, StatesAlike}
 use Rattle.script_law.proofs.States.{FieldsAlike, fields_of, held_alike, places_alike}
-use Rattle.script_law.proofs.Outliving.{Outlived, none_ended}
-use Rattle.script_law.proofs.Tidying.{Fate, Tidying}
+use Rattle.script_law.proofs.Outliving.{none_ended}
+use Rattle.script_law.proofs.Fates.{Tidying}
 
 -- the weak references to a slot but for its own
 abbrev rest_refs : Plain → SlotId → ℕ

@@ -1,5 +1,5 @@
 -- States that are alike have as many references to each slot, and stay alike where the same is written.
-use Rattle.std.proofs.Common.{◌≡◌, ◌≢◌, ⊎_elim, ℕ, ◌+◌, ◌<◌, List, length, get_or, get_or-set_same, set, refl, ap, sym, ◌∙◌, subst, arith, Option, Some, None}
+use Rattle.std.proofs.Common.{◌≡◌, ◌≢◌, ⊎_elim, ℕ, ◌<◌, length, get_or, get_or-set_same, set, refl, ap, sym, ◌∙◌, subst, arith, Option, None}
 use Rattle.std.specs.Prelude.{◌==◌, Bool, true, false, map, if◌then◌else◌}
 use Rattle.std.proofs.lemmas.List.{length-set, map-set}
 use Rattle.std.proofs.Math.ListN.{get_or-map}
@@ -10,9 +10,9 @@ use Rattle.plain_state.specs.declared.slot.Kind.TheVariants.{Strong, Weak, Dispo
 use Rattle.plain_state.specs.declared.slot.PlainSlot.{PlainSlot}
 use Rattle.plain_state.specs.declared.slot.SlotId.{SlotId}
 use Rattle.plain_state.specs.Lists.{cell_times, entry_times, times}
-use Rattle.plain_state.specs.Places.{content, with_content, field_of, with_field}
-use Rattle.plain_state.specs.References.{held_in, over_seats, over_slots, own_reference, places, deferrals, snapshot_times, strong_fields, strong_refs, weak_fields, weak_refs}
-use Rattle.plain_state.specs.State.{Plain, PlainSeat, new_seat, new_slot, seat_at, slot_at, stage_at, with_seat, with_slot}
+use Rattle.plain_state.specs.Places.{content, with_content, with_field}
+use Rattle.plain_state.specs.References.{held_in, over_seats, over_slots, own_reference, places, deferrals, strong_fields, strong_refs, weak_fields, weak_refs}
+use Rattle.plain_state.specs.State.{Plain, PlainSeat, new_seat, seat_at, slot_at, with_seat, with_slot}
 use Rattle.plain_state.proofs.Changes.{IsThere, slot_other, slot_same}
 use Rattle.plain_state.proofs.Kit.{cases_slot}
 use Rattle.plain_audit.proofs.Numbers.{seat_alone}

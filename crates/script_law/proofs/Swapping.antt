@@ -1,14 +1,11 @@
 -- Two free slots may change their new names.
-use Rattle.std.proofs.Common.{◌≡◌, ◌≢◌, ◌⊎◌, ⊎_elim, ℕ, ◌+◌, ◌<◌, List, [], ◌∷◌, length, refl, ap, ap₂, sym, ◌∙◌, subst, arith, Option, Some, None}
+use Rattle.std.proofs.Common.{◌≡◌, ◌≢◌, ⊎_elim, ℕ, ◌<◌, List, [], ◌∷◌, length, refl, ap, ap₂, sym, ◌∙◌, subst, arith, Option, Some, None}
 use Rattle.std.specs.Prelude.{map}
-use Rattle.plain_state.specs.declared.slot.Kind.{Kind}
-use Rattle.plain_state.specs.declared.slot.PlainSlot.{PlainSlot}
 use Rattle.plain_state.specs.declared.slot.SlotId.{SlotId}
-use Rattle.plain_state.specs.declared.slot.Stage.TheVariants.{Free, Live, Ended}
+use Rattle.plain_state.specs.declared.slot.Stage.TheVariants.{Free}
 use Rattle.plain_state.specs.Lists.{cell_times, entry_times, times}
 use Rattle.plain_state.specs.References.{held_in}
-use Rattle.plain_state.specs.Sound.{Sound}
-use Rattle.plain_state.specs.State.{Plain, seat_at, slot_at, stage_at}
+use Rattle.plain_state.specs.State.{seat_at, slot_at, stage_at}
 use Rattle.plain_state.proofs.Kit.{cases_slot, held_self}
 use Rattle.script_desk.specs.declared.handle.Handle.{Handle}
 use Rattle.script_desk.specs.declared.handle.Handle.TheVariants.{Strong, Weak, Snapshot}

@@ -1,15 +1,15 @@
 -- Nothing of an orderly desk refers to a free slot.
-use Rattle.std.proofs.Common.{◌≡◌, ◌≢◌, ◌⊎◌, ⊎_elim, ℕ, ◌+◌, ◌<◌, ◌≤◌, List, length, get_or, refl, ap, sym, ◌∙◌, arith, Option, None}
+use Rattle.std.proofs.Common.{◌≡◌, ⊎_elim, ◌<◌, ◌≤◌, length, ap, arith}
 use Rattle.std.proofs.lemmas.Bool.{cases_lt}
 use Rattle.std.proofs.lemmas.List.{get_or_past}
 use Rattle.plain_state.specs.declared.slot.Kind.{Kind}
 use Rattle.plain_state.specs.declared.slot.Kind.TheVariants.{Strong, Weak, Disposal}
 use Rattle.plain_state.specs.declared.slot.PlainSlot.{PlainSlot}
 use Rattle.plain_state.specs.declared.slot.SlotId.{SlotId}
-use Rattle.plain_state.specs.declared.slot.Stage.TheVariants.{Free, Live}
+use Rattle.plain_state.specs.declared.slot.Stage.TheVariants.{Free}
 use Rattle.plain_state.specs.Lawful.{HasNullFields}
 use Rattle.plain_state.specs.Lists.{cell_times, entry_times, times}
-use Rattle.plain_state.specs.References.{deferrals, held_in, over_slots, places, snapshot_times, strong_fields, strong_refs, weak_fields, weak_refs}
+use Rattle.plain_state.specs.References.{held_in, snapshot_times, strong_fields, strong_refs, weak_fields, weak_refs}
 use Rattle.plain_state.specs.Sound.{Sound}
 use Rattle.plain_state.specs.State.{Plain, new_slot, seat_at, slot_at, stage_at}
 use Rattle.plain_state.proofs.Kit.{held_none, none_by, slots_at}
