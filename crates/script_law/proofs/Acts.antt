@@ -142,18 +142,21 @@ module _ (to from : SlotId → SlotId) (d d' e e' : Desk) (r : IsRenaming (lengt
         (λ y.
         let s = x.1.0 in
         let is = holds_alike to from d d' r alike at at' same s y.1.0 x.1.1.0 y.1.1.0 in
-        let state : e'.plain ≡ gained d'.plain (to s) = y.1.1.1 ∙ ap (gained d'.plain) is in
-        (x.0 ∙ sym y.0,
-        gets_alike to d d' alike e e' m
-        (gained_alike to from (length d.plain.slots) r d.plain d'.plain refl k.one k'.one alike.plain e.plain e'.plain s x.1.1.1 state)
-        new (Strong s) x.1.2 (subst (λ (z : SlotId). Gets d' new (Strong z) e') is y.1.2)))
+        let state : e'.plain ≡ gained d'.plain (to s) = y.1.1.1 ∙ ap (gained d'.plain) is in (
+          x.0 ∙ sym y.0,
+          gets_alike to d d' alike e e' m
+              (gained_alike to from (length d.plain.slots) r d.plain d'.plain refl k.one k'.one alike.plain e.plain e'.plain s x.1.1.1 state)
+              new (Strong s) x.1.2 (subst (λ (z : SlotId). Gets d' new (Strong z) e') is y.1.2),
+        ))
         (λ y. absurd (one_holds to from d d' r alike at at' same x.1.0 x.1.1.0 y.1.0))
         two)
         (λ x. ⊎_elim
         (λ y. absurd (other_holds to from d d' r alike at at' same y.1.0 x.1.0 y.1.1.0))
-        (λ y. (x.0 ∙ sym y.0,
-        keeps_alike to d d' alike e e' m
-        (same_plain (look_same d.plain k.sound k.one e.plain at x.1.1) (look_same d'.plain k'.sound k'.one e'.plain at' y.1.1)) x.2 y.2))
+        (λ y. (
+          x.0 ∙ sym y.0,
+          keeps_alike to d d' alike e e' m
+              (same_plain (look_same d.plain k.sound k.one e.plain at x.1.1) (look_same d'.plain k'.sound k'.one e'.plain at' y.1.1)) x.2 y.2,
+        ))
         two)
         one
 
@@ -164,18 +167,21 @@ module _ (to from : SlotId → SlotId) (d d' e e' : Desk) (r : IsRenaming (lengt
         (λ y.
         let s = x.1.0 in
         let is = holds_alike to from d d' r alike at at' same s y.1.0 x.1.1.0 y.1.1.0 in
-        let state : e'.plain ≡ weakly_gained d'.plain (to s) = y.1.1.1 ∙ ap (weakly_gained d'.plain) is in
-        (x.0 ∙ sym y.0,
-        gets_alike to d d' alike e e' m
-        (weakly_gained_alike to from (length d.plain.slots) r d.plain d'.plain refl k.one k'.one alike.plain e.plain e'.plain s x.1.1.1 state)
-        new (Weak s) x.1.2 (subst (λ (z : SlotId). Gets d' new (Weak z) e') is y.1.2)))
+        let state : e'.plain ≡ weakly_gained d'.plain (to s) = y.1.1.1 ∙ ap (weakly_gained d'.plain) is in (
+          x.0 ∙ sym y.0,
+          gets_alike to d d' alike e e' m
+              (weakly_gained_alike to from (length d.plain.slots) r d.plain d'.plain refl k.one k'.one alike.plain e.plain e'.plain s x.1.1.1 state)
+              new (Weak s) x.1.2 (subst (λ (z : SlotId). Gets d' new (Weak z) e') is y.1.2),
+        ))
         (λ y. absurd (one_holds to from d d' r alike at at' same x.1.0 x.1.1.0 y.1.0))
         two)
         (λ x. ⊎_elim
         (λ y. absurd (other_holds to from d d' r alike at at' same y.1.0 x.1.0 y.1.1.0))
-        (λ y. (x.0 ∙ sym y.0,
-        keeps_alike to d d' alike e e' m
-        (same_plain (look_same d.plain k.sound k.one e.plain at x.1.1) (look_same d'.plain k'.sound k'.one e'.plain at' y.1.1)) x.2 y.2))
+        (λ y. (
+          x.0 ∙ sym y.0,
+          keeps_alike to d d' alike e e' m
+              (same_plain (look_same d.plain k.sound k.one e.plain at x.1.1) (look_same d'.plain k'.sound k'.one e'.plain at' y.1.1)) x.2 y.2,
+        ))
         two)
         one
 

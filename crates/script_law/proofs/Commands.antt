@@ -52,9 +52,10 @@ module _ (to from : SlotId → SlotId) (d d' e e' : Desk) (r : IsRenaming (lengt
   counts_two : (name : List ℕ) (h h' : Handle) → bound d.names name ≡ Some h → bound d'.names name ≡ Some h'
       → (strong_refs d'.plain (slot_of h') ≡ strong_refs d.plain (slot_of h)) × (weak_refs d'.plain (slot_of h') ≡ weak_refs d.plain (slot_of h))
   counts_two name h h' is is' =
-      let same = slot_bound_alike to from d d' r alike name h h' is is' in
-      (ap (strong_refs d'.plain) same ∙ strong_refs_alike to from (length d.plain.slots) r d.plain d'.plain refl alike.plain k.one k'.one (slot_of h),
-      ap (weak_refs d'.plain) same ∙ weak_refs_alike to from (length d.plain.slots) r d.plain d'.plain refl alike.plain k.one k'.one (slot_of h))
+      let same = slot_bound_alike to from d d' r alike name h h' is is' in (
+        ap (strong_refs d'.plain) same ∙ strong_refs_alike to from (length d.plain.slots) r d.plain d'.plain refl alike.plain k.one k'.one (slot_of h),
+        ap (weak_refs d'.plain) same ∙ weak_refs_alike to from (length d.plain.slots) r d.plain d'.plain refl alike.plain k.one k'.one (slot_of h),
+      )
 
   pub plainer : (c : Command) (a b : Said) → IsPlainer c → Acts d c a e → Acts d' c b e' → (a ≡ b) × DesksAlike to e e'
   plainer (command.Make name weight) a b not one two = absurd not
@@ -70,13 +71,15 @@ module _ (to from : SlotId → SlotId) (d d' e e' : Desk) (r : IsRenaming (lengt
       (z ∙ sym z', weak_drops_two to from d d' e e' r alike k k' m name s s' (weak_two name s s' is is') does gives does' gives')
   plainer (command.Upgrade name new) a b not (s, is, cases) (s', is', cases') =
       upgrades_two to from d d' e e' r alike k k' m s s' new a b (weak_two name s s' is is') cases cases'
-  plainer (command.Put place name) a b not (z, (at, h, is-at, is, puts, gives)) (z', (at', h', is-at', is', puts', gives')) =
-      (z ∙ sym z',
-      puts_two to from d d' e e' r alike k k' m at at' (is_place_alike to from d d' r alike place at at' is-at is-at') name
-      (Some (slot_of h)) (Some (slot_of h')) (ap Some (slot_bound_alike to from d d' r alike name h h' is is')) puts gives puts' gives')
-  plainer (command.Clear place) a b not (z, (at, is-at, puts, keeps)) (z', (at', is-at', puts', keeps')) =
-      (z ∙ sym z',
-      clears_two to from d d' e e' r alike k k' m at at' (is_place_alike to from d d' r alike place at at' is-at is-at') puts keeps puts' keeps')
+  plainer (command.Put place name) a b not (z, (at, h, is-at, is, puts, gives)) (z', (at', h', is-at', is', puts', gives')) = (
+    z ∙ sym z',
+    puts_two to from d d' e e' r alike k k' m at at' (is_place_alike to from d d' r alike place at at' is-at is-at') name
+        (Some (slot_of h)) (Some (slot_of h')) (ap Some (slot_bound_alike to from d d' r alike name h h' is is')) puts gives puts' gives',
+  )
+  plainer (command.Clear place) a b not (z, (at, is-at, puts, keeps)) (z', (at', is-at', puts', keeps')) = (
+    z ∙ sym z',
+    clears_two to from d d' e e' r alike k k' m at at' (is_place_alike to from d d' r alike place at at' is-at is-at') puts keeps puts' keeps',
+  )
   plainer (command.Load place new) a b not (at, is-at, l) (at', is-at', l') =
       load_two to from d d' e e' r alike k k' m at at' (is_place_alike to from d d' r alike place at at' is-at is-at') place new a b l l'
   plainer (command.Replace place old new) a b not (at, old-slot, slot, is-at, is-old, is-new, x) (at', old-slot', slot', is-at', is-old', is-new', y) =

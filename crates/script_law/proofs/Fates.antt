@@ -168,4 +168,3 @@ balanced_clear p v m q place old b change = record {
       let j = joined_times k (place_kind place) s old v.deferred in
       ⊎_elim (λ e. inl (omega arith)) (λ l. inr (omega arith)) (b.kept k s);
 }
-

@@ -59,12 +59,17 @@ states_own p = record {
 -- a desk is alike to itself, and to one with an equal heap, equal names and the same makers
 pub same_alike : (d e : Desk) → e.plain ≡ d.plain → e.names ≡ d.names → e.makes ≡ d.makes
     → ((s : SlotId) → maker_of e s ≡ maker_of d s) → Alike d e
-same_alike d e plain names makes makers = (own_name, own_name, own_names (length d.plain.slots), record {
-  plain = subst (StatesAlike own_name d.plain) (sym plain) (states_own d.plain);
-  names = λ name. ap (λ (ns : Names). bound ns name) names ∙ sym (bound_own (bound d.names name));
-  makers = λ s taken. makers s;
-  makes = makes;
-})
+same_alike d e plain names makes makers = (
+  own_name,
+  own_name,
+  own_names (length d.plain.slots),
+  record {
+    plain = subst (StatesAlike own_name d.plain) (sym plain) (states_own d.plain);
+    names = λ name. ap (λ (ns : Names). bound ns name) names ∙ sym (bound_own (bound d.names name));
+    makers = λ s taken. makers s;
+    makes = makes;
+  },
+)
 
 module _ (slots cells weak_cells : ℕ) where
   pub fresh_alike : (d e : Desk) → IsFresh slots cells weak_cells d → IsFresh slots cells weak_cells e → Alike d e

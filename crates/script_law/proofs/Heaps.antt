@@ -82,7 +82,7 @@ module _ (p : Plain) (so : Sound p) (one : length p.seats ≡ 1) where
       seat_moves p so one q _ (runs_sound (act.Check 0 place ∷ act.Add s ∷ act.EndSnapshot (place_kind place) s ∷ []) p q so runs) e refl
 
   pub weakly_load_moves : (q : Plain) (place : EventPlace) (s : SlotId) → WeaklyLoads p place (Some s) q → Moves p q
-  weakly_load_moves q place s (holds, e, runs) = 
+  weakly_load_moves q place s (holds, e, runs) =
       seat_moves p so one q _ (runs_sound (act.Check 0 place ∷ act.WeakGain s ∷ act.EndSnapshot (place_kind place) s ∷ []) p q so runs) e refl
 
   pub look_same : (q : Plain) (place : EventPlace) → Does p 0 (act.Look place) 0 q → q ≡ p

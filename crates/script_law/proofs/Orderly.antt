@@ -86,10 +86,10 @@ pub listed_more : (d : Desk) (k : IsOrderly d) (name : List ℕ) (h : Handle) (n
 listed_more d k name h names none binds = (
   (k.same name ∙ none, k.once),
   (λ other. ⊎_elim
-  (λ (is : other ≡ name). subst (λ (n : List ℕ). bound ((name, h) ∷ k.listed) n ≡ bound names n) (sym is)
-  (bound_here name h k.listed ∙ sym binds.0))
-  (λ (ne : other ≢ name). bound_else name other h k.listed ne ∙ k.same other ∙ sym (binds.1 other ne))
-  (same_name other name)),
+      (λ (is : other ≡ name). subst (λ (n : List ℕ). bound ((name, h) ∷ k.listed) n ≡ bound names n) (sym is)
+      (bound_here name h k.listed ∙ sym binds.0))
+      (λ (ne : other ≢ name). bound_else name other h k.listed ne ∙ k.same other ∙ sym (binds.1 other ne))
+      (same_name other name)),
 )
 
 pub orderly_more : (d e : Desk) (name : List ℕ) (h : Handle) → IsOrderly d → Moves d.plain e.plain → bound d.names name ≡ None

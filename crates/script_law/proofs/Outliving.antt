@@ -61,6 +61,7 @@ holder_lives p s t so one settled some = of (stage_at p t) refl
         let a = ap (held_in s) null.0 in
         let b = ap (held_in s) null.1 in
         let z = held_none s in omega arith
+
     of : (x : Stage) → stage_at p t ≡ x → stage_at p t ≡ Live
     of Live e = e
     of Free e = absurd (vacant ((λ l. cc), (λ f. cc)))

@@ -30,6 +30,7 @@ handle_taken d k name h is = of h (has_bound d.plain k.listed name h k.holds (k.
   where
     there : 0 < length d.plain.seats
     there = let a = k.one in omega arith
+
     of : (g : Handle) → HasHandle d.plain g → stage_at d.plain (slot_of g) ≢ Free
     of (Strong s) has = held_there d.plain 0 s k.sound there (omega arith)
     of (Weak s) has = held_there d.plain 0 s k.sound there (omega arith)

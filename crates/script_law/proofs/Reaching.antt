@@ -52,9 +52,10 @@ module _ (to from : SlotId → SlotId) (p q : Plain) (r : IsRenaming (length p.s
   alike_too = alike_back to from (length p.slots) r p q alike
 
   pub unreached_renamed : (s : SlotId) → IsUnreached p s → IsUnreached q (to s)
-  unreached_renamed s (live, un) =
-      ((alike.slots s).stage ∙ live,
-      (λ reached. un (subst (IsReached p) (r.back s) (reached_renamed from to q p back_too one' one alike_too (to s) reached))))
+  unreached_renamed s (live, un) = (
+    (alike.slots s).stage ∙ live,
+    (λ reached. un (subst (IsReached p) (r.back s) (reached_renamed from to q p back_too one' one alike_too (to s) reached))),
+  )
 
   pub field_back : (a b : SlotId) → HasField q a b → HasField p (from a) (from b)
   field_back = field_renamed from to q p back_too one' one alike_too

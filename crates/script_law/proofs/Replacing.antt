@@ -61,17 +61,21 @@ module _ (to from : SlotId → SlotId) (d d' e e' : Desk) (r : IsRenaming (lengt
     replaces_two new a b one two =
         ⊎_elim
         (λ x. ⊎_elim
-        (λ y. (x.0 ∙ sym y.0,
-        gives_new new (replaced slot slot' is-new x.1.1.1.0 (tries_done d.plain e.plain at old slot x.1).1
-        (tries_done d'.plain e'.plain at' old' slot' y.1).1) x.2 y.2))
+        (λ y. (
+          x.0 ∙ sym y.0,
+          gives_new new (replaced slot slot' is-new x.1.1.1.0 (tries_done d.plain e.plain at old slot x.1).1
+              (tries_done d'.plain e'.plain at' old' slot' y.1).1) x.2 y.2,
+        ))
         (λ y. absurd (false_true (y.1.0.1 (expected_too to from d d' r alike at at' same old old' is-old (x.1.0.0 refl)))))
         two)
         (λ x. ⊎_elim
         (λ y. absurd (false_true (x.1.0.1 (expected_back to from d d' r alike at at' same old old' is-old (y.1.0.0 refl)))))
-        (λ y. (x.0 ∙ sym y.0,
-        keeps_alike to d d' alike e e' m
-        (same_plain to from d d' e e' r alike k k' m
-        (lost_same d.plain k.sound k.one e.plain at old slot x.1) (lost_same d'.plain k'.sound k'.one e'.plain at' old' slot' y.1)) x.2 y.2))
+        (λ y. (
+          x.0 ∙ sym y.0,
+          keeps_alike to d d' alike e e' m
+              (same_plain to from d d' e e' r alike k k' m
+              (lost_same d.plain k.sound k.one e.plain at old slot x.1) (lost_same d'.plain k'.sound k'.one e'.plain at' old' slot' y.1)) x.2 y.2,
+        ))
         two)
         one
 
@@ -83,20 +87,24 @@ module _ (to from : SlotId → SlotId) (d d' e e' : Desk) (r : IsRenaming (lengt
   takes_two : (s s' : SlotId) (counted counted' : Bool) → Takes d.plain at (Some (s, counted)) e.plain
       → Takes d'.plain at' (Some (s', counted')) e'.plain → (s' ≡ to s) × (counted' ≡ counted) × StatesAlike to e.plain e'.plain
   takes_two s s' true true (full, l) (full', l') =
-      let is = holds_alike to from d d' r alike at at' same s s' l.0 l'.0 in
-      (is, refl,
-      gained_alike to from (length d.plain.slots) r d.plain d'.plain refl k.one k'.one alike.plain e.plain e'.plain s l.1
-      (l'.1 ∙ ap (gained d'.plain) is))
+      let is = holds_alike to from d d' r alike at at' same s s' l.0 l'.0 in (
+        is,
+        refl,
+        gained_alike to from (length d.plain.slots) r d.plain d'.plain refl k.one k'.one alike.plain e.plain e'.plain s l.1
+            (l'.1 ∙ ap (gained d'.plain) is),
+      )
   takes_two s s' false false (room, t) (room', t') =
       let is = holds_alike to from d d' r alike at at' same s s' t.holds t'.holds in
       let j : place_kind at' ≡ place_kind at
       = ap place_kind same ∙ same_kind to from (length d.plain.slots) r d.plain d'.plain refl k.one k'.one alike.plain at in
       let es = t.under.0 in
       let fs = t'.under.0 in
-      let gains = subst₂ (λ (i : Kind) (x : SlotId). Loses fs (i, x) (seat_at d'.plain 0).snapshots) j is t'.under.1 in
-      (is, refl,
-      snaps_alike to from (length d.plain.slots) r d.plain d'.plain refl k.one k'.one alike.plain e.plain e'.plain (place_kind at) s es fs
-      t.under.1 gains t.under.2 t'.under.2)
+      let gains = subst₂ (λ (i : Kind) (x : SlotId). Loses fs (i, x) (seat_at d'.plain 0).snapshots) j is t'.under.1 in (
+        is,
+        refl,
+        snaps_alike to from (length d.plain.slots) r d.plain d'.plain refl k.one k'.one alike.plain e.plain e'.plain (place_kind at) s es fs
+            t.under.1 gains t.under.2 t'.under.2,
+      )
   takes_two s s' true false (full, l) (room', t') = let n = as_many in absurd (omega arith)
   takes_two s s' false true (room, t) (full', l') = let n = as_many in absurd (omega arith)
 
@@ -113,17 +121,20 @@ module _ (to from : SlotId → SlotId) (d d' e e' : Desk) (r : IsRenaming (lengt
       ⊎_elim
       (λ x. ⊎_elim
       (λ y.
-      let t = takes_two x.0 y.0 x.1 y.1 x.3 y.3 in
-      (x.2 ∙ sym (ap snapped t.1) ∙ sym y.2,
-      gets_alike to d d' alike e e' m t.2 new (Snapshot (x.0, x.1)) x.4
-      (subst₂ (λ (s : SlotId) (c : Bool). Gets d' new (Snapshot (s, c)) e') t.0 t.1 y.4)))
+      let t = takes_two x.0 y.0 x.1 y.1 x.3 y.3 in (
+        x.2 ∙ sym (ap snapped t.1) ∙ sym y.2,
+        gets_alike to d d' alike e e' m t.2 new (Snapshot (x.0, x.1)) x.4
+            (subst₂ (λ (s : SlotId) (c : Bool). Gets d' new (Snapshot (s, c)) e') t.0 t.1 y.4),
+      ))
       (λ y. absurd (one_holds to from d d' r alike at at' same x.0 (holds_taken x.0 x.1 x.3) y.1.0))
       two)
       (λ x. ⊎_elim
       (λ y. absurd (other_holds to from d d' r alike at at' same y.0 x.1.0 (holds_taken' y.0 y.1 y.3)))
-      (λ y. (x.0 ∙ sym y.0,
-      keeps_alike to d d' alike e e' m
-      (same_plain to from d d' e e' r alike k k' m
-      (look_same d.plain k.sound k.one e.plain at x.1.1) (look_same d'.plain k'.sound k'.one e'.plain at' y.1.1)) x.2 y.2))
+      (λ y. (
+        x.0 ∙ sym y.0,
+        keeps_alike to d d' alike e e' m
+            (same_plain to from d d' e e' r alike k k' m
+            (look_same d.plain k.sound k.one e.plain at x.1.1) (look_same d'.plain k'.sound k'.one e'.plain at' y.1.1)) x.2 y.2,
+      ))
       two)
       one

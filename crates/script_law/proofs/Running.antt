@@ -79,11 +79,12 @@ module _ (to from : SlotId → SlotId) (d d' e e' : Desk) (r : IsRenaming (lengt
       let down = turned_back to from n r s s' m.there there in
       let r' : IsRenaming n up down = turned_renaming to from n r s s' m.there there in
       let alike' : DesksAlike up d d' = desks_turned to from n r s s' m.there there d d' refl alike k k' m.free m'.free in
-      let size : length e.plain.slots ≡ n = ap (λ (z : Plain). length z.slots) m.state ∙ length-set d.plain.slots s.0 _ in
-      (x.0 ∙ sym y.0,
-      with_size d d' e e' up down size r'
-      (makes_alike up down d d' e e' r' alike' k k' name weight s s' (turned_first to from n r s s' m.there there)
-      x.1.1 y.1.1 x.1.2 y.1.2 x.1.3 y.1.3)))
+      let size : length e.plain.slots ≡ n = ap (λ (z : Plain). length z.slots) m.state ∙ length-set d.plain.slots s.0 _ in (
+        x.0 ∙ sym y.0,
+        with_size d d' e e' up down size r'
+            (makes_alike up down d d' e e' r' alike' k k' name weight s s' (turned_first to from n r s s' m.there there)
+            x.1.1 y.1.1 x.1.2 y.1.2 x.1.3 y.1.3),
+      ))
       two)
       one
 
@@ -103,9 +104,10 @@ module _ (to from : SlotId → SlotId) (d d' e e' : Desk) (r : IsRenaming (lengt
   pub acts_alike : (c : Command) (a b : Said) → IsFaultless (scope_of d) c → Acts d c a e → Acts d' c b e' → SaidAlike a b × Alike e e'
   acts_alike (command.Make name weight) a b f one two =
       let both = makes_two to from d d' e e' r alike k k' name weight a b one two in (inl both.0, both.1)
-  acts_alike command.Audit a b f one two =
-      (audits_alike to from d d' r alike k k' a b one.0 two.0,
-      with_size d d' e e' to from (ap (λ (z : Desk). length z.plain.slots) one.1) r (still_alike to d d' alike e e' one.1 two.1))
+  acts_alike command.Audit a b f one two = (
+    audits_alike to from d d' r alike k k' a b one.0 two.0,
+    with_size d d' e e' to from (ap (λ (z : Desk). length z.plain.slots) one.1) r (still_alike to d d' alike e e' one.1 two.1),
+  )
   acts_alike c a b f one two = plain_two c a b tt (acted d k e c a f tt one) one two
 
 -- ---- and then the heap settles
@@ -121,6 +123,7 @@ runs_alike d d' f f' c a b k k' (to, from, r, alike) fine (e, acts, settles) (e'
     let two = acts_alike to from d d' e e' r alike k k' c a b fine acts acts' in
     let up = two.1.0 in
     let down = two.1.1 in
-    let t = tidied e.plain f.plain l.sound l.one settles.0.tidies in
-    (two.0,
-    with_size e e' f f' up down t.slots.size two.1.2 (settles_alike up down e e' f f' two.1.2 two.1.3 l l' settles settles'))
+    let t = tidied e.plain f.plain l.sound l.one settles.0.tidies in (
+      two.0,
+      with_size e e' f f' up down t.slots.size two.1.2 (settles_alike up down e e' f f' two.1.2 two.1.3 l l' settles settles'),
+    )

@@ -48,7 +48,6 @@ IsEnd x y rest =
     (y ≢ Live) × (y ≢ Ended) × (y ≡ Husk → 0 < rest) × (y ≡ Free → rest ≡ 0)
     × ((y ≡ x) ⊎ ((y ≢ Live) × (y ≢ Blank) × (x ≢ Free) × (x ≢ Blank)))
 
-
 -- what stays blank was blank, and stays so
 blank_only : (x y : Stage) → (Blank ≡ x) ⊎ ((Blank ≢ Live) × (Blank ≢ Blank) × (x ≢ Free) × (x ≢ Blank))
     → (y ≡ x) ⊎ ((y ≢ Live) × (y ≢ Blank) × (x ≢ Free) × (x ≢ Blank)) → y ≢ Blank → ⊥
@@ -161,8 +160,7 @@ module _ (to from : SlotId → SlotId) (p p' q q' : Plain) (r : IsRenaming (leng
       let husk' = husk_has q' t'.sound t'.seats settled' (to s) in
       let free' = free_has q' t'.sound t'.seats settled' (to s) in
       one_end (stage_at p s) (stage_at q s) (stage_at q' (to s)) (rest_refs q s)
-      (dead, none_ended q s t.sound t.seats settled, husk_has q t.sound t.seats settled s, free_has q t.sound t.seats settled s, (t.slots.fates s).later)
-      (
+      (dead, none_ended q s t.sound t.seats settled, husk_has q t.sound t.seats settled s, free_has q t.sound t.seats settled s, (t.slots.fates s).later) (
         dead' s dead,
         none_ended q' (to s) t'.sound t'.seats settled',
         (λ h. let a = husk' h in omega arith),

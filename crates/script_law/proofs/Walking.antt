@@ -51,12 +51,13 @@ module _ (to from : SlotId → SlotId) (back : (s : SlotId) → from (to s) ≡ 
   rank_back u q = ap (rank_of ranks') (sym (forth u)) ∙ same (from u) (lives (from u) (so_back u q))
 
   goes_renamed : (s t : SlotId) → GoesTo P Holds ranks s t → GoesTo Q Keeps ranks' (to s) (to t)
-  goes_renamed s t (is, least) =
-      ((so t is.0, holds t s is.1),
-      (λ u q.
-      let a = least (from u) (so_back u q.0, subst (Holds (from u)) (back s) (holds_back u (to s) q.1)) in
-      let b = rank_back u q.0 in
-      let c = same t (lives t is.0) in omega arith))
+  goes_renamed s t (is, least) = (
+    (so t is.0, holds t s is.1),
+    (λ u q.
+        let a = least (from u) (so_back u q.0, subst (Holds (from u)) (back s) (holds_back u (to s) q.1)) in
+        let b = rank_back u q.0 in
+        let c = same t (lives t is.0) in omega arith),
+  )
 
   pub found_renamed : (walk : List SlotId) → All L walk → IsFoundAmong P Holds ranks walk → IsFoundAmong Q Keeps ranks' (map to walk)
   found_renamed walk all f = record {
@@ -64,9 +65,9 @@ module _ (to from : SlotId → SlotId) (back : (s : SlotId) → from (to s) ≡ 
     least = (
       so f.start f.least.0,
       (λ u q.
-      let a = f.least.1 (from u) (so_back u q) in
-      let b = rank_back u q in
-      let c = same f.start (lives f.start f.least.0) in omega arith),
+          let a = f.least.1 (from u) (so_back u q) in
+          let b = rank_back u q in
+          let c = same f.start (lives f.start f.least.0) in omega arith),
     );
     rest = map to f.rest;
     again = to f.again;
