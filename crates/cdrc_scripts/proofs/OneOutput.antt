@@ -11,7 +11,7 @@ use Rattle.line_machine.proofs.Leads.{Done}
 use Rattle.script_lines.specs.declared.command.Command.{Command}
 use Rattle.script_lines.specs.declared.command.ScriptLine.{ScriptLine}
 use Rattle.script_lines.specs.declared.command.ScriptLine.TheVariants.{Heap, Command as OnHeap}
-use Rattle.script_lines.specs.Spelling.{Spells, SpellsCommand}
+use Rattle.script_lines.specs.Spelling.{SpellsCommand}
 use Rattle.script_lines.proofs.Unique.{one-line}
 use Rattle.script_desk.specs.Desks.{Desk, scope_of}
 use Rattle.script_desk.specs.Effects.{Runs}
@@ -20,7 +20,7 @@ use Rattle.script_law.specs.Desks.{Alike}
 use Rattle.script_law.specs.Orderly.{IsFresh, IsOrderly}
 use Rattle.script_law.proofs.Fresh.{fresh_alike, fresh_orderly}
 use Rattle.script_law.proofs.Running.{alike_desks_back, faults_alike, runs_alike, runs_orderly}
-use Rattle.cdrc_scripts.specs.Meaning.{Ends, IsHeapInRange, IsScript, Refuses, RunsTo, Takes}
+use Rattle.cdrc_scripts.specs.Meaning.{Ends, IsHeapInRange, IsScript, Refuses, Takes}
 use Rattle.cdrc_scripts.specs.SaidLines.{said_line}
 use Rattle.cdrc_scripts.proofs.SameBytes.{written_alike}
 

@@ -16,6 +16,7 @@ use Rattle.plain_state.proofs.EveryStep.{step_sound}
 use Rattle.script_desk.proofs.Grows.{placed, placed_same_sizes, written}
 use Rattle.script_law.specs.Orderly.{IsQuiet}
 use Rattle.script_law.proofs.Orderly.{Moves}
+use Rattle.script_law.proofs.States.{there_written}
 
 pub runs_sound : (acts : List PlainAct) (p q : Plain) → Sound p → Runs p 0 acts q → Sound q
 runs_sound [] p q so e = subst Sound (sym e) so
@@ -50,12 +51,6 @@ module _ (p : Plain) (so : Sound p) (one : length p.seats ≡ 1) where
   placed_seats w (WeakCell i) new = refl
   placed_seats w (WeakField s) new = refl
 
-  there_too : (w : PlainSeat) (place : EventPlace) → IsThere p place → IsThere (with_seat p 0 w) place
-  there_too w (Cell i) h = h
-  there_too w (Field s i) h = h
-  there_too w (WeakCell i) h = h
-  there_too w (WeakField s) h = h
-
   pub place_moves : (q : Plain) (w : PlainSeat) (place : EventPlace) (new : Option SlotId) → Sound q → IsThere p place
       → q ≡ with_content (with_seat p 0 w) place new
       → ((s : SlotId) → entry_times Disposal s w.deferred ≡ entry_times Disposal s (seat_at p 0).deferred) → Moves p q
@@ -65,5 +60,5 @@ module _ (p : Plain) (so : Sound p) (one : length p.seats ≡ 1) where
     size = (placed_same_sizes p q w place new e).slots;
     quiet = λ quiet s. ap (λ (v : PlainSeat). entry_times Disposal s v.deferred) (placed p q w place new seated e) ∙ same s ∙ quiet s;
     taken = λ s. subst (λ (r : Plain). stage_at r s ≢ Free → stage_at p s ≢ Free) (sym e)
-        (λ taken free. taken ((content_object (with_seat p 0 w) place new s (there_too w place there)).0 ∙ free));
+        (λ taken free. taken ((content_object (with_seat p 0 w) place new s (there_written p w place there)).0 ∙ free));
   }

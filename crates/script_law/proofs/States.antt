@@ -28,6 +28,13 @@ renamed_place to (Field s i) = Field (to s) i
 renamed_place to (WeakCell i) = WeakCell i
 renamed_place to (WeakField s) = WeakField (to s)
 
+-- a place is there, whatever is written to the seat
+pub there_written : (p : Plain) (w : PlainSeat) (place : EventPlace) → IsThere p place → IsThere (with_seat p 0 w) place
+there_written p w (Cell i) h = h
+there_written p w (Field s i) h = h
+there_written p w (WeakCell i) h = h
+there_written p w (WeakField s) h = h
+
 -- the fields of a slot, and those of the slot of its new name
 pub record FieldsAlike (to : SlotId → SlotId) (x y : PlainSlot) : Type 0 where
   pub first : y.first ≡ renamed to x.first

@@ -17,7 +17,7 @@ use Rattle.plain_store.specs.Calls.{gained, weakly_gained}
 use Rattle.script_law.specs.Renamings.{IsRenaming, renamed}
 use Rattle.script_law.specs.States.{SeatsAlike, StatesAlike}
 use Rattle.script_law.proofs.Counts.{Entries, entries_gain, entries_lose, held_renamed, slots_lose, slots_push}
-use Rattle.script_law.proofs.States.{content_alike, place_alike, renamed_place, seat_alike}
+use Rattle.script_law.proofs.States.{content_alike, place_alike, renamed_place, seat_alike, there_written}
 
 module _ (to from : SlotId → SlotId) (n : ℕ) (r : IsRenaming n to from) where
   -- ---- the seat
@@ -137,12 +137,6 @@ module _ (to from : SlotId → SlotId) (n : ℕ) (r : IsRenaming n to from) wher
     same_kind (WeakCell i) = refl
     same_kind (WeakField s) = refl
 
-    there_too : (w : PlainSeat) (place : EventPlace) → IsThere p place → IsThere (with_seat p 0 w) place
-    there_too w (Cell i) h = h
-    there_too w (Field s i) h = h
-    there_too w (WeakCell i) h = h
-    there_too w (WeakField s) h = h
-
     pub replaces_alike : (q q' : Plain) (place : EventPlace) (new : Option SlotId) → IsThere p place → Replaces p 0 place new q
         → Replaces p' 0 (renamed_place to place) (renamed to new) q' → StatesAlike to q q'
     replaces_alike q q' place new there (v, g, e) (w, h, e') =
@@ -156,4 +150,4 @@ module _ (to from : SlotId → SlotId) (n : ℕ) (r : IsRenaming n to from) wher
         (gives_alike (place_kind place) new (seat_at p 0) (seat_at p' 0) v w alike.seat g give) in
         let written = seat_alike to from n r p p' size alike v' w' here here' seats in
         subst₂ (StatesAlike to) (sym e) (sym is)
-        (place_alike to from n r (with_seat p 0 v') (with_seat p' 0 w') size written place new (there_too v' place there))
+        (place_alike to from n r (with_seat p 0 v') (with_seat p' 0 w') size written place new (there_written p v' place there))

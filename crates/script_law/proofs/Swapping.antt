@@ -6,7 +6,7 @@ use Rattle.plain_state.specs.declared.slot.Stage.TheVariants.{Free}
 use Rattle.plain_state.specs.Lists.{cell_times, entry_times, times}
 use Rattle.plain_state.specs.References.{held_in}
 use Rattle.plain_state.specs.State.{seat_at, slot_at, stage_at}
-use Rattle.plain_state.proofs.Kit.{cases_slot, held_self}
+use Rattle.plain_state.proofs.Kit.{cases_slot, held_self, slot_is}
 use Rattle.script_desk.specs.declared.handle.Handle.{Handle}
 use Rattle.script_desk.specs.declared.handle.Handle.TheVariants.{Strong, Weak, Snapshot}
 use Rattle.script_desk.specs.Desks.{Desk, bound, maker_of}
@@ -47,11 +47,8 @@ module _ (to from : SlotId → SlotId) (n : ℕ) (r : IsRenaming n to from) (s t
   unfolding up turned
   turned_other u a b =
       swapped_other (to s) t' (to u)
-      (λ e. a (sym (r.back u) ∙ ap from (number_is (to u) (to s) e) ∙ r.back s))
-      (λ e. b (sym (r.back u) ∙ ap from (number_is (to u) t' e)))
-    where
-      number_is : (x y : SlotId) → x.0 ≡ y.0 → x ≡ y
-      number_is x y e = λ i. record { 0 = e i }
+      (λ e. a (sym (r.back u) ∙ ap from (slot_is (to u) (to s) e) ∙ r.back s))
+      (λ e. b (sym (r.back u) ∙ ap from (slot_is (to u) t' e)))
 
   -- what is counted nowhere of these two is counted as before
   counted : (f g : SlotId → ℕ) → ((u : SlotId) → g (to u) ≡ f u) → f s ≡ 0 → f (from t') ≡ 0 → (u : SlotId) → g (turned u) ≡ f u
