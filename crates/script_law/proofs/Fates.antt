@@ -1,4 +1,4 @@
--- What tidying leaves of a state, from its beginning to any of its steps: its slots, the seat's lists, and how much waits.
+-- What tidying leaves of a state, from its beginning to any of its steps: slots, lists, and how much waits.
 use Rattle.std.proofs.Common.{◌≡◌, ◌≢◌, ◌⊎◌, inl, inr, ⊎_elim, ◌+◌, ◌<◌, ◌≤◌, List, length, get_or-set_same, length-set, refl, ap, sym, ◌∙◌, subst, arith, Option}
 use Rattle.plain_state.specs.declared.act.EventPlace.{EventPlace}
 use Rattle.plain_state.specs.declared.slot.Kind.{Kind}
