@@ -54,7 +54,7 @@ module _ (d : Desk) (k : IsOrderly d) where
         orderly = orderly_same d e k m (same_as d.plain e.plain is) keeps;
       }
 
-  pub same_desk : (e : Desk) → e ≡ d → Acted d e
+  same_desk : (e : Desk) → e ≡ d → Acted d e
   same_desk e is = still e (ap (λ (x : Desk). x.plain) is)
       (ap (λ (x : Desk). x.names) is, (ap (λ (x : Desk). x.makes) is, ap (λ (x : Desk). x.makers) is))
 

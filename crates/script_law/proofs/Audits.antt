@@ -131,7 +131,7 @@ module _ (to from : SlotId → SlotId) (d e : Desk) (r : IsRenaming (length d.pl
         ap (map (λ s. (maker_of e s).name)) one ∙ names_alike found.walk.items alive)
         (none_or_some found.cyclic)
 
-    pub shown_alike : (shown shown' : Shown) → Shows d found shown → Shows e found' shown' → ShownAlike shown shown'
+    shown_alike : (shown shown' : Shown) → Shows d found shown → Shows e found' shown' → ShownAlike shown shown'
     shown_alike shown shown' shows shows' = record {
       live = shows.live ∙ audit.live ∙ sym live_alike ∙ sym audit'.live ∙ sym shows'.live;
       deferred = shows.deferred ∙ audit.deferred ∙ sym waiting_alike ∙ sym audit'.deferred ∙ sym shows'.deferred;

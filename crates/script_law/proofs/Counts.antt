@@ -16,7 +16,7 @@ unfolding cell_times held_in
 cells_cons s c cs = sum_by-cons (λ (d : Option SlotId). if holds s d then 1 else 0) c cs
 
 -- a list is one longer than what it is when it has lost something
-pub loses_length : {A : Type 0} (xs ys : List A) (x : A) → Loses xs x ys → length xs ≡ length ys + 1
+loses_length : {A : Type 0} (xs ys : List A) (x : A) → Loses xs x ys → length xs ≡ length ys + 1
 loses_length xs ys x (front, back, e, f) =
     let a = ap length e ∙ length-append front (x ∷ back) in
     let b = ap length f ∙ length-append front back in omega arith
@@ -35,7 +35,7 @@ module _ (to from : SlotId → SlotId) (back : (s : SlotId) → from (to s) ≡ 
       (λ (ne : x.0 ≢ s.0). held_other (to s) (to x) (apart x s ne) ∙ sym (held_other s x ne))
       (cases_slot x s)
 
-  pub entry_renamed : (k j : Kind) (s x : SlotId) → entry_in k (to s) (j, to x) ≡ entry_in k s (j, x)
+  entry_renamed : (k j : Kind) (s x : SlotId) → entry_in k (to s) (j, to x) ≡ entry_in k s (j, x)
   entry_renamed k j s x = ap (of_kind k j) (held_renamed s (Some x))
 
   pub cells_renamed : (s : SlotId) (cs : List (Option SlotId))

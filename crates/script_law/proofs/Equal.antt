@@ -37,7 +37,7 @@ module _ (to up : SlotId → SlotId) where
     weak_field = b.weak_field ∙ ap (renamed up) a.weak_field ∙ place_then x.weak_field;
   }
 
-  pub states_then : (p q r : Plain) → StatesAlike to p q → StatesAlike up q r → StatesAlike (λ s. up (to s)) p r
+  states_then : (p q r : Plain) → StatesAlike to p q → StatesAlike up q r → StatesAlike (λ s. up (to s)) p r
   states_then p q r a b = record {
     size = b.size ∙ a.size;
     slots = λ s. slots_then (slot_at p s) (slot_at q (to s)) (slot_at r (up (to s))) (a.slots s) (b.slots (to s));

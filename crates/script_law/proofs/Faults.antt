@@ -122,14 +122,14 @@ module _ (to : SlotId → SlotId) where
     binds_so None is = is
     binds_so (Some new) is = some_so new is
 
-    pub name_fault_so : (c : Command) → HasNameFault names c → HasNameFault names' c
+    name_fault_so : (c : Command) → HasNameFault names c → HasNameFault names' c
     name_fault_so c fault =
         ⊎_elim
         (λ a. inl (any_so (IsMissing names) (IsMissing names') (Stays to) (needs c) (all_stay c) (λ need stays. missing_so need) a))
         (λ b. inr (binds_so (binds c) b))
         fault
 
-    pub kind_fault_so : (c : Command) → HasKindFault names c → HasKindFault names' c
+    kind_fault_so : (c : Command) → HasKindFault names c → HasKindFault names' c
     kind_fault_so c fault =
         ⊎_elim
         (λ a. inl (any_so (IsOther names) (IsOther names') (Stays to) (needs c) (all_stay c) other_so a))
@@ -140,7 +140,7 @@ module _ (to : SlotId → SlotId) where
 module _ (to from : SlotId → SlotId) (names names' : Names) (x : Sizes)
     (same : (name : List ℕ) → bound names' name ≡ renamed_bound to (bound names name))
     (same' : (name : List ℕ) → bound names name ≡ renamed_bound from (bound names' name)) where
-  pub faultless_so : (c : Command) → IsFaultless (scope names x) c → IsFaultless (scope names' x) c
+  faultless_so : (c : Command) → IsFaultless (scope names x) c → IsFaultless (scope names' x) c
   faultless_so c f = record {
     range = f.range;
     names = λ n. f.names (name_fault_so from names' names same' c n);

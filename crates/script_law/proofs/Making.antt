@@ -101,7 +101,7 @@ module _ (d e : Desk) (k : IsOrderly d) (name : List ℕ) (weight : ℕ) (s : Sl
         (cases_slot u s))
         (cases_slot t s)
 
-    pub made_orderly : (IsSome (bound d.names name) → ⊥) → Binds d.names name (Some (Strong s)) e.names → IsOrderly e
+    made_orderly : (IsSome (bound d.names name) → ⊥) → Binds d.names name (Some (Strong s)) e.names → IsOrderly e
     made_orderly free binds =
         let l = listed_more d k name (Strong s) e.names (none_of (bound d.names name) free) binds in record {
           sound = runs_sound (act.Claim s ∷ fills s 0 (script_payload weight) ++ act.Make s ∷ []) d.plain e.plain k.sound makes;

@@ -40,7 +40,7 @@ holds_fewer p q listed name h w k m = record {
   weak_snapshots = λ s. sym (m.weak_snapshots s) ∙ k.weak_snapshots s;
 }
 
-pub holds_same : (p q : Plain) (handles : List Handle) → HoldsFor p handles → HasSame p q → HoldsFor q handles
+holds_same : (p q : Plain) (handles : List Handle) → HoldsFor p handles → HasSame p q → HoldsFor q handles
 holds_same p q handles k m = record {
   owned = λ s. m.owned s ∙ k.owned s;
   weaks = λ s. m.weaks s ∙ k.weaks s;

@@ -31,7 +31,7 @@ use Rattle.script_law.proofs.Fates.{Tidying, there}
 use Rattle.script_law.proofs.Tidying.{cleared}
 
 -- a slot of which something is counted
-pub some_slot : (f : PlainSlot → ℕ) (xs : List PlainSlot) → 0 < over_slots f xs
+some_slot : (f : PlainSlot → ℕ) (xs : List PlainSlot) → 0 < over_slots f xs
     → (i : ℕ) × (i < length xs) × (0 < f (get_or xs i new_slot))
 unfolding over_slots
 some_slot f [] h = absurd (omega arith)
@@ -70,7 +70,7 @@ holder_lives p s t so one settled some = of (stage_at p t) refl
     of Ended e = absurd (none_ended p t so one settled e)
 
 -- an object that may end has no references
-pub without_refs : (p : Plain) (s : SlotId) → Sound p → ((slot_at p s).marked ≡ true) ⊎ (strong_refs p s ≡ 0) → strong_refs p s ≡ 0
+without_refs : (p : Plain) (s : SlotId) → Sound p → ((slot_at p s).marked ≡ true) ⊎ (strong_refs p s ≡ 0) → strong_refs p s ≡ 0
 without_refs p s so cases =
     ⊎_elim
     (λ (m : (slot_at p s).marked ≡ true). none_by (strong_refs p s) (λ some. let e = (so.lawful.strong s some).1 in cc))

@@ -59,7 +59,7 @@ module _ (to from : SlotId → SlotId) (d e : Desk) (r : IsRenaming (length d.pl
 
   -- what places hold
   module _ (at at' : EventPlace) (same : at' ≡ renamed_place to at) where
-    pub content_then : content e.plain at' ≡ renamed to (content d.plain at)
+    content_then : content e.plain at' ≡ renamed to (content d.plain at)
     content_then =
         ap (content e.plain) same ∙ content_alike to from (length d.plain.slots) r d.plain e.plain refl alike.plain at
 

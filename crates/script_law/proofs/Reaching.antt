@@ -45,10 +45,10 @@ module _ (to from : SlotId → SlotId) (p q : Plain) (r : IsRenaming (length p.s
 
 module _ (to from : SlotId → SlotId) (p q : Plain) (r : IsRenaming (length p.slots) to from) (one : length p.seats ≡ 1) (one' : length q.seats ≡ 1)
     (alike : StatesAlike to p q) where
-  pub back_too : IsRenaming (length q.slots) from to
+  back_too : IsRenaming (length q.slots) from to
   back_too = subst (λ (n : ℕ). IsRenaming n from to) (sym alike.size) (renaming_back (length p.slots) to from r)
 
-  pub alike_too : StatesAlike from q p
+  alike_too : StatesAlike from q p
   alike_too = alike_back to from (length p.slots) r p q alike
 
   pub unreached_renamed : (s : SlotId) → IsUnreached p s → IsUnreached q (to s)

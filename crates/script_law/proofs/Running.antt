@@ -26,7 +26,7 @@ use Rattle.script_law.proofs.Making.{is_make, makes_alike, makes_orderly, none_t
 use Rattle.script_law.proofs.Swapping.{desks_turned, turned, turned_back, turned_first, turned_renaming}
 
 -- alike desks, by names that are one to one
-pub with_size : (d e f g : Desk) (to from : SlotId → SlotId) → length f.plain.slots ≡ length d.plain.slots
+with_size : (d e f g : Desk) (to from : SlotId → SlotId) → length f.plain.slots ≡ length d.plain.slots
     → IsRenaming (length d.plain.slots) to from → DesksAlike to f g → Alike f g
 with_size d e f g to from same r alike = (to, from, subst (λ (n : ℕ). IsRenaming n to from) (sym same) r, alike)
 
@@ -59,7 +59,7 @@ module _ (to from : SlotId → SlotId) (d d' e e' : Desk) (r : IsRenaming (lengt
       let there : (to s).0 < length d'.plain.slots = let a = r.inside s m.there in let b = alike.plain.size in omega arith in
       none_there d'.plain none (to s) there ((alike.plain.slots s).stage ∙ m.free)
 
-  pub makes_two : (a b : Said) → MakesOne d name weight a e → MakesOne d' name weight b e' → (a ≡ b) × Alike e e'
+  makes_two : (a b : Said) → MakesOne d name weight a e → MakesOne d' name weight b e' → (a ≡ b) × Alike e e'
   makes_two a b one two =
       ⊎_elim
       (λ x. ⊎_elim
@@ -90,7 +90,7 @@ module _ (to from : SlotId → SlotId) (d d' e e' : Desk) (r : IsRenaming (lengt
 
 -- ---- whatever the command
 module _ (d e : Desk) (k : IsOrderly d) where
-  pub acts_orderly : (c : Command) (a : Said) → IsFaultless (scope_of d) c → Acts d c a e → IsOrderly e
+  acts_orderly : (c : Command) (a : Said) → IsFaultless (scope_of d) c → Acts d c a e → IsOrderly e
   acts_orderly (command.Make name weight) a f acts = makes_orderly d e k name weight a (λ b. f.names (inr b)) acts
   acts_orderly c a f acts = (acted d k e c a f tt acts).orderly
 
@@ -101,7 +101,7 @@ module _ (to from : SlotId → SlotId) (d d' e e' : Desk) (r : IsRenaming (lengt
       let both = plainer to from d d' e e' r alike k k' m.moves c a b not one two in
       (inl both.0, with_size d d' e e' to from m.moves.size r both.1)
 
-  pub acts_alike : (c : Command) (a b : Said) → IsFaultless (scope_of d) c → Acts d c a e → Acts d' c b e' → SaidAlike a b × Alike e e'
+  acts_alike : (c : Command) (a b : Said) → IsFaultless (scope_of d) c → Acts d c a e → Acts d' c b e' → SaidAlike a b × Alike e e'
   acts_alike (command.Make name weight) a b f one two =
       let both = makes_two to from d d' e e' r alike k k' name weight a b one two in (inl both.0, both.1)
   acts_alike command.Audit a b f one two = (

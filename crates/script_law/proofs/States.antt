@@ -50,7 +50,7 @@ module _ (to from : SlotId → SlotId) (n : ℕ) (r : IsRenaming n to from) wher
       let a = ap (held_in (to s)) same.first ∙ held_renamed to from r.back r.forth s x.first in
       let b = ap (held_in (to s)) same.second ∙ held_renamed to from r.back r.forth s x.second in omega arith
 
-  pub weak_fields_alike : (s : SlotId) (x y : PlainSlot) → FieldsAlike to x y → weak_fields (to s) y ≡ weak_fields s x
+  weak_fields_alike : (s : SlotId) (x y : PlainSlot) → FieldsAlike to x y → weak_fields (to s) y ≡ weak_fields s x
   weak_fields_alike s x y same = ap (held_in (to s)) same.weak_field ∙ held_renamed to from r.back r.forth s x.weak_field
 
   either_field : (x y : PlainSlot) → SlotsAlike to x y → (first : Bool)

@@ -37,7 +37,7 @@ swapped_second a b =
     (λ (ne : b.0 ≢ a.0). swapped_back_at a b b ne refl)
     (cases_slot b a)
 
-pub swapped_twice : (a b s : SlotId) → swapped a b (swapped a b s) ≡ s
+swapped_twice : (a b s : SlotId) → swapped a b (swapped a b s) ≡ s
 swapped_twice a b s =
     ⊎_elim
     (λ (e : s ≡ a). subst (λ (t : SlotId). swapped a b (swapped a b t) ≡ t) (sym e)
@@ -49,7 +49,7 @@ swapped_twice a b s =
     (cases_slot s b))
     (cases_slot s a)
 
-pub swapped_inside : (n : ℕ) (a b s : SlotId) → a.0 < n → b.0 < n → s.0 < n → (swapped a b s).0 < n
+swapped_inside : (n : ℕ) (a b s : SlotId) → a.0 < n → b.0 < n → s.0 < n → (swapped a b s).0 < n
 unfolding swapped
 swapped_inside n a b s ha hb hs = grind (arith, nat_tests)
 

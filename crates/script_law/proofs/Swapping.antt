@@ -43,7 +43,7 @@ module _ (to from : SlotId → SlotId) (n : ℕ) (r : IsRenaming n to from) (s t
   unfolding up turned
   turned_second = ap (swapped (to s) t') (r.forth t') ∙ swapped_second (to s) t'
 
-  pub turned_other : (u : SlotId) → u ≢ s → u ≢ from t' → turned u ≡ to u
+  turned_other : (u : SlotId) → u ≢ s → u ≢ from t' → turned u ≡ to u
   unfolding up turned
   turned_other u a b =
       swapped_other (to s) t' (to u)

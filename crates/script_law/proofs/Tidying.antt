@@ -9,7 +9,7 @@ use Rattle.plain_state.specs.declared.slot.Kind.{Kind}
 use Rattle.plain_state.specs.declared.slot.Kind.TheVariants.{Strong, Weak, Disposal}
 use Rattle.plain_state.specs.declared.slot.PlainSlot.{PlainSlot}
 use Rattle.plain_state.specs.declared.slot.SlotId.{SlotId}
-use Rattle.plain_state.specs.declared.slot.Stage.TheVariants.{Free, Live, Ended, Husk}
+use Rattle.plain_state.specs.declared.slot.Stage.TheVariants.{Free, Ended, Husk}
 use Rattle.plain_state.specs.Places.{IsDyingField, content, place_kind, with_content, with_field}
 use Rattle.plain_state.specs.References.{held_in, places}
 use Rattle.plain_state.specs.Sound.{Sound}
@@ -78,7 +78,7 @@ module _ (p m q : Plain) (t : Tidying p m) (w : PlainSeat) (sound : Sound q) (se
   pub seat_then : seat_at q 0 ≡ w
   seat_then = ap (λ (vs : List PlainSeat). get_or vs 0 new_seat) seats ∙ seat_is p m t w
 
-  pub goes_on : w.owned ≡ (seat_at m 0).owned → w.weaks ≡ (seat_at m 0).weaks → w.snapshots ≡ (seat_at m 0).snapshots
+  goes_on : w.owned ≡ (seat_at m 0).owned → w.weaks ≡ (seat_at m 0).weaks → w.snapshots ≡ (seat_at m 0).snapshots
       → KeepsSlots p q → Balanced p w q → Tidying p q
   goes_on owned weaks snapshots slots balance = record {
     sound = sound;
@@ -92,11 +92,7 @@ module _ (p m q : Plain) (t : Tidying p m) (w : PlainSeat) (sound : Sound q) (se
     balance = subst (λ (v : PlainSeat). Balanced p v q) (sym seat_then) balance;
   }
 
--- what was alive is as it was at first
-live_was : (p m : Plain) (s : SlotId) → KeepsSlots p m → stage_at m s ≡ Live → stage_at p s ≡ Live
-live_was p m s k live = ap (λ (x : PlainSlot). x.stage) (sym ((k.fates s).live live)) ∙ live
-
-pub tidying_step : (p m q : Plain) (a : PlainAct) (found : ℕ) → Tidying p m → Tidies m a → Does m 0 a found q → Tidying p q
+tidying_step : (p m q : Plain) (a : PlainAct) (found : ℕ) → Tidying p m → Tidies m a → Does m 0 a found q → Tidying p q
 tidying_step p m q (act.Eject k s) found t surplus (here, (es, loses, z, e, covered)) =
     let w : PlainSeat = record (seat_at m 0) { deferred = es } in
     goes_on p m q t w (step_sound m q 0 (act.Eject k s) found t.sound (here, (es, loses, z, e, covered)))
