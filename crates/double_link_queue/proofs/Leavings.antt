@@ -1,5 +1,5 @@
 -- What single calls leave of a seat that counts weak references.
-use Rattle.std.proofs.Common.{◌≡◌, ℕ, List, [], ◌∷◌, ◌++◌, refl, ap, sym, ◌∙◌, subst, arith}
+use Rattle.std.proofs.Common.{◌≡◌, ◌≤◌, ℕ, List, [], ◌∷◌, ◌++◌, refl, ap, sym, ◌∙◌, subst, arith}
 use Rattle.std.specs.Prelude.{Option, Some}
 use Rattle.plain_state.specs.declared.act.EventPlace.{EventPlace}
 use Rattle.plain_state.specs.declared.act.PlainAct.{PlainAct}
@@ -17,6 +17,7 @@ use Rattle.acquire_retire.specs.Collecting.{rest_of}
 use Rattle.acquire_retire.specs.Domains.{DomainState}
 use Rattle.acquire_retire.specs.Seats.{SeatState}
 use Rattle.control_word.specs.Calls.{DropsWeak, GainsWeak, with_weak, without_weak}
+use Rattle.control_word.specs.Resting.{IsSpent}
 use Rattle.control_word.specs.Moves.{KnowsStill}
 use Rattle.protected_loads.proofs.Telling.{holds_has}
 use Rattle.retiring_stores.specs.Exchanging.{Exchanges}
@@ -26,13 +27,14 @@ use Rattle.double_link_queue.proofs.Owning.{holds_both}
 module _ {V : Type 0} (old new : SeatState V) where
   -- the seat has come to have v, but for its trail, and knows what it knew by `kept`
   pub both_as : (v kept : CoreView) (ms : List Move) → new.view.core ≡ record v { trail = ms }
-      → apart v ≡ apart old.view.core → KnowsStill kept old new
+      → apart v ≡ apart old.view.core → old.view.core.adds ≤ v.adds → KnowsStill kept old new
       → ((x : SlotId) → Holds old.view.core x → Holds v x → Holds kept x)
       → LeavesBoth v.owned v.weaks old new
-  both_as v kept ms core same knows holds = record {
+  both_as v kept ms core same adds knows holds = record {
     owns = λ x. ap (λ (u : CoreView). times x u.owned) core;
     weakly = λ x. ap (λ (u : CoreView). times x u.weaks) core;
     same = ap apart core ∙ same;
+    adds = (let is = ap (λ (u : CoreView). u.adds) core in omega arith);
     knows = λ x was is.
         knows x (holds_has kept x (holds x was (subst (λ (u : CoreView). Holds u x) core is)));
   }
@@ -41,7 +43,13 @@ module _ {V : Type 0} (old new : SeatState V) where
   both_same is = subst (λ (z : SeatState V). LeavesBoth old.view.core.owned old.view.core.weaks old
       z)
       (sym is)
-      (record { owns = λ x. refl; weakly = λ x. refl; same = refl; knows = λ x was is. refl })
+      (record {
+        owns = λ x. refl;
+        weakly = λ x. refl;
+        same = refl;
+        adds = omega arith;
+        knows = λ x was is. refl;
+      })
 
 module _ {P V : Type 0} (fits : List ℕ → Type 0) (d : DomainState P) (s : SlotId)
     (old new : SeatState V) where
@@ -49,16 +57,20 @@ module _ {P V : Type 0} (fits : List ℕ → Type 0) (d : DomainState P) (s : Sl
   pub weaken_leaves : GainsWeak fits d s old new → KnowsStill old.view.core old new
       → LeavesBoth old.view.core.owned (old.view.core.weaks ++ s ∷ []) old new
   weaken_leaves gains knows =
-      both_as old new (with_weak s old.view.core) old.view.core _ gains.core refl knows
+      both_as old new (with_weak s old.view.core) old.view.core _ gains.core refl (omega arith) knows
       (λ x was is. was)
 
   -- one fewer
+  pub drop_weak_spent : DropsWeak fits d s old new → IsSpent old.view.core → IsSpent new.view.core
+  drop_weak_spent drops spent = ap (λ (v : CoreView). v.adds) drops.1.core ∙ spent
+      ∙ sym (ap (λ (v : CoreView). v.quota.adds) drops.1.core)
+
   pub drop_weak_leaves : DropsWeak fits d s old new
       → KnowsStill (without_weak s old.view.core) old new
       → LeavesBoth old.view.core.owned (without s old.view.core.weaks) old new
   drop_weak_leaves drops knows =
       both_as old new (without_weak s old.view.core) (without_weak s old.view.core) _ drops.1.core
-      refl knows (λ x was is. is)
+      refl (omega arith) knows (λ x was is. is)
 
 module _ {P V : Type 0} {fits : List ℕ → Type 0} {d : DomainState P}
     {next : OwnPart → OwnPart → V → PlainAct → ℕ → V}
@@ -76,10 +88,12 @@ module _ {P V : Type 0} {fits : List ℕ → Type 0} {d : DomainState P}
       let same : apart new.view.core ≡ apart v =
       ap (λ (u : CoreView). record u { owned = []; weaks = []; made = []; adds = 0; makes = 0 })
       rest in
+      let adds = ap (λ (u : CoreView). u.adds) rest in
       record {
         owns = λ x. ap (λ (u : CoreView). times x u.owned) rest;
         weakly = λ x. ap (λ (u : CoreView). times x u.weaks) rest;
         same = same;
+        adds = omega arith;
         knows = λ x was is.
             let strong = ap (λ (u : CoreView). times x u.owned) rest in
             let weak = ap (λ (u : CoreView). times x u.weaks) rest in

@@ -99,7 +99,7 @@ module _ (fits : List ℕ → Type 0) (d : DomainState QueueLaw) (last : SlotId)
           let client = client_null d (WeakField last) old new null in (
             (let adds = ap (λ (v : CoreView). v.adds) core in omega arith),
             ap beside_eyes client,
-            both_as old new old.view.core old.view.core _ core refl knows (λ x was is. was),
+            both_as old new old.view.core old.view.core _ core refl (omega arith) knows (λ x was is. was),
             sees_on old.view.client 0 client refl (ap (λ (v : CoreView). v.owned) core)
                 (ap (λ (v : CoreView). v.shape) core),
           )
@@ -116,7 +116,8 @@ module _ (fits : List ℕ → Type 0) (d : DomainState QueueLaw) (last : SlotId)
           let same = r.protects.announces.client in (
             (let adds = ap (λ (v : CoreView). v.adds) r.core in omega arith),
             ap beside_eyes client ∙ ap beside_eyes same,
-            both_as old new (with_weak s old.view.core) old.view.core _ r.core refl knows
+            both_as old new (with_weak s old.view.core) old.view.core _ r.core refl (omega arith)
+                knows
                 (λ x was is. was),
             sees_on r.protects.mid.view.client (suc s.0) client same
                 (ap (λ (v : CoreView). v.owned) r.core) (ap (λ (v : CoreView). v.shape) r.core),
@@ -142,7 +143,7 @@ module _ (fits : List ℕ → Type 0) (d : DomainState QueueLaw) (last : SlotId)
           let same = m.announces.client in (
             (let adds = ap (λ (v : CoreView). v.adds) m.core in omega arith),
             ap beside_eyes client ∙ ap beside_eyes same,
-            both_as old new old.view.core old.view.core _ m.core refl knows (λ x was is. was),
+            both_as old new old.view.core old.view.core _ m.core refl (omega arith) knows (λ x was is. was),
             sees_on m.mid.view.client m.checks.walks.1.word client same (ap (λ (v : CoreView).
                 v.owned) m.core)
                 (ap (λ (v : CoreView). v.shape) m.core),

@@ -33,6 +33,7 @@ module _ {V : Type 0} where
     owns = l.owns;
     weakly = λ x. ap (λ (u : CoreView). times x u.weaks) l.same;
     same = ap (λ (u : CoreView). record u { weaks = [] }) l.same;
+    adds = l.adds;
     knows = l.knows;
   }
 
@@ -61,6 +62,7 @@ module _ {V : Type 0} where
     owns = λ x. second.owns x ∙ strong x;
     weakly = λ x. second.weakly x ∙ weak x;
     same = second.same ∙ first.same;
+    adds = (let late = second.adds in let early = first.adds in omega arith);
     knows = λ x was is. second.knows x (mid x was is) is ∙ first.knows x was (mid x was is);
   }
 

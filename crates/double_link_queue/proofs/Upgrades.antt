@@ -111,7 +111,7 @@ module _ (fits : List ℕ → Type 0) (d : DomainState QueueLaw) (last back : Sl
 
       pub up_leaves : LeavesBoth (old.view.core.owned ++ back ∷ []) old.view.core.weaks old new
       up_leaves = both_as old new (with_strong back old.view.core) old.view.core _ gains.core refl
-          knows
+          (omega arith) knows
           (λ x was is. was)
 
     -- the object had ended
@@ -125,7 +125,7 @@ module _ (fits : List ℕ → Type 0) (d : DomainState QueueLaw) (last back : Sl
 
       pub ended_leaves : LeavesBoth old.view.core.owned old.view.core.weaks old new
       ended_leaves = both_as old new (with_add old.view.core) old.view.core _ found.becomes.core
-          refl knows
+          refl (omega arith) knows
           (λ x was is. was)
 
 -- what is seen of the node before is seen still, where the seat owns both nodes and its eyes are on them

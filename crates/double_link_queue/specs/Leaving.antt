@@ -1,5 +1,5 @@
 -- What a call leaves of a seat that counts weak references on its way.
-use Rattle.std.specs.Prelude.{◌≡◌, List, []}
+use Rattle.std.specs.Prelude.{◌≡◌, ◌≤◌, List, []}
 use Rattle.plain_state.specs.declared.slot.SlotId.{SlotId}
 use Rattle.plain_state.specs.Lists.{times}
 use Rattle.core_events.specs.declared.view.CoreView.{CoreView}
@@ -12,13 +12,14 @@ use Rattle.linked_queue.specs.Leaving.{aside}
 abbrev pub apart : CoreView → CoreView
 apart v = record (aside v) { weaks = [] }
 
--- The seat owns these references strongly and these weakly, each in some order. What it has beside is as it was, and so
--- is what it knows of the objects that it held and still holds.
+-- The seat owns these references strongly and these weakly, each in some order, and takes no add back. What it has
+-- beside is as it was, and so is what it knows of the objects that it held and still holds.
 pub record LeavesBoth {V : Type 0} (owned weaks : List SlotId) (old new : SeatState V) : Type 0
   where
     pub owns : (x : SlotId) → times x new.view.core.owned ≡ times x owned
     pub weakly : (x : SlotId) → times x new.view.core.weaks ≡ times x weaks
     pub same : apart new.view.core ≡ apart old.view.core
+    pub adds : old.view.core.adds ≤ new.view.core.adds
     pub knows :
         (x : SlotId) → Holds old.view.core x → Holds new.view.core x
         → object_in new.view x ≡ object_in old.view x

@@ -1,5 +1,6 @@
 -- Why the push of a copy pushed nothing.
-use Rattle.std.specs.Prelude.{ℕ, List}
+use Rattle.std.specs.Prelude.{ℕ, List, Option, Some, None}
+use Rattle.slot_store.specs.declared.making.MakeError.{MakeError}
 use Rattle.acquire_retire.specs.Domains.{DomainState}
 use Rattle.acquire_retire.specs.Seats.{SeatState}
 use Rattle.queue_law.specs.declared.view.View.{View}
@@ -13,3 +14,7 @@ abbrev pub IsWhyNotPushed : (List ℕ → Type 0) → DomainState QueueLaw → N
     Type 0
 IsWhyNotPushed fits d (failed.Again seen now) old = PushDiffers fits d seen now
 IsWhyNotPushed fits d (failed.Refused error) old = IsWhyRefused fits d 7 error old
+
+abbrev pub cause_in : NotPushed → Option MakeError
+cause_in (failed.Again seen now) = None
+cause_in (failed.Refused error) = Some error

@@ -15,7 +15,7 @@ use queue_protocol::{AttachSeat, HasQueue, QueueLaw};
 
 impl DoubleQueue {
     /// Whether the queue is laid, by one look at the head cell: true exactly where that found a slot, and the seat is
-    /// attached then, so it may push and pop. One step.
+    /// attached then, so it may push and pop. One step, and no make.
     pub fn try_attach<S, P: HasQueue<S>>(&self, domain: &Domain<P>, seat: &mut Seat<P>) -> bool
         requires rest { IsAtRest domain.now seat.old }
         requires queue { IsDoubleOf self.now.head self.now.tail (as_part P.part domain.now) }
@@ -27,6 +27,7 @@ impl DoubleQueue {
             else (P.seen seat.old.view.client)) }
         ensures leaves { Leaves seat.old.view.core.owned (seen_by P.seen seat.old)
             (seen_by P.seen seat.new) }
+        ensures makes { seat.new.view.core.makes ≡ seat.old.view.core.makes }
         ensures beside { StaysBeside P.seen P.with_seen seat.old seat.new }
         ensures room { HasRoom seat.old.view.core → HasRoom seat.new.view.core }
         ensures rest { IsAtRest domain.now seat.new }
@@ -49,6 +50,7 @@ fn look_at_head<S, P: HasQueue<S>>(
     ensures attached { (P.seen seat.new.view.client)
         ≡ (if is_slot result then attached_in (P.seen seat.old.view.client)
         else (P.seen seat.old.view.client)) }
+    ensures makes { seat.new.view.core.makes ≡ seat.old.view.core.makes }
     ensures leaves { Leaves seat.old.view.core.owned (seen_by P.seen seat.old)
         (seen_by P.seen seat.new) }
     ensures beside_part { HasBeside P.with_seen first_view seat.old seat.new }

@@ -31,6 +31,7 @@ pub(crate) fn link_back<S, P: HasQueue<S>>(
         ≡ backed_in last.now.slot (P.seen seat.old.view.client)) }
     ensures refused { OnErr result ((P.seen seat.new.view.client) ≡ (P.seen seat.old.view.client)) }
     ensures spent { IfErr result (λ spent. IsSpent seat.old.view.core) }
+    ensures now_spent { OnErr result (IsSpent seat.new.view.core) }
     ensures adds { seat.new.view.core.adds ≤ seat.old.view.core.adds + 1 }
     ensures makes { seat.new.view.core.makes ≡ seat.old.view.core.makes }
     ensures leaves { LeavesBoth seat.old.view.core.owned seat.old.view.core.weaks

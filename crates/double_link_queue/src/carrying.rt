@@ -44,6 +44,7 @@ pub(crate) fn carry<S, P: HasQueue<S>>(
         ≡ item_in (seen_by P.seen seat.old) item.slot }
     ensures deeds { deeds_in (P.seen seat.new.view.client)
         ≡ deeds_in (P.seen seat.old.view.client) }
+    ensures makes { seat.new.view.core.makes ≡ seat.old.view.core.makes }
     ensures leaves { Leaves (without item.slot seat.old.view.core.owned) (seen_by P.seen seat.old)
         (seen_by P.seen seat.new) }
     ensures beside_part { HasBeside P.with_seen first_view seat.old seat.new }

@@ -3,7 +3,8 @@ ghost use Rattle.std.specs.Prelude.{◌≡◌, ◌≢◌, ◌<◌, ◌≤◌, �
 ghost use Rattle.core_events.specs.Steps.{HasRoom};
 ghost use Rattle.core_events.specs.Views.{without};
 ghost use Rattle.atomic_shared.specs.Places.{named};
-ghost use Rattle.control_word.specs.Resting.{IsAtRest};
+ghost use Rattle.control_word.specs.Resting.{IsAtRest, IsSpent};
+ghost use Rattle.counted_handles.specs.declared.refusal.LoadError.TheVariants as unloaded;
 ghost use Rattle.part_calls.specs.Parts.{HasBeside, as_part, seen_by};
 ghost use Rattle.queue_law.specs.declared.view.Form.TheVariants.{Double};
 ghost use Rattle.queue_law.specs.Pushes.{carried_item, flying_view};
@@ -44,6 +45,7 @@ pub(crate) fn load_tail<S, P: HasQueue<S>>(
     ensures why { IfErr result
         (λ error. IsWhyUnread (PushDiffers P.Kind.fits (as_part P.part domain.now)) error
         (seen_by P.seen seat.old)) }
+    ensures spent { IfErr result (λ error. error ≡ unloaded.Spent → IsSpent seat.new.view.core) }
     ensures beside_part { HasBeside P.with_seen first_view seat.old seat.new }
     ensures room { HasRoom seat.new.view.core }
     ensures rest { IsAtRest domain.now seat.new }
@@ -78,6 +80,7 @@ pub(crate) fn exchange<S, P: HasQueue<S>>(
     ensures why { IfErr result
         (λ error. IsWhyUnlinked P.Kind.fits (as_part P.part domain.now) 0 error
         (seen_by P.seen seat.old)) }
+    ensures spent { IfErr result (λ error. error ≡ unloaded.Spent → IsSpent seat.new.view.core) }
     ensures beside_part { HasBeside P.with_seen first_view seat.old seat.new }
     ensures room { HasRoom seat.new.view.core }
     ensures rest { IsAtRest domain.now seat.new }

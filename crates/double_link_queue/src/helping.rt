@@ -1,10 +1,11 @@
 //! The link behind the node before the last one: an earlier push that is still in flight may have left it null. It is
 //! set by whoever comes first.
-ghost use Rattle.std.specs.Prelude.{◌≡◌, ◌<◌, ◌≤◌, ◌+◌, true, false, IfErr, IfOk};
+ghost use Rattle.std.specs.Prelude.{◌≡◌, ◌<◌, ◌≤◌, ◌+◌, true, false, IfErr, IfOk, OnErr};
 ghost use Rattle.plain_state.specs.Lists.{times};
 ghost use Rattle.core_events.specs.Steps.{HasRoom};
 ghost use Rattle.core_events.specs.Views.{without};
 ghost use Rattle.control_word.specs.Resting.{IsAtRest, IsSpent};
+ghost use Rattle.counted_handles.specs.declared.refusal.LoadError.TheVariants as unloaded;
 ghost use Rattle.part_calls.specs.Parts.{HasBeside, as_part, seen_by};
 ghost use Rattle.queue_law.specs.declared.view.Form.TheVariants.{Double};
 ghost use Rattle.queue_law.specs.Pushes.{helped_view};
@@ -44,6 +45,7 @@ pub(crate) fn help<S, P: HasQueue<S>>(
     ensures why { IfErr result
         (λ error. IsWhyUnlinked P.Kind.fits (as_part P.part domain.now) 2 error
         (seen_by P.seen seat.old)) }
+    ensures spent { IfErr result (λ error. error ≡ unloaded.Spent → IsSpent seat.new.view.core) }
     ensures beside_part { HasBeside P.with_seen first_view seat.old seat.new }
     ensures room { HasRoom seat.new.view.core }
     ensures rest { IsAtRest domain.now seat.new }
@@ -80,6 +82,7 @@ fn help_at<S, P: HasQueue<S>>(
     ensures leaves { Leaves seat.old.view.core.owned (seen_by P.seen seat.old)
         (seen_by P.seen seat.new) }
     ensures spent { IfErr result (λ spent. IsSpent seat.old.view.core) }
+    ensures now_spent { OnErr result (IsSpent seat.new.view.core) }
     ensures beside_part { HasBeside P.with_seen first_view seat.old seat.new }
     ensures room { HasRoom seat.new.view.core }
     ensures rest { IsAtRest domain.now seat.new }

@@ -1,11 +1,12 @@
 //! How a queue is laid.
-ghost use Rattle.std.specs.Prelude.{◌≡◌, ◌<◌, ◌∷◌, ◌++◌, [], IfErr, IfOk, OnErr, Some};
+ghost use Rattle.std.specs.Prelude.{◌≡◌, ◌≤◌, ◌<◌, ◌+◌, ◌∷◌, ◌++◌, [], IfErr, IfOk, OnErr, Some};
 ghost use Rattle.plain_state.specs.declared.act.EventPlace.TheVariants.{Cell};
 ghost use Rattle.plain_state.specs.Lists.{times};
 ghost use Rattle.plain_state.specs.State.{no_payload};
 ghost use Rattle.core_events.specs.Steps.{HasRoom};
 ghost use Rattle.core_events.specs.Views.{without};
-ghost use Rattle.control_word.specs.Resting.{IsAtRest};
+ghost use Rattle.control_word.specs.Resting.{IsAtRest, IsSpent};
+ghost use Rattle.slot_store.specs.declared.making.MakeError.TheVariants as refused;
 ghost use Rattle.retiring_stores.specs.Exchanging.{Stores};
 ghost use Rattle.slot_store.specs.Calls.{Makes};
 ghost use Rattle.queue_law.specs.Lessons.{TellsNothing};
@@ -27,8 +28,8 @@ use queue_protocol::{HasQueue, LayHead, LayTail, MakeNode, QueueLaw};
 impl DoubleQueue {
     /// Lays a queue over two cells: makes the dummy, and puts it into the tail cell and then into the head cell. It is
     /// for seat 0, once, and attaches it. A refusal has the cause of the `make`, or the seat had no add left for the
-    /// second reference; then nothing is laid, and a dummy that was made is given up. At most 21 steps more than there
-    /// are slots, and two collects.
+    /// second reference; then nothing is laid, and a dummy that was made is given up. One make at most. At most 21
+    /// steps more than there are slots, and two collects.
     pub fn lay<S, P: HasQueue<S>>(
         domain: &Domain<P>,
         seat: &mut Seat<P>,
@@ -53,6 +54,8 @@ impl DoubleQueue {
             (seen_by P.seen seat.old) (seen_by P.seen seat.new)) }
         ensures leaves { Leaves seat.old.view.core.owned (seen_by P.seen seat.old)
             (seen_by P.seen seat.new) }
+        ensures makes { seat.new.view.core.makes ≤ seat.old.view.core.makes + 1 }
+        ensures makes_kept { seat.old.view.core.makes ≤ seat.new.view.core.makes }
         ensures beside { StaysBeside P.seen P.with_seen seat.old seat.new }
         ensures room { HasRoom seat.new.view.core }
         ensures rest { IsAtRest domain.now seat.new }
@@ -83,11 +86,15 @@ pub(crate) fn make_node<S, P: HasQueue<S>>(
         (seen_by P.seen seat.old) (seen_by P.seen seat.new)) }
     ensures refused { OnErr result
         (Leaves seat.old.view.core.owned (seen_by P.seen seat.old) (seen_by P.seen seat.new)) }
+    ensures makes { IfOk result
+        (λ node. seat.new.view.core.makes ≡ seat.old.view.core.makes + 1) }
+    ensures unmade { OnErr result (seat.new.view.core.makes ≡ seat.old.view.core.makes) }
     ensures deeds { deeds_in (P.seen seat.new.view.client)
         ≡ deeds_in (P.seen seat.old.view.client) }
     ensures why { IfErr result
         (λ error. IsWhyUnmade P.Kind.fits (as_part P.part domain.now) error
         (seen_by P.seen seat.old) (seen_by P.seen seat.new)) }
+    ensures spent { IfErr result (λ error. error ≡ refused.AddsSpent → IsSpent seat.new.view.core) }
     ensures beside_part { HasBeside P.with_seen first_view seat.old seat.new }
     ensures room { HasRoom seat.new.view.core }
     ensures rest { IsAtRest domain.now seat.new }
@@ -107,6 +114,7 @@ fn lay_tail<S, P: HasQueue<S>>(domain: &Domain<P>, seat: &mut Seat<P>, tail: u32
         (Cell (P.part domain.now.protocol).tail) (Some dummy.slot) (seen_by P.seen seat.old)
         (seen_by P.seen seat.new) }
     ensures half { (P.seen seat.new.view.client) ≡ half_laid_in (P.seen seat.old.view.client) }
+    ensures makes { seat.new.view.core.makes ≡ seat.old.view.core.makes }
     ensures leaves { Leaves (without dummy.slot seat.old.view.core.owned) (seen_by P.seen seat.old)
         (seen_by P.seen seat.new) }
     ensures beside_part { HasBeside P.with_seen first_view seat.old seat.new }
@@ -128,6 +136,7 @@ fn lay_head<S, P: HasQueue<S>>(domain: &Domain<P>, seat: &mut Seat<P>, head: u32
         (Cell (P.part domain.now.protocol).head) (Some dummy.slot) (seen_by P.seen seat.old)
         (seen_by P.seen seat.new) }
     ensures laid { (P.seen seat.new.view.client) ≡ laid_in (P.seen seat.old.view.client) }
+    ensures makes { seat.new.view.core.makes ≡ seat.old.view.core.makes }
     ensures leaves { Leaves (without dummy.slot seat.old.view.core.owned) (seen_by P.seen seat.old)
         (seen_by P.seen seat.new) }
     ensures beside_part { HasBeside P.with_seen first_view seat.old seat.new }

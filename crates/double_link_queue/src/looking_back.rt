@@ -4,7 +4,8 @@ ghost use Rattle.std.specs.Prelude.{◌≡◌, ◌<◌, ◌≤◌, ◌+◌, true
 ghost use Rattle.plain_state.specs.Lists.{times};
 ghost use Rattle.core_events.specs.Steps.{HasRoom};
 ghost use Rattle.core_events.specs.Views.{without};
-ghost use Rattle.control_word.specs.Resting.{IsAtRest};
+ghost use Rattle.control_word.specs.Resting.{IsAtRest, IsSpent};
+ghost use Rattle.counted_handles.specs.declared.refusal.LoadError.TheVariants as unloaded;
 ghost use Rattle.atomic_shared.specs.Places.{named};
 ghost use Rattle.atomic_weak.specs.Places.{named as weakly_named};
 ghost use Rattle.part_calls.specs.Parts.{HasBeside, as_part, seen_by};
@@ -47,6 +48,7 @@ pub(crate) fn find_before<S, P: HasQueue<S>>(
     ensures why { IfErr result
         (λ error. IsWhyUnlinked P.Kind.fits (as_part P.part domain.now) 1 error
         (seen_by P.seen seat.old)) }
+    ensures spent { IfErr result (λ error. error ≡ unloaded.Spent → IsSpent seat.new.view.core) }
     ensures beside_part { HasBeside P.with_seen first_view seat.old seat.new }
     ensures room { HasRoom seat.new.view.core }
     ensures rest { IsAtRest domain.now seat.new }
@@ -83,6 +85,7 @@ fn load_back<S, P: HasQueue<S>>(
     ensures why { IfErr result
         (λ error. IsWhyUnread (PushDiffers P.Kind.fits (as_part P.part domain.now)) error
         (seen_by P.seen seat.old)) }
+    ensures spent { IfErr result (λ error. error ≡ unloaded.Spent → IsSpent seat.new.view.core) }
     ensures beside_part { HasBeside P.with_seen first_view seat.old seat.new }
     ensures room { HasRoom seat.new.view.core }
     ensures rest { IsAtRest domain.now seat.new }
@@ -117,6 +120,7 @@ fn upgrade_back<S, P: HasQueue<S>>(
     ensures why { IfErr result
         (λ error. IsWhyUnlinked P.Kind.fits (as_part P.part domain.now) 0 error
         (seen_by P.seen seat.old)) }
+    ensures spent { IfErr result (λ error. error ≡ unloaded.Spent → IsSpent seat.new.view.core) }
     ensures beside_part { HasBeside P.with_seen first_view seat.old seat.new }
     ensures room { HasRoom seat.new.view.core }
     ensures rest { IsAtRest domain.now seat.new }
@@ -152,6 +156,7 @@ fn count_before<S, P: HasQueue<S>>(
     ensures why { IfErr result
         (λ error. IsWhyUnlinked P.Kind.fits (as_part P.part domain.now) 0 error
         (seen_by P.seen seat.old)) }
+    ensures spent { IfErr result (λ error. error ≡ unloaded.Spent → IsSpent seat.new.view.core) }
     ensures beside_part { HasBeside P.with_seen first_view seat.old seat.new }
     ensures room { HasRoom seat.new.view.core }
     ensures rest { IsAtRest domain.now seat.new }

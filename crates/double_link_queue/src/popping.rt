@@ -6,7 +6,8 @@ ghost use Rattle.std.specs.Prelude.{◌≡◌, ◌<◌, IfErr, IfOk, IfSome};
 ghost use Rattle.plain_state.specs.Lists.{times};
 ghost use Rattle.core_events.specs.Steps.{HasRoom};
 ghost use Rattle.atomic_shared.specs.Places.{named};
-ghost use Rattle.control_word.specs.Resting.{IsAtRest};
+ghost use Rattle.control_word.specs.Resting.{IsAtRest, IsSpent};
+ghost use Rattle.linked_queue.specs.declared.queue.PopError.TheVariants as unpopped;
 ghost use Rattle.part_calls.specs.Parts.{HasBeside, StaysBeside, as_part, seen_by};
 ghost use Rattle.queue_law.specs.Views.{first_view};
 ghost use Rattle.linked_queue.specs.Leaving.{found_by, handle_by};
@@ -29,8 +30,8 @@ use queue_protocol::{HasQueue, QueueLaw};
 impl DoubleQueue {
     /// Takes the first item off the queue, in one try, and answers a reference to it. `None` only where nothing was
     /// linked behind the head's node at a step of this call. `Again` only where a place of the queue changed
-    /// meanwhile, which this call didn't change, and `Spent` only where at most three adds were left. Then nothing is
-    /// taken, and the seat has what it had. At most 29 steps, and two collects.
+    /// meanwhile, which this call didn't change, and `Spent` only where at most three adds were left, and none is left
+    /// now. Then nothing is taken, and the seat has what it had. No make. At most 29 steps, and two collects.
     pub fn try_pop<S, P: HasQueue<S>>(
         &self,
         domain: &Domain<P>,
@@ -50,6 +51,9 @@ impl DoubleQueue {
         ensures why { IfErr result
             (λ error. IsWhyUnpopped P.Kind.fits (as_part P.part domain.now) 3 error
             (seen_by P.seen seat.old)) }
+        ensures spent { IfErr result
+            (λ error. error ≡ unpopped.Spent → IsSpent seat.new.view.core) }
+        ensures makes { seat.new.view.core.makes ≡ seat.old.view.core.makes }
         ensures attached { IsAttached (P.seen seat.new.view.client) }
         ensures beside { StaysBeside P.seen P.with_seen seat.old seat.new }
         ensures room { HasRoom seat.new.view.core }
@@ -74,9 +78,11 @@ fn pop_first<S, P: HasQueue<S>>(
         (λ found. PopsAtHead P.Kind.fits (as_part P.part domain.now) (named found)
         (seen_by P.seen seat.old) (seen_by P.seen seat.new)) }
     ensures popped { Pops (found_by result) (seen_by P.seen seat.old) (seen_by P.seen seat.new) }
+    ensures makes { seat.new.view.core.makes ≡ seat.old.view.core.makes }
     ensures why { IfErr result
         (λ error. IsWhyUnpopped P.Kind.fits (as_part P.part domain.now) 3 error
         (seen_by P.seen seat.old)) }
+    ensures spent { IfErr result (λ error. error ≡ unpopped.Spent → IsSpent seat.new.view.core) }
     ensures beside_part { HasBeside P.with_seen first_view seat.old seat.new }
     ensures room { HasRoom seat.new.view.core }
     ensures rest { IsAtRest domain.now seat.new }
@@ -117,9 +123,11 @@ fn pop_behind<S, P: HasQueue<S>>(
         (λ found. PopsBehind P.Kind.fits (as_part P.part domain.now) front (named found)
         (seen_by P.seen seat.old) (seen_by P.seen seat.new)) }
     ensures popped { Pops (found_by result) (seen_by P.seen seat.old) (seen_by P.seen seat.new) }
+    ensures makes { seat.new.view.core.makes ≡ seat.old.view.core.makes }
     ensures why { IfErr result
         (λ error. IsWhyUnpopped P.Kind.fits (as_part P.part domain.now) 2 error
         (seen_by P.seen seat.old)) }
+    ensures spent { IfErr result (λ error. error ≡ unpopped.Spent → IsSpent seat.new.view.core) }
     ensures beside_part { HasBeside P.with_seen first_view seat.old seat.new }
     ensures room { HasRoom seat.new.view.core }
     ensures rest { IsAtRest domain.now seat.new }
@@ -155,9 +163,11 @@ fn pop_node<S, P: HasQueue<S>>(
         (λ item. TakesItem P.Kind.fits (as_part P.part domain.now) front next item.slot
         (seen_by P.seen seat.old) (seen_by P.seen seat.new)) }
     ensures popped { Pops (handle_by result) (seen_by P.seen seat.old) (seen_by P.seen seat.new) }
+    ensures makes { seat.new.view.core.makes ≡ seat.old.view.core.makes }
     ensures why { IfErr result
         (λ error. IsWhyUnpopped P.Kind.fits (as_part P.part domain.now) 1 error
         (seen_by P.seen seat.old)) }
+    ensures spent { IfErr result (λ error. error ≡ unpopped.Spent → IsSpent seat.new.view.core) }
     ensures beside_part { HasBeside P.with_seen first_view seat.old seat.new }
     ensures room { HasRoom seat.new.view.core }
     ensures rest { IsAtRest domain.now seat.new }

@@ -4,20 +4,21 @@
 //! cell, links its own back to that one, helps the link of the node before, and exchanges the tail cell. Then it links
 //! the node before to its own. It gives up in the end what it walked over.
 
-ghost use Rattle.std.specs.Prelude.{◌≡◌, ◌<◌, ◌≤◌, ◌+◌, IfErr, IfOk, OnErr};
+ghost use Rattle.std.specs.Prelude.{◌≡◌, ◌<◌, ◌≤◌, ◌+◌, IfErr, IfOk, OnErr, Some};
 ghost use Rattle.plain_state.specs.Lists.{times};
 ghost use Rattle.core_events.specs.Steps.{HasRoom};
-ghost use Rattle.control_word.specs.Resting.{IsAtRest};
+ghost use Rattle.control_word.specs.Resting.{IsAtRest, IsSpent};
+ghost use Rattle.slot_store.specs.declared.making.MakeError.TheVariants as refused;
 ghost use Rattle.queue_law.specs.declared.view.Form.TheVariants.{Double};
 ghost use Rattle.queue_law.specs.Pushes.{carried_item};
 ghost use Rattle.part_calls.specs.Parts.{HasBeside, StaysBeside, as_part, seen_by};
 ghost use Rattle.queue_law.specs.Views.{first_view};
 ghost use Rattle.linked_queue.specs.Leaving.{Leaves, handle_by, with_found};
 ghost use Rattle.linked_queue.specs.Pops.{item_in};
-ghost use Rattle.linked_queue.specs.Pushes.{HasLoad, IsWhyRefused, LoadsNode, back_of, pushed_too};
+ghost use Rattle.linked_queue.specs.Pushes.{HasLoad, IsWhyRefused, LoadsNode, UsesNone, back_of, cause_of, pushed_too};
 ghost use Rattle.linked_queue.specs.Queues.{IsAttached, deeds_in};
 ghost use Rattle.double_link_queue.specs.Leaving.{LeavesBoth};
-ghost use Rattle.double_link_queue.specs.NotPushed.{IsWhyNotPushed};
+ghost use Rattle.double_link_queue.specs.NotPushed.{IsWhyNotPushed, cause_in};
 ghost use Rattle.double_link_queue.specs.Pushes.{IsWhyUnpushed, Pushes, PushesNothing, landed_in};
 ghost use Rattle.double_link_queue.specs.Queues.{IsDoubleOf};
 
@@ -35,9 +36,10 @@ use slot_store::MakeError;
 
 impl DoubleQueue {
     /// Appends an item to the queue, in one try, and gives the seat's reference to it. `Again` where another seat was
-    /// quicker, and `Refused` with the causes of `make`; `AddsSpent` may come of a later increment of the call, and at
-    /// most seven adds were left. Then nothing is pushed, and the item is handed back; a node that was made is given
-    /// up. It makes one node at most, and may have set the link of another seat's push.
+    /// quicker, and `Refused` with the causes of `make`; `AddsSpent` may come of a later increment of the call, at most
+    /// seven adds were left, and none is left then. Where it is refused nothing is pushed, and the item is handed back;
+    /// a node that was made is given up. One make at most, and none where `make` has refused for the makes or the
+    /// slots. It may have set the link of another seat's push.
     pub fn try_push<S, P: HasQueue<S>>(
         &self,
         domain: &Domain<P>,
@@ -62,6 +64,11 @@ impl DoubleQueue {
         ensures why { IfErr result
             (λ error. IsWhyUnpushed P.Kind.fits (as_part P.part domain.now) error
             (seen_by P.seen seat.old)) }
+        ensures spent { IfErr result (λ error. cause_of error ≡ Some refused.AddsSpent
+            → IsSpent seat.new.view.core) }
+        ensures makes_kept { seat.old.view.core.makes ≤ seat.new.view.core.makes }
+        ensures unmade { IfErr result
+            (λ error. UsesNone (cause_of error) seat.old.view.core seat.new.view.core) }
         ensures attached { IsAttached (P.seen seat.new.view.client) }
         ensures beside { StaysBeside P.seen P.with_seen seat.old seat.new }
         ensures room { HasRoom seat.new.view.core }
@@ -96,6 +103,11 @@ fn push_item<S, P: HasQueue<S>>(
     ensures why { IfErr result
         (λ error. IsWhyUnpushed P.Kind.fits (as_part P.part domain.now) error
         (seen_by P.seen seat.old)) }
+    ensures spent { IfErr result (λ error. cause_of error ≡ Some refused.AddsSpent
+        → IsSpent seat.new.view.core) }
+    ensures makes_kept { seat.old.view.core.makes ≤ seat.new.view.core.makes }
+    ensures unmade { IfErr result
+        (λ error. UsesNone (cause_of error) seat.old.view.core seat.new.view.core) }
     ensures beside_part { HasBeside P.with_seen first_view seat.old seat.new }
     ensures room { HasRoom seat.new.view.core }
     ensures rest { IsAtRest domain.now seat.new }
@@ -147,6 +159,11 @@ fn push_copy<S, P: HasQueue<S>>(
     ensures why { IfErr result
         (λ not. IsWhyNotPushed P.Kind.fits (as_part P.part domain.now) not
         (seen_by P.seen seat.old)) }
+    ensures spent { IfErr result (λ not. cause_in not ≡ Some refused.AddsSpent
+        → IsSpent seat.new.view.core) }
+    ensures makes_kept { seat.old.view.core.makes ≤ seat.new.view.core.makes }
+    ensures unmade { IfErr result
+        (λ not. UsesNone (cause_in not) seat.old.view.core seat.new.view.core) }
     ensures beside_part { HasBeside P.with_seen first_view seat.old seat.new }
     ensures room { HasRoom seat.new.view.core }
     ensures rest { IsAtRest domain.now seat.new }
@@ -186,6 +203,10 @@ pub(crate) fn load_node<S, P: HasQueue<S>>(
     ensures why { IfErr result
         (λ error. IsWhyRefused P.Kind.fits (as_part P.part domain.now) 1 error
         (seen_by P.seen seat.old)) }
+    ensures spent { IfErr result (λ error. error ≡ refused.AddsSpent → IsSpent seat.new.view.core) }
+    ensures makes_kept { seat.old.view.core.makes ≤ seat.new.view.core.makes }
+    ensures unmade { IfErr result
+        (λ error. UsesNone (Some error) seat.old.view.core seat.new.view.core) }
     ensures beside_part { HasBeside P.with_seen first_view seat.old seat.new }
     ensures room { HasRoom seat.new.view.core }
     ensures rest { IsAtRest domain.now seat.new }

@@ -1,21 +1,21 @@
 //! A push that tries again until no other seat is quicker. It keeps its one node through its tries.
-ghost use Rattle.std.specs.Prelude.{◌≡◌, ◌<◌, ◌≤◌, ◌+◌, IfErr, IfOk, OnErr};
+ghost use Rattle.std.specs.Prelude.{◌≡◌, ◌<◌, ◌≤◌, ◌+◌, IfErr, IfOk, OnErr, Some};
 ghost use Rattle.plain_state.specs.Lists.{times};
 ghost use Rattle.core_events.specs.Steps.{HasRoom};
 ghost use Rattle.core_events.specs.Views.{without};
-ghost use Rattle.control_word.specs.Resting.{IsAtRest};
+ghost use Rattle.control_word.specs.Resting.{IsAtRest, IsSpent};
 ghost use Rattle.queue_law.specs.declared.view.Form.TheVariants.{Double};
 ghost use Rattle.queue_law.specs.Pushes.{carried_item};
 ghost use Rattle.queue_law.specs.Views.{first_view};
 ghost use Rattle.part_calls.specs.Parts.{HasBeside, StaysBeside, as_part, seen_by};
 ghost use Rattle.linked_queue.specs.Leaving.{handle_by, with_found};
 ghost use Rattle.linked_queue.specs.Pops.{item_in};
-ghost use Rattle.linked_queue.specs.Pushes.{HasLoad, pushed_too};
+ghost use Rattle.linked_queue.specs.Pushes.{HasLoad, UsesNone, pushed_too};
 ghost use Rattle.linked_queue.specs.Queues.{IsAttached, deeds_in};
 ghost use Rattle.double_link_queue.specs.Leaving.{LeavesBoth};
 ghost use Rattle.double_link_queue.specs.Pushes.{IsInFlight, Pushes, PushesNothing, beside_back, landed_in};
 ghost use Rattle.double_link_queue.specs.Queues.{IsDoubleOf};
-ghost use Rattle.double_link_queue.specs.Waits.{IsWhyNeverPushed, TriesTooFew};
+ghost use Rattle.linked_queue.specs.Waits.{IsWhyNeverPushed};
 
 use crate::chaining::take_last;
 use crate::exchanging::land;
@@ -34,8 +34,9 @@ use std::sync::Wait;
 impl DoubleQueue {
     /// Appends an item to the queue, and gives the seat's reference to it. It tries again as long as another seat is
     /// quicker, with the node that it made first, so it may wait for other threads. It is refused with the causes of
-    /// `make`; `AddsSpent` may come of a later increment of the call, and at most five adds were left at the last try
-    /// then. Then nothing is pushed, and the item is handed back.
+    /// `make`; `AddsSpent` may come of a later increment of the call, and no add is left then. Where it is refused
+    /// nothing is pushed, and the item is handed back. One make at most, and none where `make` has refused for the
+    /// makes or the slots.
     pub fn push<S, P: HasQueue<S>, R: Wait>(
         &self,
         rt: &R,
@@ -57,7 +58,11 @@ impl DoubleQueue {
         ensures makes { seat.new.view.core.makes ≤ seat.old.view.core.makes + 1 }
         ensures back { IfErr result (λ refused. refused.back ≡ item) }
         ensures why { IfErr result (λ refused. IsWhyNeverPushed P.Kind.fits
-            (as_part P.part domain.now) item.slot refused.why (seen_by P.seen seat.old)) }
+            (as_part P.part domain.now) refused.why (seen_by P.seen seat.old)
+            (seen_by P.seen seat.new)) }
+        ensures makes_kept { seat.old.view.core.makes ≤ seat.new.view.core.makes }
+        ensures unmade { IfErr result
+            (λ refused. UsesNone (Some refused.why) seat.old.view.core seat.new.view.core) }
         ensures attached { IsAttached (P.seen seat.new.view.client) }
         ensures beside { StaysBeside P.seen P.with_seen seat.old seat.new }
         ensures room { HasRoom seat.new.view.core }
@@ -105,7 +110,7 @@ fn push_at_last<S, P: HasQueue<S>, R: Wait>(
     ensures makes { seat.new.view.core.makes ≡ seat.old.view.core.makes }
     ensures leaves { LeavesBoth (without node.slot seat.old.view.core.owned)
         seat.old.view.core.weaks (seen_by P.seen seat.old) (seen_by P.seen seat.new) }
-    ensures why { IfErr result (λ spent. TriesTooFew 5 (seen_by P.seen seat.old)) }
+    ensures why { OnErr result (IsSpent seat.new.view.core) }
     ensures beside_part { HasBeside P.with_seen first_view seat.old seat.new }
     ensures room { HasRoom seat.new.view.core }
     ensures rest { IsAtRest domain.now seat.new }
@@ -149,7 +154,7 @@ fn take_at_last<S, P: HasQueue<S>, R: Wait>(
     ensures makes { seat.new.view.core.makes ≡ seat.old.view.core.makes }
     ensures leaves { LeavesBoth (with_found (handle_by result) seat.old.view.core.owned)
         seat.old.view.core.weaks (seen_by P.seen seat.old) (seen_by P.seen seat.new) }
-    ensures why { IfErr result (λ spent. TriesTooFew 5 (seen_by P.seen seat.old)) }
+    ensures why { OnErr result (IsSpent seat.new.view.core) }
     ensures beside_part { HasBeside P.with_seen first_view seat.old seat.new }
     ensures room { HasRoom seat.new.view.core }
     ensures rest { IsAtRest domain.now seat.new }

@@ -4,6 +4,7 @@ pub mod Looks
 pub mod NewNodes
 pub mod LaidQueues
 pub mod Sights
+pub mod Making
 pub mod CellLoads
 pub mod Nodes
 pub mod EndNodes

@@ -1,5 +1,5 @@
 -- The exchanges at the end of a queue: what their deeds ask, and what they leave.
-use Rattle.std.proofs.Common.{◌≡◌, ℕ, ◌-◌, ◌<◌, Bool, true, false, [], ◌∷◌, ◌++◌, refl, ap, sym, ◌∙◌, subst, arith, ◌+◌, ◌≤◌, List}
+use Rattle.std.proofs.Common.{◌≡◌, ℕ, ◌-◌, ◌<◌, true, [], ◌∷◌, ◌++◌, refl, ap, sym, ◌∙◌, subst, arith, ◌+◌, ◌≤◌, List}
 use Rattle.std.specs.Prelude.{◌==◌, Option, Some, None, cond}
 use Rattle.plain_state.specs.declared.act.EventPlace.{EventPlace}
 use Rattle.plain_state.specs.declared.act.EventPlace.TheVariants.{Field}
@@ -22,8 +22,7 @@ use Rattle.domain_rule.specs.Views.{object_in, own_of}
 use Rattle.acquire_retire.specs.Calls.{IsReady, IsSameView, same_view}
 use Rattle.acquire_retire.specs.Domains.{DomainState}
 use Rattle.acquire_retire.specs.Seats.{SeatState}
-use Rattle.acquire_retire.specs.Collecting.{ends}
-use Rattle.control_word.specs.Calls.{DropsStrong, GainsStrong, with_ended, without_strong}
+use Rattle.control_word.specs.Calls.{DropsStrong, GainsStrong, without_strong}
 use Rattle.control_word.specs.Moves.{KnowsStill}
 use Rattle.retiring_stores.specs.Exchanging.{Loses, LosesTo, Replaces}
 use Rattle.queue_law.specs.declared.view.Form.TheVariants.{Linked}
@@ -63,6 +62,7 @@ then_gives n a b c some' first more = record {
       let left = times_without x n a.view.core.owned some' in
       let still = times_without x n b.view.core.owned (omega arith) in omega arith;
   same = more.same ∙ first.same;
+  adds = (let late = more.adds in let early = first.adds in omega arith);
   knows = λ x was is.
       let f = first.owns x in
       let mid = holds_more x a.view.core b.view.core (sym first.same) (omega arith) was in
@@ -241,16 +241,6 @@ module _ (fits : List ℕ → Type 0) (d : DomainState QueueLaw) (last node : Sl
           ))
           loses.loses,
     )
-
--- a reference that is given up costs no add
-with_ended_adds : (b : Bool) (s : SlotId) (v : CoreView) → (with_ended b s v).adds ≡ v.adds
-with_ended_adds true s v = refl
-with_ended_adds false s v = refl
-
-pub drop_adds : (fits : List ℕ → Type 0) (d : DomainState QueueLaw) (s : SlotId) (old new : SeatState View)
-    → DropsStrong fits d s old new → new.view.core.adds ≡ old.view.core.adds
-drop_adds fits d s old new drops = ap (λ (v : CoreView). v.adds) drops.1.core
-    ∙ with_ended_adds (ends drops.0) s (without_strong s old.view.core)
 
 -- what is seen in the tail cell is seen still once another reference was given up
 pub tail_still : (last : SlotId) (old new : SeatState View) → SeesTail last old

@@ -122,6 +122,7 @@ module _ {V : Type 0} (n : SlotId) (found : Option SlotId) (a b c e : SeatState 
         ∙ given_back n found a.view.core.owned b.view.core.owned c.view.core.owned gains.owns
         goes.owns x;
     same = gives.same ∙ goes.same ∙ gains.same;
+    adds = (let x = gains.adds in let y = goes.adds in let z = gives.adds in omega arith);
     knows = λ x was is.
         gives.knows x (held_late x is) is
         ∙ goes.knows x (held_mid x was) (held_late x is)

@@ -9,6 +9,7 @@ use Rattle.core_events.specs.Views.{without}
 use Rattle.core_invariant.proofs.Kit.{one_same, times_push}
 use Rattle.counted_handles.specs.declared.refusal.LoadError.{LoadError}
 use Rattle.counted_handles.specs.declared.refusal.LoadError.TheVariants as unloaded
+use Rattle.linked_queue.specs.declared.queue.PopError.TheVariants as unpopped
 use Rattle.domain_rule.specs.Views.{object_in}
 use Rattle.acquire_retire.specs.Domains.{DomainState}
 use Rattle.acquire_retire.specs.Seats.{SeatState}
@@ -25,6 +26,11 @@ use Rattle.linked_queue.specs.Seeing.{IsWhyUnloaded, LooksAgain, Passed, SeesNex
 use Rattle.linked_queue.proofs.Owning.{found_more, holds_more, through}
 
 -- WHY
+-- a pop that is refused for want of adds had its load refused for it
+pub spent_by : (error : LoadError) → unpopped_by error ≡ unpopped.Spent → error ≡ unloaded.Spent
+spent_by unloaded.Spent is = refl
+spent_by (unloaded.Moved seen now) is = absurd (cc (is))
+
 module _ (fits : List ℕ → Type 0) (d : DomainState QueueLaw) where
   -- a load that was refused refuses the pop
   pub why_of : (n : ℕ) (error : LoadError) (old : SeatState View) → IsWhyUnloaded fits d error old
@@ -105,6 +111,7 @@ pub leaves_on : (xs : List SlotId) (x y z : SeatState View) → Leaves xs x y
 leaves_on xs x y z first more = record {
   owns = λ w. more.owns w ∙ first.owns w;
   same = more.same ∙ first.same;
+  adds = (let late = more.adds in let early = first.adds in omega arith);
   knows = λ w was is.
       let at = more.owns w in
       let mid = holds_more w z.view.core y.view.core more.same (omega arith) is in
@@ -148,6 +155,7 @@ leaves_then found a b c none leaves = record {
   owns = λ x. leaves.owns x
       ∙ found_again found x b.view.core.owned a.view.core.owned (none.owns x);
   same = leaves.same ∙ none.same;
+  adds = (let late = leaves.adds in let early = none.adds in omega arith);
   knows = λ x was is.
       let first = none.owns x in
       let mid = holds_more x a.view.core b.view.core (sym none.same) (omega arith) was in

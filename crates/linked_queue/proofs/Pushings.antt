@@ -1,18 +1,24 @@
 -- What a push leaves of a seat, level by level.
-use Rattle.std.proofs.Common.{◌≡◌, ◌≢◌, ⊎_elim, ◌<◌, List, [], ◌∷◌, ◌++◌, refl, ap, sym, ◌∙◌, subst, arith}
+use Rattle.std.proofs.Common.{◌≡◌, ◌≢◌, ⊎_elim, ◌<◌, ℕ, List, [], ◌∷◌, ◌++◌, refl, ap, sym, ◌∙◌, subst, arith}
 use Rattle.plain_state.specs.declared.slot.SlotId.{SlotId}
 use Rattle.plain_state.specs.Lists.{times}
 use Rattle.plain_protocol.specs.Owns.{Object}
 use Rattle.core_events.specs.Views.{without}
 use Rattle.core_invariant.proofs.Kit.{one_other, one_same, slot_cases, times_push, times_without}
 use Rattle.domain_rule.specs.Views.{object_in}
+use Rattle.acquire_retire.specs.Domains.{DomainState}
 use Rattle.acquire_retire.specs.Seats.{SeatState}
+use Rattle.control_word.specs.Resting.{IsSpent}
+use Rattle.slot_store.specs.declared.making.MakeError.{MakeError}
+use Rattle.slot_store.specs.declared.making.MakeError.TheVariants as refused
+use Rattle.queue_protocol.specs.declared.law.QueueLaw.{QueueLaw}
 use Rattle.queue_law.specs.declared.view.Load.{Load}
 use Rattle.queue_law.specs.declared.view.View.{View}
 use Rattle.linked_queue.specs.Leaving.{Leaves}
 use Rattle.linked_queue.specs.Nodes.{HasNode}
-use Rattle.linked_queue.specs.Pushes.{HasLoad}
+use Rattle.linked_queue.specs.Pushes.{HasLoad, IsWhyRefused}
 use Rattle.linked_queue.specs.Queues.{beside_eyes}
+use Rattle.linked_queue.specs.Waits.{IsWhyNeverPushed}
 use Rattle.linked_queue.proofs.Owning.{holds_more}
 
 -- A NODE OF THE SEAT'S OWN stays so, while the seat owns it and its view tells it
@@ -93,6 +99,8 @@ module _ (n l : SlotId) (a b c e f : SeatState View) (some_n : 0 < times n a.vie
         let second = times_without x n c.view.core.owned n_there in
         let third = times_without x l e.view.core.owned l_there in omega arith;
     same = last.same ∙ gives.same ∙ goes.same ∙ gains.same;
+    adds = (let x = gains.adds in let y = goes.adds in let z = gives.adds in let u = last.adds in
+        omega arith);
     knows = λ x was is.
         let p = gains.owns x in
         let q = goes.owns x in
@@ -107,3 +115,11 @@ module _ (n l : SlotId) (a b c e f : SeatState View) (some_n : 0 < times n a.vie
         last.knows x in_e is ∙ gives.knows x in_c in_e ∙ goes.knows x in_b in_c
         ∙ gains.knows x was in_b;
   }
+
+-- WHY
+pub never_pushed : (fits : List ℕ → Type 0) (d : DomainState QueueLaw) (n : ℕ) (error : MakeError)
+    (old new : SeatState View) → IsWhyRefused fits d n error old
+    → (error ≡ refused.AddsSpent → IsSpent new.view.core) → IsWhyNeverPushed fits d error old new
+never_pushed fits d n refused.MakesSpent old new why spent = why
+never_pushed fits d n refused.AddsSpent old new why spent = spent refl
+never_pushed fits d n refused.Full old new why spent = why

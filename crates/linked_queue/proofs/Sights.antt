@@ -80,8 +80,8 @@ module _ (fits : List ℕ → Type 0) (d : DomainState QueueLaw) (q : Place)
           ∙ notes (own_of r.protects.mid.view) (own_of r.protects.checks.walks.0.view)
           r.protects.mid.view.client (plain.Check 0 (strong_place q)) (suc s.0)
           ∙ ap beside_eyes r.protects.announces.client,
-      leaves_as old new (with_strong s old.view.core) old.view.core _ (core_found fits d q old new s r) refl knows
-          (λ x was is. was),
+      leaves_as old new (with_strong s old.view.core) old.view.core _ (core_found fits d q old new s r) refl
+          (omega arith) knows (λ x was is. was),
     )
 
     missed : (seen now : Option SlotId)

@@ -1,5 +1,5 @@
 -- What a call leaves of a seat.
-use Rattle.std.specs.Prelude.{◌≡◌, List, [], ◌∷◌, ◌++◌, Option, Some, None, Result, Ok, Err}
+use Rattle.std.specs.Prelude.{◌≡◌, ◌≤◌, List, [], ◌∷◌, ◌++◌, Option, Some, None, Result, Ok, Err}
 use Rattle.plain_state.specs.declared.slot.SlotId.{SlotId}
 use Rattle.plain_state.specs.Lists.{times}
 use Rattle.core_events.specs.declared.view.CoreView.{CoreView}
@@ -19,11 +19,12 @@ abbrev pub with_found : Option SlotId → List SlotId → List SlotId
 with_found None xs = xs
 with_found (Some s) xs = xs ++ s ∷ []
 
--- The seat owns these references, in some order. What it has beside is as it was, and so is what it knows of the
--- objects that it held and still holds.
+-- The seat owns these references, in some order, and takes no add back. What it has beside is as it was, and so is what
+-- it knows of the objects that it held and still holds.
 pub record Leaves {V : Type 0} (owned : List SlotId) (old new : SeatState V) : Type 0 where
   pub owns : (x : SlotId) → times x new.view.core.owned ≡ times x owned
   pub same : aside new.view.core ≡ aside old.view.core
+  pub adds : old.view.core.adds ≤ new.view.core.adds
   pub knows :
       (x : SlotId) → Holds old.view.core x → Holds new.view.core x
       → object_in new.view x ≡ object_in old.view x

@@ -4,6 +4,7 @@ use Rattle.plain_state.specs.declared.act.EventPlace.TheVariants.{Cell, Field}
 use Rattle.plain_state.specs.declared.slot.SlotId.{SlotId}
 use Rattle.plain_state.specs.Lists.{times}
 use Rattle.plain_state.specs.State.{no_payload}
+use Rattle.core_events.specs.declared.view.CoreView.{CoreView}
 use Rattle.core_events.specs.Views.{without}
 use Rattle.core_events.specs.Words.{slot_in}
 use Rattle.counted_handles.specs.Handles.{Handle}
@@ -73,6 +74,14 @@ abbrev pub IsWhyRefused : (List ℕ → Type 0) → DomainState QueueLaw → ℕ
 IsWhyRefused fits d n refused.MakesSpent old = HasNoMake old.view.core
 IsWhyRefused fits d n refused.AddsSpent old = HasFewAdds n old.view.core
 IsWhyRefused fits d n refused.Full old = (mid : SeatState View) × MissesSlots fits d old mid
+
+-- No make was used where `make` has refused for the makes or the slots. Where an increment was refused, a node may have
+-- been made before.
+abbrev pub UsesNone : Option MakeError → CoreView → CoreView → Type 0
+UsesNone (Some refused.MakesSpent) v w = w.makes ≡ v.makes
+UsesNone (Some refused.Full) v w = w.makes ≡ v.makes
+UsesNone (Some refused.AddsSpent) v w = Unit {0}
+UsesNone None v w = Unit {0}
 
 -- a view that has pushed one item more
 abbrev pub pushed_too : Item → View → View
@@ -205,3 +214,8 @@ IsWhyUnpushed fits d (unpushed.Refused r) old = IsWhyRefused fits d 5 r.why old
 abbrev pub back_of : PushError → Handle
 back_of (unpushed.Again seen now back) = back
 back_of (unpushed.Refused r) = r.back
+
+-- what refused a push, where no other seat did
+abbrev pub cause_of : PushError → Option MakeError
+cause_of (unpushed.Again seen now back) = None
+cause_of (unpushed.Refused r) = Some r.why

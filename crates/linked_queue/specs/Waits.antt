@@ -1,10 +1,13 @@
 -- What calls do that try again until no other seat is quicker.
 use Rattle.linked_queue.specs.Queues.{beside_eyes}
-use Rattle.linked_queue.specs.Pushes.{Advances, IsWhyRefused, LinksLast, LoadsNode}
+use Rattle.linked_queue.specs.Pushes.{Advances, LinksLast, LoadsNode}
 use Rattle.slot_store.specs.declared.making.MakeError.{MakeError}
 use Rattle.slot_store.specs.declared.making.MakeError.TheVariants as refused
 use Rattle.control_word.specs.Calls.{DropsStrong}
-use Rattle.std.specs.Prelude.{ℕ, ◌≡◌, true, List, Option, None, ◌⊎◌}
+use Rattle.control_word.specs.Resting.{IsSpent}
+use Rattle.slot_store.specs.Calls.{HasNoMake}
+use Rattle.slot_store.specs.Searching.{Misses}
+use Rattle.std.specs.Prelude.{ℕ, ◌≡◌, true, List, Option, None}
 use Rattle.plain_state.specs.declared.slot.SlotId.{SlotId}
 use Rattle.acquire_retire.specs.Domains.{DomainState}
 use Rattle.acquire_retire.specs.Seats.{SeatState}
@@ -12,7 +15,6 @@ use Rattle.queue_law.specs.declared.view.View.{View}
 use Rattle.queue_protocol.specs.declared.law.QueueLaw.{QueueLaw}
 use Rattle.linked_queue.specs.Attaching.{LooksAtHead, is_slot}
 use Rattle.linked_queue.specs.Leaving.{Leaves}
-use Rattle.linked_queue.specs.Nodes.{HasFewAdds}
 use Rattle.linked_queue.specs.Pops.{Pops, PopsAtHead}
 
 -- Its tries popped nothing, and left the seat what it had; the last one found an item, or that nothing was linked.
@@ -21,12 +23,6 @@ pub record PopsAtLast (fits : List ℕ → Type 0) (d : DomainState QueueLaw) (f
   pub last : SeatState View
   pub lost : Pops None old last
   pub pops : PopsAtHead fits d found last new
-
--- They popped nothing, and at the last one at most so many adds were left.
-pub record SpendsAtLast (n : ℕ) (old : SeatState View) : Type 0 where
-  pub last : SeatState View
-  pub lost : Pops None old last
-  pub few : HasFewAdds n last.view.core
 
 -- Its looks left the client's view as it was; the last one found a slot in the head cell.
 pub record AttachesAtLast (fits : List ℕ → Type 0) (d : DomainState QueueLaw)
@@ -41,12 +37,6 @@ pub record AttachesAtLast (fits : List ℕ → Type 0) (d : DomainState QueueLaw
 pub record LinksNothing (old new : SeatState View) : Type 0 where
   pub leaves : Leaves old.view.core.owned old new
   pub beside : beside_eyes new.view.client ≡ beside_eyes old.view.client
-
--- Its tries linked nothing; at the last one at most so many adds were left.
-pub record LinksTooFew (n : ℕ) (old : SeatState View) : Type 0 where
-  pub last : SeatState View
-  pub lost : LinksNothing old last
-  pub few : HasFewAdds n last.view.core
 
 module _ (fits : List ℕ → Type 0) (d : DomainState QueueLaw) where
   -- Its tries linked nothing, and at the last one it linked its node behind the last node.
@@ -74,10 +64,8 @@ module _ (fits : List ℕ → Type 0) (d : DomainState QueueLaw) where
     pub pushes : PushesNodeAtLast node loaded pushed
     pub drops : DropsStrong fits d item pushed new
 
-  -- why it pushed nothing: no node could be made that carries the item, or one was, and its last try had at most three
-  -- adds left
-  abbrev pub IsWhyNeverPushed : SlotId → MakeError → SeatState View → Type 0
-  IsWhyNeverPushed item error old =
-      IsWhyRefused fits d 1 error old
-      ⊎ ((error ≡ refused.AddsSpent) × (node : SlotId) × (loaded : SeatState View)
-      × LoadsNode fits d item node old loaded × LinksTooFew 3 loaded)
+  -- why it pushed nothing: no make was left, or no slot was free, or the seat has no add left by now
+  abbrev pub IsWhyNeverPushed : MakeError → SeatState View → SeatState View → Type 0
+  IsWhyNeverPushed refused.MakesSpent old new = HasNoMake old.view.core
+  IsWhyNeverPushed refused.AddsSpent old new = IsSpent new.view.core
+  IsWhyNeverPushed refused.Full old new = (mid : SeatState View) × Misses fits d old mid

@@ -27,6 +27,7 @@ impl LinkedQueue {
             else (P.seen seat.old.view.client)) }
         ensures leaves { Leaves seat.old.view.core.owned (seen_by P.seen seat.old)
             (seen_by P.seen seat.new) }
+        ensures makes { seat.new.view.core.makes ≡ seat.old.view.core.makes }
         ensures beside { StaysBeside P.seen P.with_seen seat.old seat.new }
         ensures room { HasRoom seat.old.view.core → HasRoom seat.new.view.core }
         ensures rest { IsAtRest domain.now seat.new }
@@ -49,6 +50,7 @@ fn look_at_head<S, P: HasQueue<S>>(
     ensures attached { (P.seen seat.new.view.client)
         ≡ (if is_slot result then attached_in (P.seen seat.old.view.client)
         else (P.seen seat.old.view.client)) }
+    ensures makes { seat.new.view.core.makes ≡ seat.old.view.core.makes }
     ensures leaves { Leaves seat.old.view.core.owned (seen_by P.seen seat.old)
         (seen_by P.seen seat.new) }
     ensures beside_part { HasBeside P.with_seen first_view seat.old seat.new }

@@ -1,7 +1,8 @@
 //! The deciding exchange of a push: a seat finds the last node, and links its own behind it.
 ghost use Rattle.std.specs.Prelude.{◌≡◌, ◌<◌, IfErr, IfOk, OnErr};
 ghost use Rattle.core_events.specs.Steps.{HasRoom};
-ghost use Rattle.control_word.specs.Resting.{IsAtRest};
+ghost use Rattle.control_word.specs.Resting.{IsAtRest, IsSpent};
+ghost use Rattle.counted_handles.specs.declared.refusal.LoadError.TheVariants as unloaded;
 ghost use Rattle.queue_law.specs.declared.view.Form.TheVariants.{Linked};
 ghost use Rattle.queue_law.specs.Pushes.{carried_item};
 ghost use Rattle.queue_law.specs.Views.{first_view};
@@ -44,10 +45,12 @@ pub(crate) fn link_last<S, P: HasQueue<S>>(
     ensures refused { OnErr result (beside_eyes (P.seen seat.new.view.client)
         ≡ beside_eyes (P.seen seat.old.view.client)) }
     ensures load { OnErr result (HasLoad node (seen_by P.seen seat.new)) }
+    ensures makes { seat.new.view.core.makes ≡ seat.old.view.core.makes }
     ensures leaves { Leaves (with_found (handle_by result) seat.old.view.core.owned)
         (seen_by P.seen seat.old) (seen_by P.seen seat.new) }
     ensures why { IfErr result (λ error. IsWhyUnlinked P.Kind.fits (as_part P.part domain.now) 3
         error (seen_by P.seen seat.old)) }
+    ensures spent { IfErr result (λ error. error ≡ unloaded.Spent → IsSpent seat.new.view.core) }
     ensures beside_part { HasBeside P.with_seen first_view seat.old seat.new }
     ensures room { HasRoom seat.new.view.core }
     ensures rest { IsAtRest domain.now seat.new }

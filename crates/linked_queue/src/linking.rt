@@ -4,7 +4,8 @@ ghost use Rattle.plain_state.specs.declared.act.EventPlace.TheVariants.{Cell, Fi
 ghost use Rattle.core_events.specs.Steps.{HasRoom};
 ghost use Rattle.core_events.specs.Views.{without};
 ghost use Rattle.atomic_shared.specs.Places.{named};
-ghost use Rattle.control_word.specs.Resting.{IsAtRest};
+ghost use Rattle.control_word.specs.Resting.{IsAtRest, IsSpent};
+ghost use Rattle.counted_handles.specs.declared.refusal.LoadError.TheVariants as unloaded;
 ghost use Rattle.protected_loads.specs.References.{Loads};
 ghost use Rattle.queue_law.specs.declared.view.Form.TheVariants.{Linked};
 ghost use Rattle.queue_law.specs.Pushes.{carried_item, linked_view};
@@ -44,11 +45,13 @@ pub(crate) fn find_last<S, P: HasQueue<S>>(
     ensures adds { seat.new.view.core.adds ≤ seat.old.view.core.adds + 3 }
     ensures beside { beside_eyes (P.seen seat.new.view.client)
         ≡ beside_eyes (P.seen seat.old.view.client) }
+    ensures makes { seat.new.view.core.makes ≡ seat.old.view.core.makes }
     ensures leaves { Leaves (with_found (handle_by result) seat.old.view.core.owned)
         (seen_by P.seen seat.old) (seen_by P.seen seat.new) }
     ensures why { IfErr result
         (λ error. IsWhyUnlinked P.Kind.fits (as_part P.part domain.now) 2 error
         (seen_by P.seen seat.old)) }
+    ensures spent { IfErr result (λ error. error ≡ unloaded.Spent → IsSpent seat.new.view.core) }
     ensures beside_part { HasBeside P.with_seen first_view seat.old seat.new }
     ensures room { HasRoom seat.new.view.core }
     ensures rest { IsAtRest domain.now seat.new }
@@ -98,11 +101,13 @@ fn load_tail<S, P: HasQueue<S>>(
     ensures adds { seat.new.view.core.adds ≤ seat.old.view.core.adds + 1 }
     ensures beside { beside_eyes (P.seen seat.new.view.client)
         ≡ beside_eyes (P.seen seat.old.view.client) }
+    ensures makes { seat.new.view.core.makes ≡ seat.old.view.core.makes }
     ensures leaves { Leaves (with_found (found_by result) seat.old.view.core.owned)
         (seen_by P.seen seat.old) (seen_by P.seen seat.new) }
     ensures why { IfErr result
         (λ error. IsWhyUnread (PushDiffers P.Kind.fits (as_part P.part domain.now)) error
         (seen_by P.seen seat.old)) }
+    ensures spent { IfErr result (λ error. error ≡ unloaded.Spent → IsSpent seat.new.view.core) }
     ensures beside_part { HasBeside P.with_seen first_view seat.old seat.new }
     ensures room { HasRoom seat.new.view.core }
     ensures rest { IsAtRest domain.now seat.new }
@@ -129,11 +134,13 @@ fn see_behind<S, P: HasQueue<S>>(
     ensures adds { seat.new.view.core.adds ≤ seat.old.view.core.adds + 1 }
     ensures beside { beside_eyes (P.seen seat.new.view.client)
         ≡ beside_eyes (P.seen seat.old.view.client) }
+    ensures makes { seat.new.view.core.makes ≡ seat.old.view.core.makes }
     ensures leaves { Leaves (with_found (found_by result) seat.old.view.core.owned)
         (seen_by P.seen seat.old) (seen_by P.seen seat.new) }
     ensures why { IfErr result
         (λ error. IsWhyUnread (PushDiffers P.Kind.fits (as_part P.part domain.now)) error
         (seen_by P.seen seat.old)) }
+    ensures spent { IfErr result (λ error. error ≡ unloaded.Spent → IsSpent seat.new.view.core) }
     ensures beside_part { HasBeside P.with_seen first_view seat.old seat.new }
     ensures room { HasRoom seat.new.view.core }
     ensures rest { IsAtRest domain.now seat.new }
@@ -163,11 +170,13 @@ fn help<S, P: HasQueue<S>>(
     ensures adds { seat.new.view.core.adds ≤ seat.old.view.core.adds + 1 }
     ensures beside { beside_eyes (P.seen seat.new.view.client)
         ≡ beside_eyes (P.seen seat.old.view.client) }
+    ensures makes { seat.new.view.core.makes ≡ seat.old.view.core.makes }
     ensures leaves { Leaves seat.old.view.core.owned (seen_by P.seen seat.old)
         (seen_by P.seen seat.new) }
     ensures why { IfErr result
         (λ error. IsWhyUnlinked P.Kind.fits (as_part P.part domain.now) 0 error
         (seen_by P.seen seat.old)) }
+    ensures spent { IfErr result (λ error. error ≡ unloaded.Spent → IsSpent seat.new.view.core) }
     ensures beside_part { HasBeside P.with_seen first_view seat.old seat.new }
     ensures room { HasRoom seat.new.view.core }
     ensures rest { IsAtRest domain.now seat.new }
@@ -199,6 +208,7 @@ pub(crate) fn advance<S, P: HasQueue<S>>(
     ensures client { (P.seen seat.new.view.client)
         ≡ advanced_in next.slot (seen_by P.seen seat.old) (P.seen seat.old.view.client) }
     ensures adds { seat.new.view.core.adds ≡ seat.old.view.core.adds }
+    ensures makes { seat.new.view.core.makes ≡ seat.old.view.core.makes }
     ensures leaves { Leaves (without next.slot seat.old.view.core.owned) (seen_by P.seen seat.old)
         (seen_by P.seen seat.new) }
     ensures beside_part { HasBeside P.with_seen first_view seat.old seat.new }
@@ -241,11 +251,13 @@ pub(crate) fn link<S, P: HasQueue<S>>(
         ≡ linked_view (P.seen seat.old.view.client)) }
     ensures behind { IfOk result (λ done. SeesBehind last node (seen_by P.seen seat.new)) }
     ensures refused { OnErr result ((P.seen seat.new.view.client) ≡ (P.seen seat.old.view.client)) }
+    ensures makes { seat.new.view.core.makes ≡ seat.old.view.core.makes }
     ensures leaves { Leaves seat.old.view.core.owned (seen_by P.seen seat.old)
         (seen_by P.seen seat.new) }
     ensures why { IfErr result
         (λ error. IsWhyUnlinked P.Kind.fits (as_part P.part domain.now) 0 error
         (seen_by P.seen seat.old)) }
+    ensures spent { IfErr result (λ error. error ≡ unloaded.Spent → IsSpent seat.new.view.core) }
     ensures beside_part { HasBeside P.with_seen first_view seat.old seat.new }
     ensures room { HasRoom seat.new.view.core }
     ensures rest { IsAtRest domain.now seat.new }

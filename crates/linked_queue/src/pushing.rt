@@ -4,19 +4,21 @@
 //! which it helps on where that is one behind, and exchanges that node's field 0. Then it advances the tail cell. It
 //! holds the last node and its own by references that it gives up in the end.
 
-ghost use Rattle.std.specs.Prelude.{◌≡◌, ◌<◌, ◌≤◌, ◌+◌, IfErr, IfOk, OnErr};
+ghost use Rattle.std.specs.Prelude.{◌≡◌, ◌<◌, ◌≤◌, ◌+◌, IfErr, IfOk, OnErr, Some};
 ghost use Rattle.plain_state.specs.Lists.{times};
 ghost use Rattle.core_events.specs.Steps.{HasRoom};
 ghost use Rattle.core_events.specs.Views.{without};
-ghost use Rattle.control_word.specs.Resting.{IsAtRest};
+ghost use Rattle.control_word.specs.Resting.{IsAtRest, IsSpent};
+ghost use Rattle.counted_handles.specs.declared.refusal.LoadError.TheVariants as unloaded;
+ghost use Rattle.slot_store.specs.declared.making.MakeError.TheVariants as refused;
 ghost use Rattle.queue_law.specs.declared.view.Form.TheVariants.{Linked};
 ghost use Rattle.queue_law.specs.Pushes.{carried_item};
 ghost use Rattle.part_calls.specs.Parts.{HasBeside, StaysBeside, as_part, seen_by};
 ghost use Rattle.queue_law.specs.Views.{first_view};
 ghost use Rattle.linked_queue.specs.Leaving.{Leaves, handle_by, with_found};
 ghost use Rattle.linked_queue.specs.Pops.{item_in};
-ghost use Rattle.linked_queue.specs.Pushes.{HasLoad, LoadsNode, PushesBy, PushesCopy, PushesNode, IsWhyRefused, IsWhyUnlinked, IsWhyUnpushed, Pushes, PushesNothing, back_of, pushed_too};
-ghost use Rattle.linked_queue.specs.NotPushed.{IsWhyNotPushed};
+ghost use Rattle.linked_queue.specs.Pushes.{HasLoad, LoadsNode, PushesBy, PushesCopy, PushesNode, IsWhyRefused, IsWhyUnlinked, IsWhyUnpushed, Pushes, PushesNothing, UsesNone, back_of, cause_of, pushed_too};
+ghost use Rattle.linked_queue.specs.NotPushed.{IsWhyNotPushed, cause_in};
 ghost use Rattle.linked_queue.specs.Queues.{IsAttached, IsQueueOf, deeds_in};
 
 use crate::carrying::carry;
@@ -33,9 +35,10 @@ use slot_store::MakeError;
 
 impl LinkedQueue {
     /// Appends an item to the queue, in one try, and gives the seat's reference to it. `Again` where another seat was
-    /// quicker, and `Refused` with the causes of `make`; `AddsSpent` may come of a later increment of the call, and at
-    /// most five adds were left. Then nothing is pushed, and the item is handed back; a node that was made is given
-    /// up. At most 50 steps more than there are slots, and four collects.
+    /// quicker, and `Refused` with the causes of `make`; `AddsSpent` may come of a later increment of the call, at most
+    /// five adds were left, and none is left then. Where it is refused nothing is pushed, and the item is handed back;
+    /// a node that was made is given up. One make at most, and none where `make` has refused for the makes or the
+    /// slots. At most 50 steps more than there are slots, and four collects.
     pub fn try_push<S, P: HasQueue<S>>(
         &self,
         domain: &Domain<P>,
@@ -62,6 +65,12 @@ impl LinkedQueue {
         ensures why { IfErr result
             (λ error. IsWhyUnpushed P.Kind.fits (as_part P.part domain.now) error
             (seen_by P.seen seat.old)) }
+        ensures spent { IfErr result (λ error. cause_of error ≡ Some refused.AddsSpent
+            → IsSpent seat.new.view.core) }
+        ensures makes { seat.new.view.core.makes ≤ seat.old.view.core.makes + 1 }
+        ensures makes_kept { seat.old.view.core.makes ≤ seat.new.view.core.makes }
+        ensures unmade { IfErr result
+            (λ error. UsesNone (cause_of error) seat.old.view.core seat.new.view.core) }
         ensures attached { IsAttached (P.seen seat.new.view.client) }
         ensures beside { StaysBeside P.seen P.with_seen seat.old seat.new }
         ensures room { HasRoom seat.new.view.core }
@@ -98,6 +107,12 @@ fn push_item<S, P: HasQueue<S>>(
     ensures why { IfErr result
         (λ error. IsWhyUnpushed P.Kind.fits (as_part P.part domain.now) error
         (seen_by P.seen seat.old)) }
+    ensures spent { IfErr result (λ error. cause_of error ≡ Some refused.AddsSpent
+        → IsSpent seat.new.view.core) }
+    ensures makes { seat.new.view.core.makes ≤ seat.old.view.core.makes + 1 }
+    ensures makes_kept { seat.old.view.core.makes ≤ seat.new.view.core.makes }
+    ensures unmade { IfErr result
+        (λ error. UsesNone (cause_of error) seat.old.view.core seat.new.view.core) }
     ensures beside_part { HasBeside P.with_seen first_view seat.old seat.new }
     ensures room { HasRoom seat.new.view.core }
     ensures rest { IsAtRest domain.now seat.new }
@@ -151,6 +166,12 @@ fn push_copy<S, P: HasQueue<S>>(
     ensures why { IfErr result
         (λ not. IsWhyNotPushed P.Kind.fits (as_part P.part domain.now) not
         (seen_by P.seen seat.old)) }
+    ensures spent { IfErr result (λ not. cause_in not ≡ Some refused.AddsSpent
+        → IsSpent seat.new.view.core) }
+    ensures makes { seat.new.view.core.makes ≤ seat.old.view.core.makes + 1 }
+    ensures makes_kept { seat.old.view.core.makes ≤ seat.new.view.core.makes }
+    ensures unmade { IfErr result
+        (λ not. UsesNone (cause_in not) seat.old.view.core seat.new.view.core) }
     ensures beside_part { HasBeside P.with_seen first_view seat.old seat.new }
     ensures room { HasRoom seat.new.view.core }
     ensures rest { IsAtRest domain.now seat.new }
@@ -189,6 +210,11 @@ pub(crate) fn load_node<S, P: HasQueue<S>>(
     ensures why { IfErr result
         (λ error. IsWhyRefused P.Kind.fits (as_part P.part domain.now) 1 error
         (seen_by P.seen seat.old)) }
+    ensures spent { IfErr result (λ error. error ≡ refused.AddsSpent → IsSpent seat.new.view.core) }
+    ensures makes { seat.new.view.core.makes ≤ seat.old.view.core.makes + 1 }
+    ensures makes_kept { seat.old.view.core.makes ≤ seat.new.view.core.makes }
+    ensures unmade { IfErr result
+        (λ error. UsesNone (Some error) seat.old.view.core seat.new.view.core) }
     ensures beside_part { HasBeside P.with_seen first_view seat.old seat.new }
     ensures room { HasRoom seat.new.view.core }
     ensures rest { IsAtRest domain.now seat.new }
@@ -226,11 +252,13 @@ fn push_node<S, P: HasQueue<S>>(
         (deeds_in (P.seen seat.old.view.client))) }
     ensures refused { OnErr result (deeds_in (P.seen seat.new.view.client)
         ≡ deeds_in (P.seen seat.old.view.client)) }
+    ensures makes { seat.new.view.core.makes ≡ seat.old.view.core.makes }
     ensures leaves { Leaves (without node.slot seat.old.view.core.owned) (seen_by P.seen seat.old)
         (seen_by P.seen seat.new) }
     ensures why { IfErr result
         (λ error. IsWhyUnlinked P.Kind.fits (as_part P.part domain.now) 3 error
         (seen_by P.seen seat.old)) }
+    ensures spent { IfErr result (λ error. error ≡ unloaded.Spent → IsSpent seat.new.view.core) }
     ensures beside_part { HasBeside P.with_seen first_view seat.old seat.new }
     ensures room { HasRoom seat.new.view.core }
     ensures rest { IsAtRest domain.now seat.new }

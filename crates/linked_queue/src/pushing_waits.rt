@@ -1,18 +1,18 @@
 //! A push that tries again until no other seat is quicker. It keeps its one node through its tries.
-ghost use Rattle.std.specs.Prelude.{◌≡◌, ◌<◌, IfErr, IfOk, OnErr};
+ghost use Rattle.std.specs.Prelude.{◌≡◌, ◌<◌, ◌≤◌, ◌+◌, IfErr, IfOk, OnErr, Some};
 ghost use Rattle.plain_state.specs.Lists.{times};
 ghost use Rattle.core_events.specs.Steps.{HasRoom};
 ghost use Rattle.core_events.specs.Views.{without};
-ghost use Rattle.control_word.specs.Resting.{IsAtRest};
+ghost use Rattle.control_word.specs.Resting.{IsAtRest, IsSpent};
 ghost use Rattle.queue_law.specs.declared.view.Form.TheVariants.{Linked};
 ghost use Rattle.queue_law.specs.Pushes.{carried_item};
 ghost use Rattle.queue_law.specs.Views.{first_view};
 ghost use Rattle.part_calls.specs.Parts.{HasBeside, StaysBeside, as_part, seen_by};
 ghost use Rattle.linked_queue.specs.Leaving.{Leaves, handle_by, with_found};
 ghost use Rattle.linked_queue.specs.Pops.{item_in};
-ghost use Rattle.linked_queue.specs.Pushes.{HasLoad, Pushes, PushesNothing, SeesBehind, pushed_too};
+ghost use Rattle.linked_queue.specs.Pushes.{HasLoad, Pushes, PushesNothing, SeesBehind, UsesNone, pushed_too};
 ghost use Rattle.linked_queue.specs.Queues.{IsAttached, IsQueueOf, beside_eyes, deeds_in};
-ghost use Rattle.linked_queue.specs.Waits.{IsWhyNeverPushed, LinksAtLast, LinksTooFew, PushesAtLast, PushesNodeAtLast};
+ghost use Rattle.linked_queue.specs.Waits.{IsWhyNeverPushed, LinksAtLast, PushesAtLast, PushesNodeAtLast};
 
 use crate::chaining::link_last;
 use crate::linking::advance;
@@ -30,8 +30,9 @@ use std::sync::Wait;
 impl LinkedQueue {
     /// Appends an item to the queue, and gives the seat's reference to it. It tries again as long as another seat is
     /// quicker, with the node that it made first, so it may wait for other threads. It is refused with the causes of
-    /// `make`; `AddsSpent` may come of a later increment of the call, and at most three adds were left at the last try
-    /// then. Then nothing is pushed, and the item is handed back.
+    /// `make`; `AddsSpent` may come of a later increment of the call, and no add is left then. Where it is refused
+    /// nothing is pushed, and the item is handed back. One make at most, and none where `make` has refused for the
+    /// makes or the slots.
     pub fn push<S, P: HasQueue<S>, R: Wait>(
         &self,
         rt: &R,
@@ -54,7 +55,12 @@ impl LinkedQueue {
             (seen_by P.seen seat.new)) }
         ensures back { IfErr result (λ refused. refused.back ≡ item) }
         ensures why { IfErr result (λ refused. IsWhyNeverPushed P.Kind.fits
-            (as_part P.part domain.now) item.slot refused.why (seen_by P.seen seat.old)) }
+            (as_part P.part domain.now) refused.why (seen_by P.seen seat.old)
+            (seen_by P.seen seat.new)) }
+        ensures makes { seat.new.view.core.makes ≤ seat.old.view.core.makes + 1 }
+        ensures makes_kept { seat.old.view.core.makes ≤ seat.new.view.core.makes }
+        ensures unmade { IfErr result
+            (λ refused. UsesNone (Some refused.why) seat.old.view.core seat.new.view.core) }
         ensures attached { IsAttached (P.seen seat.new.view.client) }
         ensures beside { StaysBeside P.seen P.with_seen seat.old seat.new }
         ensures room { HasRoom seat.new.view.core }
@@ -102,9 +108,10 @@ fn push_at_last<S, P: HasQueue<S>, R: Wait>(
         (deeds_in (P.seen seat.old.view.client))) }
     ensures refused { OnErr result (deeds_in (P.seen seat.new.view.client)
         ≡ deeds_in (P.seen seat.old.view.client)) }
+    ensures makes { seat.new.view.core.makes ≡ seat.old.view.core.makes }
     ensures leaves { Leaves (without node.slot seat.old.view.core.owned)
         (seen_by P.seen seat.old) (seen_by P.seen seat.new) }
-    ensures why { IfErr result (λ spent. LinksTooFew 3 (seen_by P.seen seat.old)) }
+    ensures why { OnErr result (IsSpent seat.new.view.core) }
     ensures beside_part { HasBeside P.with_seen first_view seat.old seat.new }
     ensures room { HasRoom seat.new.view.core }
     ensures rest { IsAtRest domain.now seat.new }
@@ -148,9 +155,10 @@ fn link_at_last<S, P: HasQueue<S>, R: Wait>(
         (seen_by P.seen seat.new)) }
     ensures refused { OnErr result (beside_eyes (P.seen seat.new.view.client)
         ≡ beside_eyes (P.seen seat.old.view.client)) }
+    ensures makes { seat.new.view.core.makes ≡ seat.old.view.core.makes }
     ensures leaves { Leaves (with_found (handle_by result) seat.old.view.core.owned)
         (seen_by P.seen seat.old) (seen_by P.seen seat.new) }
-    ensures why { IfErr result (λ spent. LinksTooFew 3 (seen_by P.seen seat.old)) }
+    ensures why { OnErr result (IsSpent seat.new.view.core) }
     ensures beside_part { HasBeside P.with_seen first_view seat.old seat.new }
     ensures room { HasRoom seat.new.view.core }
     ensures rest { IsAtRest domain.now seat.new }

@@ -4,7 +4,8 @@ ghost use Rattle.std.specs.Prelude.{◌≡◌, ◌≢◌, ◌<◌, ◌≤◌, �
 ghost use Rattle.plain_state.specs.declared.act.EventPlace.TheVariants.{Cell, Field};
 ghost use Rattle.core_events.specs.Steps.{HasRoom};
 ghost use Rattle.atomic_shared.specs.Places.{named};
-ghost use Rattle.control_word.specs.Resting.{IsAtRest};
+ghost use Rattle.control_word.specs.Resting.{IsAtRest, IsSpent};
+ghost use Rattle.counted_handles.specs.declared.refusal.LoadError.TheVariants as unloaded;
 ghost use Rattle.protected_loads.specs.References.{Loads, Refers};
 ghost use Rattle.queue_law.specs.Lessons.{ItemTells, NextTells, item_next, learn_next, next_next};
 ghost use Rattle.part_calls.specs.Parts.{HasBeside, as_part, seen_by};
@@ -39,11 +40,13 @@ pub(crate) fn see_head<S, P: HasQueue<S>>(
     ensures adds { seat.new.view.core.adds ≤ seat.old.view.core.adds + 1 }
     ensures beside { beside_eyes (P.seen seat.new.view.client)
         ≡ beside_eyes (P.seen seat.old.view.client) }
+    ensures makes { seat.new.view.core.makes ≡ seat.old.view.core.makes }
     ensures leaves { Leaves (with_found (handle_by result) seat.old.view.core.owned)
         (seen_by P.seen seat.old) (seen_by P.seen seat.new) }
     ensures why { IfErr result
         (λ error. IsWhyUnloaded P.Kind.fits (as_part P.part domain.now) error
         (seen_by P.seen seat.old)) }
+    ensures spent { IfErr result (λ error. error ≡ unloaded.Spent → IsSpent seat.new.view.core) }
     ensures beside_part { HasBeside P.with_seen first_view seat.old seat.new }
     ensures room { HasRoom seat.new.view.core }
     ensures rest { IsAtRest domain.now seat.new }
@@ -76,11 +79,13 @@ fn load_head<S, P: HasQueue<S>>(
     ensures adds { seat.new.view.core.adds ≤ seat.old.view.core.adds + 1 }
     ensures beside { beside_eyes (P.seen seat.new.view.client)
         ≡ beside_eyes (P.seen seat.old.view.client) }
+    ensures makes { seat.new.view.core.makes ≡ seat.old.view.core.makes }
     ensures leaves { Leaves (with_found (found_by result) seat.old.view.core.owned)
         (seen_by P.seen seat.old) (seen_by P.seen seat.new) }
     ensures why { IfErr result
         (λ error. IsWhyUnloaded P.Kind.fits (as_part P.part domain.now) error
         (seen_by P.seen seat.old)) }
+    ensures spent { IfErr result (λ error. error ≡ unloaded.Spent → IsSpent seat.new.view.core) }
     ensures beside_part { HasBeside P.with_seen first_view seat.old seat.new }
     ensures room { HasRoom seat.new.view.core }
     ensures rest { IsAtRest domain.now seat.new }
@@ -110,11 +115,13 @@ pub(crate) fn see_next<S, P: HasQueue<S>>(
     ensures adds { seat.new.view.core.adds ≤ seat.old.view.core.adds + 1 }
     ensures beside { beside_eyes (P.seen seat.new.view.client)
         ≡ beside_eyes (P.seen seat.old.view.client) }
+    ensures makes { seat.new.view.core.makes ≡ seat.old.view.core.makes }
     ensures leaves { Leaves (with_found (found_by result) seat.old.view.core.owned)
         (seen_by P.seen seat.old) (seen_by P.seen seat.new) }
     ensures why { IfErr result
         (λ error. IsWhyUnloaded P.Kind.fits (as_part P.part domain.now) error
         (seen_by P.seen seat.old)) }
+    ensures spent { IfErr result (λ error. error ≡ unloaded.Spent → IsSpent seat.new.view.core) }
     ensures beside_part { HasBeside P.with_seen first_view seat.old seat.new }
     ensures room { HasRoom seat.new.view.core }
     ensures rest { IsAtRest domain.now seat.new }
@@ -142,11 +149,13 @@ pub(crate) fn see_item<S, P: HasQueue<S>>(
     ensures adds { seat.new.view.core.adds ≤ seat.old.view.core.adds + 1 }
     ensures beside { beside_eyes (P.seen seat.new.view.client)
         ≡ beside_eyes (P.seen seat.old.view.client) }
+    ensures makes { seat.new.view.core.makes ≡ seat.old.view.core.makes }
     ensures leaves { Leaves (with_found (found_by result) seat.old.view.core.owned)
         (seen_by P.seen seat.old) (seen_by P.seen seat.new) }
     ensures why { IfErr result
         (λ error. IsWhyUnloaded P.Kind.fits (as_part P.part domain.now) error
         (seen_by P.seen seat.old)) }
+    ensures spent { IfErr result (λ error. error ≡ unloaded.Spent → IsSpent seat.new.view.core) }
     ensures beside_part { HasBeside P.with_seen first_view seat.old seat.new }
     ensures room { HasRoom seat.new.view.core }
     ensures rest { IsAtRest domain.now seat.new }

@@ -2,7 +2,8 @@
 ghost use Rattle.std.specs.Prelude.{◌≡◌, ◌<◌, IfErr, IfOk, OnErr, None, Some};
 ghost use Rattle.plain_state.specs.declared.act.EventPlace.TheVariants.{Cell, Field};
 ghost use Rattle.core_events.specs.Steps.{HasRoom};
-ghost use Rattle.control_word.specs.Resting.{IsAtRest};
+ghost use Rattle.control_word.specs.Resting.{IsAtRest, IsSpent};
+ghost use Rattle.linked_queue.specs.declared.queue.PopError.TheVariants as unpopped;
 ghost use Rattle.retiring_stores.specs.Exchanging.{Stores};
 ghost use Rattle.queue_law.specs.Lessons.{TellsNothing};
 ghost use Rattle.queue_law.specs.Pops.{empty_next};
@@ -57,8 +58,10 @@ pub(crate) fn take<S, P: HasQueue<S>>(
     ensures why { IfErr result
         (λ error. IsWhyUnpopped P.Kind.fits (as_part P.part domain.now) 0 error
         (seen_by P.seen seat.old)) }
+    ensures makes { seat.new.view.core.makes ≡ seat.old.view.core.makes }
     ensures leaves { Leaves seat.old.view.core.owned (seen_by P.seen seat.old)
         (seen_by P.seen seat.new) }
+    ensures spent { IfErr result (λ error. error ≡ unpopped.Spent → IsSpent seat.new.view.core) }
     ensures beside_part { HasBeside P.with_seen first_view seat.old seat.new }
     ensures room { HasRoom seat.new.view.core }
     ensures rest { IsAtRest domain.now seat.new }
@@ -96,6 +99,7 @@ pub(crate) fn empty<S, P: HasQueue<S>>(domain: &Domain<P>, seat: &mut Seat<P>, d
         TellsNothing
         (Field dummy 1) None (seen_by P.seen seat.old) (seen_by P.seen seat.new) }
     ensures client { (P.seen seat.new.view.client) ≡ (P.seen seat.old.view.client) }
+    ensures makes { seat.new.view.core.makes ≡ seat.old.view.core.makes }
     ensures leaves { Leaves seat.old.view.core.owned (seen_by P.seen seat.old)
         (seen_by P.seen seat.new) }
     ensures beside_part { HasBeside P.with_seen first_view seat.old seat.new }
@@ -124,6 +128,7 @@ pub(crate) fn look_again<S, P: HasQueue<S>>(
     ensures looks { LooksAgain P.Kind.fits (as_part P.part domain.now) result
         (seen_by P.seen seat.old) (seen_by P.seen seat.new) }
     ensures client { (P.seen seat.new.view.client) ≡ (P.seen seat.old.view.client) }
+    ensures makes { seat.new.view.core.makes ≡ seat.old.view.core.makes }
     ensures leaves { Leaves seat.old.view.core.owned (seen_by P.seen seat.old)
         (seen_by P.seen seat.new) }
     ensures beside_part { HasBeside P.with_seen first_view seat.old seat.new }

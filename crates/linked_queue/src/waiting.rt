@@ -1,15 +1,15 @@
 //! Calls that try again until no other seat is quicker.
-ghost use Rattle.std.specs.Prelude.{◌≡◌, ◌<◌, IfErr, IfOk, IfSome};
+ghost use Rattle.std.specs.Prelude.{◌≡◌, ◌<◌, IfOk, IfSome, OnErr};
 ghost use Rattle.plain_state.specs.Lists.{times};
 ghost use Rattle.core_events.specs.Steps.{HasRoom};
 ghost use Rattle.atomic_shared.specs.Places.{named};
-ghost use Rattle.control_word.specs.Resting.{IsAtRest};
+ghost use Rattle.control_word.specs.Resting.{IsAtRest, IsSpent};
 ghost use Rattle.part_calls.specs.Parts.{StaysBeside, as_part, seen_by};
 ghost use Rattle.linked_queue.specs.Attaching.{attached_in};
 ghost use Rattle.linked_queue.specs.Leaving.{Leaves, found_by};
 ghost use Rattle.linked_queue.specs.Pops.{Pops};
 ghost use Rattle.linked_queue.specs.Queues.{IsAttached, IsQueueOf};
-ghost use Rattle.linked_queue.specs.Waits.{AttachesAtLast, PopsAtLast, SpendsAtLast};
+ghost use Rattle.linked_queue.specs.Waits.{AttachesAtLast, PopsAtLast};
 
 use crate::queue::{LinkedQueue, PopError};
 use acquire_retire::{Domain, Seat};
@@ -20,7 +20,7 @@ use std::sync::Wait;
 
 impl LinkedQueue {
     /// Looks at the head cell until it finds a slot there, so it may wait for seat 0, which lays the queue. Then the
-    /// seat is attached, and may push and pop. One step for each look.
+    /// seat is attached, and may push and pop. One step for each look, and no make.
     pub fn attach<S, P: HasQueue<S>, R: Wait>(&self, rt: &R, domain: &Domain<P>, seat: &mut Seat<P>)
         requires rest { IsAtRest domain.now seat.old }
         requires room { HasRoom seat.old.view.core }
@@ -31,6 +31,7 @@ impl LinkedQueue {
             ≡ attached_in (P.seen seat.old.view.client) }
         ensures leaves { Leaves seat.old.view.core.owned (seen_by P.seen seat.old)
             (seen_by P.seen seat.new) }
+        ensures makes { seat.new.view.core.makes ≡ seat.old.view.core.makes }
         ensures beside { StaysBeside P.seen P.with_seen seat.old seat.new }
         ensures room { HasRoom seat.new.view.core }
         ensures rest { IsAtRest domain.now seat.new }
@@ -47,8 +48,8 @@ impl LinkedQueue {
 
     /// Takes the first item off the queue, and answers a reference to it. It tries again as long as another seat is
     /// quicker, so it may wait for other threads. `None` only where nothing was linked behind the head's node at a step
-    /// of this call, and `Spent` only where at most three adds were left at the last try. Then nothing is taken, and
-    /// the seat owns what it owned. At most 29 steps and two collects for each try.
+    /// of this call, and `Spent` only where no add is left: an increment of the last try found none. Then nothing is
+    /// taken, and the seat owns what it owned. No make. At most 29 steps and two collects for each try.
     pub fn pop<S, P: HasQueue<S>, R: Wait>(
         &self,
         rt: &R,
@@ -65,7 +66,8 @@ impl LinkedQueue {
             (seen_by P.seen seat.new) }
         ensures owned { IfOk result (λ found. IfSome found (λ item.
             0 < times item.slot seat.new.view.core.owned)) }
-        ensures why { IfErr result (λ spent. SpendsAtLast 3 (seen_by P.seen seat.old)) }
+        ensures why { OnErr result (IsSpent seat.new.view.core) }
+        ensures makes { seat.new.view.core.makes ≡ seat.old.view.core.makes }
         ensures attached { IsAttached (P.seen seat.new.view.client) }
         ensures beside { StaysBeside P.seen P.with_seen seat.old seat.new }
         ensures room { HasRoom seat.new.view.core }

@@ -1,5 +1,5 @@
 -- A reference that is copied before it is pushed.
-use Rattle.std.proofs.Common.{◌≡◌, ◌⊎◌, inl, inr, ⊎_elim, ℕ, ◌<◌, List, [], ◌∷◌, ◌++◌, refl, sym, ap, subst, arith}
+use Rattle.std.proofs.Common.{◌≡◌, ◌⊎◌, inl, inr, ⊎_elim, ℕ, ◌<◌, List, [], ◌∷◌, ◌++◌, refl, sym, ap, subst, arith, ◌≤◌, ◌+◌}
 use Rattle.std.specs.Prelude.{Err, Ok, OnErr, OnOk, Result}
 use Rattle.plain_state.specs.Lists.{times}
 use Rattle.core_events.specs.Views.{without}
@@ -10,6 +10,7 @@ use Rattle.linked_queue.specs.Queues.{IsAttached}
 use Rattle.slot_store.specs.declared.making.MakeError.{MakeError}
 use Rattle.words_law.specs.Known.{ForgetsNothing}
 use Rattle.word_lanes.specs.Counting.{Counts, UsesInterns}
+use Rattle.slot_store.specs.declared.making.MakeError.TheVariants as unmade
 use Rattle.word_lanes.specs.Whys.{IsWhyCopyStays, IsWhyNotOffered}
 use Rattle.plain_state.specs.declared.slot.SlotId.{SlotId}
 use Rattle.acquire_retire.specs.Calls.{IsSameView, same_view}
@@ -18,7 +19,7 @@ use Rattle.acquire_retire.specs.Seats.{SeatState}
 use Rattle.control_word.specs.Calls.{DropsStrong, GainsStrong, with_strong, without_strong}
 use Rattle.control_word.specs.Moves.{KnowsStill}
 use Rattle.core_events.specs.Steps.{HasRoom}
-use Rattle.control_word.specs.Resting.{IsAtRest}
+use Rattle.control_word.specs.Resting.{IsAtRest, IsSpent}
 use Rattle.directory_calls.proofs.Going.{leaves_core}
 use Rattle.directory_law.specs.declared.view.Ran.{Ran}
 use Rattle.directory_law.specs.Payloads.{IsText, Text}
@@ -29,6 +30,7 @@ use Rattle.words_law.specs.Views.{View}
 use Rattle.words_protocol.specs.declared.law.WordsLaw.{WordsLaw}
 use Rattle.word_lanes.specs.Ready.{IsReady, Owns, Shared}
 use Rattle.word_lanes.proofs.Kept.{gave_item, owns_back, owns_by, ready_by, uses_none, uses_then}
+use Rattle.core_events.specs.declared.view.CoreView.{CoreView}
 use Rattle.word_lanes.proofs.Offered.{texts}
 
 -- what a seat knows of the text of s, by its view and by the life and the payload of s
@@ -128,14 +130,36 @@ back_owns fits d t u a b c e r error bad is own first kept drops knows =
     owns_back t a.view.core.owned a b e first
     (subst (λ (x : SlotId). Owns (without x b.view.core.owned) b e) is last) (λ x. refl)
 
-pub copy_stays : (fits : List ℕ → Type 0) (d : DomainState WordsLaw) (s t : SlotId) → t ≡ s
-    → (a b : SeatState View) → GainsStrong fits d same_view IsSameView s a b → (why : MakeError)
-    → IsWhyNotOffered fits d t why b → IsWhyCopyStays fits d s why a
-copy_stays fits d s t is a b gains why not = record {
-  copied = b;
-  copies = gains;
-  not_offered = subst (λ (x : SlotId). IsWhyNotOffered fits d x why b) is not;
-}
+-- a record that wasn't offered isn't after a reference was given up
+pub offered_on : (fits : List ℕ → Type 0) (d : DomainState WordsLaw) (why : MakeError)
+    (a b c : SeatState View) → IsWhyNotOffered fits d why a b
+    → (IsSpent b.view.core → IsSpent c.view.core) → IsWhyNotOffered fits d why a c
+offered_on fits d unmade.MakesSpent a b c not spent = not
+offered_on fits d unmade.AddsSpent a b c not spent = spent not
+offered_on fits d unmade.Full a b c not spent = not
+
+pub copy_stays : (fits : List ℕ → Type 0) (d : DomainState WordsLaw) (s : SlotId)
+    (a b c e : SeatState View) → GainsStrong fits d same_view IsSameView s a b → (why : MakeError)
+    → IsWhyNotOffered fits d why b c → (IsSpent c.view.core → IsSpent e.view.core)
+    → IsWhyCopyStays fits d s why a e
+copy_stays fits d s a b c e gains why not spent =
+    record { copied = b; copies = gains; not_offered = offered_on fits d why b c e not spent }
+
+-- MAKES AND ADDS of a copy, a push and a drop
+copied_adds : (fits : List ℕ → Type 0) (d : DomainState WordsLaw) (s : SlotId) (a b : SeatState View)
+    → GainsStrong fits d same_view IsSameView s a b
+    → (b.view.core.adds ≡ a.view.core.adds + 1) × (b.view.core.makes ≡ a.view.core.makes)
+copied_adds fits d s a b gains =
+    (ap (λ (v : CoreView). v.adds) gains.core, ap (λ (v : CoreView). v.makes) gains.core)
+
+module _ (fits : List ℕ → Type 0) (d : DomainState WordsLaw) (s : SlotId) (a b c : SeatState View)
+    (gains : GainsStrong fits d same_view IsSameView s a b) where
+  pub copy_adds : b.view.core.adds ≤ c.view.core.adds → a.view.core.adds ≤ c.view.core.adds
+  copy_adds more = let one = (copied_adds fits d s a b gains).0 in omega arith
+
+  pub copy_makes : c.view.core.makes ≤ b.view.core.makes + 1
+      → c.view.core.makes ≤ a.view.core.makes + 1
+  copy_makes few = let none = (copied_adds fits d s a b gains).1 in omega arith
 
 -- no intern is used between a copy and a drop
 pub copy_interns : (a b c e : SeatState View) → b.view.client ≡ a.view.client

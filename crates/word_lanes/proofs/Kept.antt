@@ -101,9 +101,25 @@ spent_by : (e : Bool) (s : SlotId) (ms : List Move) (a b : SeatState View)
 spent_by true s ms a b core is = subst IsSpent (sym core) is
 spent_by false s ms a b core is = subst IsSpent (sym core) is
 
+counts_by : (e : Bool) (s : SlotId) (ms : List Move) (a b : SeatState View)
+    → b.view.core ≡ record (with_ended e s (without_strong s a.view.core)) {
+      trail = a.view.core.trail ++ ms;
+    }
+    → (b.view.core.adds ≡ a.view.core.adds) × (b.view.core.makes ≡ a.view.core.makes)
+counts_by true s ms a b core =
+    (ap (λ (v : CoreView). v.adds) core, ap (λ (v : CoreView). v.makes) core)
+counts_by false s ms a b core =
+    (ap (λ (v : CoreView). v.adds) core, ap (λ (v : CoreView). v.makes) core)
+
 pub spent_drop : (fits : List ℕ → Type 0) (d : DomainState WordsLaw) (s : SlotId)
     (a b : SeatState View) → DropsStrong fits d s a b → IsSpent a.view.core → IsSpent b.view.core
 spent_drop fits d s a b drops is = spent_by (ends drops.0) s _ a b drops.1.core is
+
+-- and has used as many adds and makes
+pub drop_counts : (fits : List ℕ → Type 0) (d : DomainState WordsLaw) (s : SlotId)
+    (a b : SeatState View) → DropsStrong fits d s a b
+    → (b.view.core.adds ≡ a.view.core.adds) × (b.view.core.makes ≡ a.view.core.makes)
+drop_counts fits d s a b drops = counts_by (ends drops.0) s _ a b drops.1.core
 
 -- the same references by another list
 pub owns_as : {os : List SlotId} (xs : List SlotId) (a b : SeatState View) → Owns os a b

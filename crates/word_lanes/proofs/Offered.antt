@@ -1,5 +1,5 @@
 -- A record that the seat knows may be pushed, and then counts as one word.
-use Rattle.std.proofs.Common.{◌≡◌, inl, inr, ⊎_elim, ℕ, List, [], ◌∷◌, ◌++◌, refl, sym, ap, subst, ◌∙◌}
+use Rattle.std.proofs.Common.{◌≡◌, inl, inr, ⊎_elim, ℕ, List, [], ◌∷◌, ◌++◌, refl, sym, ap, subst, ◌∙◌, ◌≤◌}
 use Rattle.std.specs.Prelude.{Err, IfOk, Ok, OnErr, OnOk, Result}
 use Rattle.plain_state.specs.declared.slot.SlotId.{SlotId}
 use Rattle.acquire_retire.specs.Seats.{SeatState}
@@ -137,3 +137,10 @@ module _ (old new : SeatState View) (same : new.view.client.1 ≡ old.view.clien
   offer_ready s (Err error) pushed nothing ready room rest attached =
       ready_by old new ready (owns_queue old new nothing.leaves) room rest attached
       (subst HasQuota (sym same) ready.quota)
+
+-- a push takes no add back
+pub push_adds : {T E : Type 0} (s : SlotId) (r : Result T E) (old new : SeatState QueueView)
+    → IfOk r (λ done. Pushes s old new) → OnErr r (PushesNothing old new)
+    → old.view.core.adds ≤ new.view.core.adds
+push_adds s (Ok done) old new pushed nothing = pushed.leaves.adds
+push_adds s (Err error) old new pushed nothing = nothing.leaves.adds

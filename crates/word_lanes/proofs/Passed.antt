@@ -20,8 +20,10 @@ use Rattle.word_lanes.specs.declared.refusal.PieceError.TheVariants as refused
 use Rattle.word_lanes.specs.Counting.{Counts, Takes}
 use Rattle.word_lanes.specs.Pieces.{CountsPiece, InternsFirst, IsWhyNotCounted, IsWhyNotPassed, PassesOn, used_of}
 use Rattle.word_lanes.specs.Ready.{Owns}
+use Rattle.word_lanes.specs.declared.refusal.LaneError.{LaneError}
+use Rattle.word_lanes.specs.declared.refusal.LaneError.TheVariants as lane
 use Rattle.word_lanes.specs.Whys.{FindsNoItem, IsWhyNotTaken}
-use Rattle.word_lanes.proofs.Copied.{knows_still}
+use Rattle.word_lanes.proofs.Copied.{knows_still, offered_on}
 use Rattle.word_lanes.proofs.Counted.{takes_later, takes_then}
 use Rattle.word_lanes.proofs.Offered.{texts}
 
@@ -29,6 +31,19 @@ use Rattle.word_lanes.proofs.Offered.{texts}
 pub ok_unless : {T E P : Type 0} (r : Result T E) → ((error : E) → ¬ (r ≡ Err error)) → OnOk r P → P
 ok_unless (Ok done) not is = is
 ok_unless (Err error) not is = absurd (not error refl)
+
+-- no word was counted, and then a reference was given up
+taken_on : (why : LaneError) (a b c : SeatState View) (before after : List (List ℕ × ℕ))
+    → IsWhyNotTaken why a b before after → c.view.client ≡ b.view.client
+    → (IsSpent b.view.core → IsSpent c.view.core) → IsWhyNotTaken why a c before after
+taken_on (lane.Refused why) a b c before after is same spent =
+    (is.0, spent is.1, subst (λ (v : View). Counts [] [] a.view.client v) (sym same) is.2, is.3)
+taken_on lane.OutOfMemory a b c before after is same spent = (
+  is.0,
+  subst (λ (v : View). Counts [] (is.0 ∷ []) a.view.client v) (sym same) is.1,
+  is.2,
+  is.3,
+)
 
 module _ (fits : List ℕ → Type 0) (d : DomainState WordsLaw) where
   -- a push and a take
@@ -93,7 +108,13 @@ module _ (fits : List ℕ → Type 0) (d : DomainState WordsLaw) where
           interned = b;
           first = first;
           why = (
-            ⊎_elim (λ none. inl (none.0, none.1, spent none.2)) (λ made. inr made) is.0,
+            ⊎_elim (λ none. inl (none.0, none.1, spent none.2))
+                (λ made. inr (record {
+                  copied = made.copied;
+                  copies = made.copies;
+                  not_offered = offered_on fits d why made.copied c e made.not_offered spent;
+                }))
+                is.0,
             subst (λ (v : View). Counts [] [] b.view.client v) (sym same) is.1,
             is.2,
           );
@@ -108,7 +129,7 @@ module _ (fits : List ℕ → Type 0) (d : DomainState WordsLaw) where
           why = (
             is.0,
             is.1,
-            subst (λ (v : View). IsWhyNotTaken why is.0 v before after) (sym same) is.2,
+            taken_on why is.0 c e before after is.2 same spent,
           );
         },
         refl,

@@ -17,14 +17,14 @@ use Rattle.counted_handles.specs.Handles.{Handle}
 use Rattle.core_events.specs.Steps.{HasRoom}
 use Rattle.core_events.specs.Views.{without}
 use Rattle.acquire_retire.specs.Domains.{DomainState}
-use Rattle.control_word.specs.Resting.{IsAtRest}
+use Rattle.control_word.specs.Resting.{IsAtRest, IsSpent}
 use Rattle.part_calls.specs.Parts.{seen_by}
 use Rattle.directory_calls.specs.Directories.{HasQuota}
 use Rattle.linked_queue.specs.Pops.{Pops}
 use Rattle.linked_queue.specs.Queues.{IsAttached}
 use Rattle.words_protocol.specs.declared.law.WordsLaw.{WordsLaw}
 use Rattle.slot_store.specs.declared.making.MakeError.TheVariants as unmade
-use Rattle.linked_queue.specs.Waits.{PopsAtLast, SpendsAtLast}
+use Rattle.linked_queue.specs.Waits.{PopsAtLast}
 use Rattle.queue_protocol.specs.declared.law.QueueLaw.{QueueLaw}
 use Rattle.word_lanes.specs.Counting.{Counts, OnlyReads, ReadsWord, Takes, TalliesIf, UsesInterns}
 use Rattle.word_lanes.specs.Ready.{HasPoppedIn, IsReady, Owns, Shared}
@@ -97,11 +97,11 @@ module _ (s : SlotId) (old mid : SeatState View)
 
       pub took_none : (error : E) → r ≡ Err error → {U : Type 0} (told : Result U LaneError)
           → IsErrAnd told (λ why. why ≡ refused.OutOfMemory)
-          → IfErr told (λ why. IsWhyNotTaken why old new.view.client before after)
+          → IfErr told (λ why. IsWhyNotTaken why old new before after)
       took_none error is (Ok x) told = tt
       took_none error is (Err why) told =
           let none = subst (λ (x : Result T E). TalliesIf x all.0 before after) is all.2 in
-          subst (λ (e : LaneError). IsWhyNotTaken e old new.view.client before after) (sym told)
+          subst (λ (e : LaneError). IsWhyNotTaken e old new before after) (sym told)
           (all.0, took all.0 all.1, none.0, none.1)
 
     pub took_interns : UsesInterns 0 old.view.client new.view.client
@@ -142,9 +142,9 @@ module _ (old new : SeatState View) (pops : Pops None (seen_by queues old) (seen
   none_counts t =
       record { words = []; number = refl; counts = none_popped; tallies = tallies_none t }
 
-  pub spent_so : SpendsAtLast 3 (seen_by queues old) → (t : List (List ℕ × ℕ))
-      → IsWhyNotTaken (refused.Refused unmade.AddsSpent) old new.view.client t t
-  spent_so few t = (record { is = refl; few = few }, none_popped, refl)
+  pub spent_so : IsSpent new.view.core → (t : List (List ℕ × ℕ))
+      → IsWhyNotTaken (refused.Refused unmade.AddsSpent) old new t t
+  spent_so spent t = (refl, spent, none_popped, refl)
 
   pub none_interns : UsesInterns 0 old.view.client new.view.client
   none_interns = uses_none old.view.client new.view.client (ap texts beside)

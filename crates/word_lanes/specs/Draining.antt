@@ -17,11 +17,11 @@ pub record StopsAtNone (fits : List ℕ → Type 0) (d : DomainState WordsLaw)
   pub finds : FindsNoItem fits d last new
 
 -- after it had popped some, fewer than this many, and counted their words, a take was refused
-pub record IsWhyNotDrained (most : ℕ) (error : LaneError) (old : SeatState View) (w : View)
+pub record IsWhyNotDrained (most : ℕ) (error : LaneError) (old new : SeatState View)
     (before after : List (List ℕ × ℕ)) : Type 0 where
   pub taken : ℕ
   pub fewer : taken < most
   pub last : SeatState View
   pub tally : List (List ℕ × ℕ)
   pub takes : Takes [] taken old.view.client last.view.client before tally
-  pub why : IsWhyNotTaken error last w tally after
+  pub why : IsWhyNotTaken error last new tally after

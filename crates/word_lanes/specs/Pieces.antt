@@ -79,7 +79,7 @@ module _ (fits : List ℕ → Type 0) (d : DomainState WordsLaw) where
       × (after ≡ before)
   IsWhyNotPassed word s (refused.Taking why) old new before after =
       (offered : SeatState View) × Counts (word ∷ []) [] old.view.client offered.view.client
-      × IsWhyNotTaken why offered new.view.client before after
+      × IsWhyNotTaken why offered new before after
 
   -- it was interned as some slot, which then wasn't passed on
   pub record StopsLater (piece : List ℕ) (error : PieceError) (old new : SeatState View)

@@ -10,7 +10,7 @@ use Rattle.cdrc_text.specs.Tally.{count_of}
 use Rattle.part_calls.specs.Parts.{as_part, seen_by}
 use Rattle.queue_law.specs.declared.view.View.{View as QueueView}
 use Rattle.queue_protocol.specs.declared.law.QueueLaw.{QueueLaw}
-use Rattle.linked_queue.specs.Waits.{IsWhyNeverPushed, PopsAtLast, SpendsAtLast}
+use Rattle.linked_queue.specs.Waits.{IsWhyNeverPushed, PopsAtLast}
 use Rattle.slot_store.specs.declared.making.MakeError.{MakeError}
 use Rattle.slot_store.specs.declared.making.MakeError.TheVariants as unmade
 use Rattle.words_law.specs.Views.{View}
@@ -27,37 +27,33 @@ abbrev pub of_queue : SeatState View → SeatState QueueView
 of_queue seat = seen_by (λ (v : View). v.0) seat
 
 module _ (fits : List ℕ → Type 0) (d : DomainState WordsLaw) where
-  -- why s wasn't pushed: no node could be made for it, or at most three adds were left at the last try
-  abbrev pub IsWhyNotOffered : SlotId → MakeError → SeatState View → Type 0
-  IsWhyNotOffered s why old = IsWhyNeverPushed fits (queue_of d) s why (of_queue old)
+  -- why a record wasn't pushed: no make was left, or no slot was free, or the seat has no add left by now
+  abbrev pub IsWhyNotOffered : MakeError → SeatState View → SeatState View → Type 0
+  IsWhyNotOffered why old new = IsWhyNeverPushed fits (queue_of d) why (of_queue old) (of_queue new)
 
   -- the seat counted one reference more to s, which then wasn't pushed
-  pub record IsWhyCopyStays (s : SlotId) (why : MakeError) (old : SeatState View) : Type 0 where
+  pub record IsWhyCopyStays (s : SlotId) (why : MakeError) (old new : SeatState View) : Type 0 where
     pub copied : SeatState View
     pub copies : GainsStrong fits d same_view IsSameView s old copied
-    pub not_offered : IsWhyNotOffered s why copied
+    pub not_offered : IsWhyNotOffered why copied new
 
   -- why no copy of s was pushed: no add was left for it, and none is, or it was made and wasn't pushed
   abbrev pub IsWhyNotCopied : SlotId → MakeError → SeatState View → SeatState View → Type 0
   IsWhyNotCopied s why old new =
       ((why ≡ unmade.AddsSpent) × IsSpent old.view.core × IsSpent new.view.core)
-      ⊎ IsWhyCopyStays s why old
+      ⊎ IsWhyCopyStays s why old new
 
   -- the seat popped nothing, and found nothing linked behind the head's node, at a step between these two states
   abbrev pub FindsNoItem : SeatState View → SeatState View → Type 0
   FindsNoItem old new = PopsAtLast fits (queue_of d) None (of_queue old) (of_queue new)
 
--- at most three adds were left at the last try of a pop
-pub record IsSpentAtLast (why : MakeError) (old : SeatState View) : Type 0 where
-  pub is : why ≡ unmade.AddsSpent
-  pub few : SpendsAtLast 3 (of_queue old)
-
--- Why no word was counted: nothing was popped, since the seat was spent. Or an item was popped whose word is a new one,
--- for which there was no memory. The tally is as it was.
-abbrev pub IsWhyNotTaken : LaneError → SeatState View → View → List (List ℕ × ℕ)
+-- Why no word was counted: nothing was popped, and the seat has no add left. Or an item was popped whose word is a new
+-- one, for which there was no memory. The tally is as it was.
+abbrev pub IsWhyNotTaken : LaneError → SeatState View → SeatState View → List (List ℕ × ℕ)
     → List (List ℕ × ℕ) → Type 0
-IsWhyNotTaken (refused.Refused why) old w before after =
-    IsSpentAtLast why old × Counts [] [] old.view.client w × (after ≡ before)
-IsWhyNotTaken refused.OutOfMemory old w before after =
-    (word : List ℕ) × Counts [] (word ∷ []) old.view.client w × (count_of before word ≡ 0)
-    × (after ≡ before)
+IsWhyNotTaken (refused.Refused why) old new before after =
+    (why ≡ unmade.AddsSpent) × IsSpent new.view.core
+    × Counts [] [] old.view.client new.view.client × (after ≡ before)
+IsWhyNotTaken refused.OutOfMemory old new before after =
+    (word : List ℕ) × Counts [] (word ∷ []) old.view.client new.view.client
+    × (count_of before word ≡ 0) × (after ≡ before)

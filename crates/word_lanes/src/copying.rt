@@ -1,5 +1,5 @@
 //! A copy of a reference to a record goes on the queue.
-ghost use Rattle.std.specs.Prelude.{◌<◌, ◌∷◌, [], IfErr, OnErr, OnOk};
+ghost use Rattle.std.specs.Prelude.{◌≤◌, ◌<◌, ◌+◌, ◌∷◌, [], IfErr, OnErr, OnOk};
 ghost use Rattle.plain_state.specs.Lists.{times};
 ghost use Rattle.directory_law.specs.Bytes.{text_bytes};
 ghost use Rattle.directory_law.specs.Payloads.{Text};
@@ -23,8 +23,8 @@ use std::sync::Wait;
 use words_protocol::WordsLaw;
 
 /// Pushes one reference more to a record whose text the seat knows, and keeps its own. It is refused as `offer` is, and
-/// besides with `AddsSpent` where the seat has no add left for that reference. Then it has pushed nothing. One add more
-/// than `offer`. It may wait for other threads.
+/// besides with `AddsSpent` where the seat has no add left for that reference. Then it has pushed nothing. One make at
+/// most, and one add more than `offer`. It may wait for other threads.
 pub fn offer_copy<R: Wait>(
     rt: &R,
     domain: &Domain<WordsLaw>,
@@ -43,6 +43,8 @@ pub fn offer_copy<R: Wait>(
     ensures why { IfErr result (λ why. IsWhyNotCopied
         ⟦<PairKind<NodeKind, RecordKind> as PayloadKind>⟧.fits domain.now handle.now.slot why
         seat.old seat.new) }
+    ensures makes { seat.new.view.core.makes ≤ seat.old.view.core.makes + 1 }
+    ensures adds { seat.old.view.core.adds ≤ seat.new.view.core.adds }
     ensures interns { UsesInterns 0 seat.old.view.client seat.new.view.client }
     ensures ready { IsReady domain.now shared.now seat.new }
 {

@@ -1,5 +1,6 @@
 //! What a lane does for one piece of its text.
-ghost use Rattle.std.specs.Prelude.{◌≡◌, ◌^◌, ◌<◌, ◌≤◌, [], ◌∷◌, Bool, true, IfErr, IfOk, OnOk, cond, length};
+ghost use Rattle.std.specs.Prelude.{◌≡◌, ◌^◌, ◌<◌, ◌≤◌, ◌+◌, [], ◌∷◌, Bool, true, IfErr, IfOk, OnOk, cond, length};
+ghost use Rattle.std.specs.Int.{div_ceil};
 ghost use Rattle.plain_state.specs.Lists.{times};
 ghost use Rattle.cdrc_text.specs.Tally.{total_of};
 ghost use Rattle.directory_calls.specs.Directories.{CanCount};
@@ -34,8 +35,9 @@ use words_protocol::WordsLaw;
 ///
 /// `Interning` comes with the cause of an intern, and then no intern is used and nothing pushed. `Offering` comes with
 /// the cause of `offer_copy`, and nothing is pushed then. `Taking` comes with the cause of `take_one`, and the piece
-/// was pushed then. After each the tally is as it was, and the seat owns what it owned. Its steps are those of an
-/// intern, an `offer_copy` and a `take_one`. It may wait for other threads.
+/// was pushed then. After each the tally is as it was, and the seat owns what it owned. One make for each 120 bytes and
+/// one more, at most. Its steps are those of an intern, an `offer_copy` and a `take_one`. It may wait for other
+/// threads.
 pub fn count_piece<R: Wait>(
     rt: &R,
     domain: &Domain<WordsLaw>,
@@ -59,6 +61,8 @@ pub fn count_piece<R: Wait>(
     ensures why { IfErr result (λ error. IsWhyNotCounted
         ⟦<PairKind<NodeKind, RecordKind> as PayloadKind>⟧.fits domain.now piece.now error
         seat.old seat.new tally.old tally.new) }
+    ensures makes { seat.new.view.core.makes
+        ≤ seat.old.view.core.makes + div_ceil (length piece.now) 120 + 1 }
     ensures interns { UsesInterns (used_by result) seat.old.view.client seat.new.view.client }
     ensures owns { Owns (with_found (handle_by result) seat.old.view.core.owned)
         seat.old seat.new }
@@ -99,6 +103,7 @@ fn pass_on<R: Wait>(
         → Knows (λ (v : View). v.1) handle.now.slot text seat.old
         → IsWhyNotPassed ⟦<PairKind<NodeKind, RecordKind> as PayloadKind>⟧.fits domain.now
         (text_bytes text) handle.now.slot error seat.old seat.new tally.old tally.new) }
+    ensures makes { seat.new.view.core.makes ≤ seat.old.view.core.makes + 1 }
     ensures interns { UsesInterns 0 seat.old.view.client seat.new.view.client }
     ensures owns { Owns seat.old.view.core.owned seat.old seat.new }
     ensures ready { IsReady domain.now shared.now seat.new }

@@ -1,5 +1,5 @@
 //! The items that are left are popped, and their words counted.
-ghost use Rattle.std.specs.Prelude.{◌^◌, ◌+◌, ◌≤◌, ◌<◌, [], IfErr, IfOk};
+ghost use Rattle.std.specs.Prelude.{◌≡◌, ◌^◌, ◌+◌, ◌≤◌, ◌<◌, [], IfErr, IfOk};
 ghost use Rattle.cdrc_text.specs.Tally.{total_of};
 ghost use Rattle.word_lanes.specs.Counting.{Takes, UsesInterns};
 ghost use Rattle.word_lanes.specs.Draining.{IsWhyNotDrained, StopsAtNone};
@@ -19,7 +19,7 @@ use words_protocol::WordsLaw;
 
 /// Pops items until it finds none linked, `most` at most, and counts their words. The answer is how many they were. A
 /// refusal is that of one `take_one`, after some that counted. It makes one `take_one` more than the answer, or `most`.
-/// It may wait for other threads.
+/// No make. It may wait for other threads.
 pub fn drain<R: Wait>(
     rt: &R,
     domain: &Domain<WordsLaw>,
@@ -36,8 +36,9 @@ pub fn drain<R: Wait>(
     ensures none { IfOk result (λ taken. taken < most
         → StopsAtNone ⟦<PairKind<NodeKind, RecordKind> as PayloadKind>⟧.fits domain.now
         seat.old seat.new) }
-    ensures why { IfErr result (λ error. IsWhyNotDrained most error seat.old
-        seat.new.view.client tally.old tally.new) }
+    ensures why { IfErr result (λ error. IsWhyNotDrained most error seat.old seat.new
+        tally.old tally.new) }
+    ensures makes { seat.new.view.core.makes ≡ seat.old.view.core.makes }
     ensures interns { UsesInterns 0 seat.old.view.client seat.new.view.client }
     ensures owns { Owns seat.old.view.core.owned seat.old seat.new }
     ensures ready { IsReady domain.now shared.now seat.new }

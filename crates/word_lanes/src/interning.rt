@@ -1,5 +1,6 @@
 //! The record of a piece.
-ghost use Rattle.std.specs.Prelude.{◌<◌, ◌≤◌, [], true, IfErr, IfOk, length};
+ghost use Rattle.std.specs.Prelude.{◌<◌, ◌≤◌, ◌+◌, [], true, IfErr, IfOk, length};
+ghost use Rattle.std.specs.Int.{div_ceil};
 ghost use Rattle.plain_state.specs.Lists.{times};
 ghost use Rattle.directory_calls.specs.Directories.{CanCount};
 ghost use Rattle.directory_calls.specs.Steps.{handle_by, with_found};
@@ -44,6 +45,8 @@ pub(crate) fn intern_piece<R: Wait>(
         ⟦<PairKind<NodeKind, RecordKind> as PayloadKind>⟧.fits domain.now piece.now why
         seat.old seat.new) }
     ensures counts { Counts [] [] seat.old.view.client seat.new.view.client }
+    ensures makes { seat.new.view.core.makes
+        ≤ seat.old.view.core.makes + div_ceil (length piece.now) 120 }
     ensures interns { UsesInterns (interned_by result) seat.old.view.client
         seat.new.view.client }
     ensures owns { Owns (with_found (handle_by result) seat.old.view.core.owned)

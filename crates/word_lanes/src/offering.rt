@@ -1,5 +1,5 @@
 //! A record goes on the queue.
-ghost use Rattle.std.specs.Prelude.{◌≡◌, ◌<◌, List, ℕ, [], ◌∷◌, IfErr, OnErr, OnOk};
+ghost use Rattle.std.specs.Prelude.{◌≡◌, ◌≤◌, ◌<◌, ◌+◌, List, ℕ, [], ◌∷◌, IfErr, OnErr, OnOk};
 ghost use Rattle.plain_state.specs.Lists.{times};
 ghost use Rattle.core_events.specs.Views.{without};
 ghost use Rattle.directory_law.specs.Bytes.{text_bytes};
@@ -23,8 +23,8 @@ use words_protocol::WordsLaw;
 
 /// Pushes a record whose text the seat knows, and gives the seat's reference to it. It is refused as a push is:
 /// `MakesSpent` where the seat has no make left, `Full` where each slot of the domain was found taken, `AddsSpent`
-/// where at most one add was left, or at most three at the last try. Then nothing is pushed, and the reference is
-/// handed back. Its steps are those of a push. It may wait for other threads.
+/// where no add is left. Then nothing is pushed, and the reference is handed back. One make at most. Its steps are
+/// those of a push. It may wait for other threads.
 pub fn offer<R: Wait>(
     rt: &R,
     domain: &Domain<WordsLaw>,
@@ -44,8 +44,10 @@ pub fn offer<R: Wait>(
     ensures refused { OnErr result (Counts [] [] seat.old.view.client seat.new.view.client) }
     ensures kept { OnErr result (Owns seat.old.view.core.owned seat.old seat.new) }
     ensures why { IfErr result (λ refused. IsWhyNotOffered
-        ⟦<PairKind<NodeKind, RecordKind> as PayloadKind>⟧.fits domain.now handle.slot refused.why
-        seat.old) }
+        ⟦<PairKind<NodeKind, RecordKind> as PayloadKind>⟧.fits domain.now refused.why
+        seat.old seat.new) }
+    ensures makes { seat.new.view.core.makes ≤ seat.old.view.core.makes + 1 }
+    ensures adds { seat.old.view.core.adds ≤ seat.new.view.core.adds }
     ensures interns { UsesInterns 0 seat.old.view.client seat.new.view.client }
     ensures ready { IsReady domain.now shared.now seat.new }
 {

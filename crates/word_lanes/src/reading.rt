@@ -22,6 +22,7 @@ pub(crate) fn begin_read(domain: &Domain<WordsLaw>, seat: &mut Seat<WordsLaw>, s
     ensures begun { seat.new.view.client ≡ begins (begun slot seat.new) seat.old.view.client }
     ensures head { IsHead (object_in seat.new.view slot).payload }
     ensures owned { seat.new.view.core.owned ≡ seat.old.view.core.owned }
+    ensures makes { seat.new.view.core.makes ≡ seat.old.view.core.makes }
     ensures owns { Owns seat.old.view.core.owned seat.old seat.new }
     ensures room { HasRoom seat.new.view.core }
     ensures rest { IsAtRest domain.now seat.new }

@@ -28,10 +28,10 @@ use text_reading::read_text;
 use words_protocol::WordsLaw;
 
 /// Pops an item, if one is linked, and counts its word. True exactly where it popped one; false only where nothing
-/// was linked behind the head's node at a step of the call. `Refused` is `AddsSpent`, and comes only where at most
-/// three adds were left at the last try; then nothing is popped. After `OutOfMemory` an item is popped whose word is a
-/// new one, and isn't counted. The tally is as it was after false and after a refusal. At most 29 steps and two
-/// collects for each try of the pop, and 700 steps more. It may wait for other threads.
+/// was linked behind the head's node at a step of the call. `Refused` is `AddsSpent`, and comes only where no
+/// add is left; then nothing is popped. After `OutOfMemory` an item is popped whose word is a new one, and isn't
+/// counted. The tally is as it was after false and after a refusal. No make. At most 29 steps and two collects for each
+/// try of the pop, and 700 steps more. It may wait for other threads.
 pub fn take_one<R: Wait>(
     rt: &R,
     domain: &Domain<WordsLaw>,
@@ -45,8 +45,9 @@ pub fn take_one<R: Wait>(
         seat.new.view.client tally.old tally.new) }
     ensures none { result ≡ Ok false → FindsNoItem
         ⟦<PairKind<NodeKind, RecordKind> as PayloadKind>⟧.fits domain.now seat.old seat.new }
-    ensures why { IfErr result (λ error. IsWhyNotTaken error seat.old seat.new.view.client
+    ensures why { IfErr result (λ error. IsWhyNotTaken error seat.old seat.new
         tally.old tally.new) }
+    ensures makes { seat.new.view.core.makes ≡ seat.old.view.core.makes }
     ensures interns { UsesInterns 0 seat.old.view.client seat.new.view.client }
     ensures owns { Owns seat.old.view.core.owned seat.old seat.new }
     ensures ready { IsReady domain.now shared.now seat.new }
@@ -77,6 +78,7 @@ fn tally_item(
     ensures counts { (word : List ℕ) × ReadsWord item.slot word seat.old seat.new
         × TalliesIf result word tally.old tally.new }
     ensures only { OnlyReads seat.old.view.client seat.new.view.client }
+    ensures makes { seat.new.view.core.makes ≡ seat.old.view.core.makes }
     ensures owns { Owns (without item.slot seat.old.view.core.owned) seat.old seat.new }
     ensures room { HasRoom seat.new.view.core }
     ensures rest { IsAtRest domain.now seat.new }
@@ -103,6 +105,7 @@ fn tally_slot(
         × TalliesIf result word tally.old tally.new }
     ensures only { OnlyReads seat.old.view.client seat.new.view.client }
     ensures owned { 0 < times slot seat.new.view.core.owned }
+    ensures makes { seat.new.view.core.makes ≡ seat.old.view.core.makes }
     ensures owns { Owns seat.old.view.core.owned seat.old seat.new }
     ensures room { HasRoom seat.new.view.core }
     ensures rest { IsAtRest domain.now seat.new }

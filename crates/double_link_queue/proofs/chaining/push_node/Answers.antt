@@ -1,6 +1,6 @@
 use Rattle.core_events.specs.Views.{without}
 use Rattle.part_calls.specs.Parts.{seen_by}
-use Rattle.linked_queue.proofs.Leavings.{drop_leaves}
+use Rattle.linked_queue.proofs.Leavings.{drop_leaves, drop_spent}
 use Rattle.double_link_queue.proofs.Owning.{both_of, gives_both, l_there, nothing_gives}
 use Rattle.double_link_queue.proofs.chaining.push_node.Goals as goal
 
@@ -37,3 +37,9 @@ returns-in-Err-clause-leaves g c =
     (both_of (without node mid.view.core.owned) mid new
     (drop_leaves node mid new c.drop_strong-in-Err.ensures.dropped
     c.drop_strong-in-Err.ensures.objects))
+
+pub returns-in-Err-clause-spent : goal.returns-in-Err-clause-spent
+returns-in-Err-clause-spent g c = λ is.
+    drop_spent c.args.node.slot (seen_by g.P.Part.seen c.take_last.new.seat)
+    (seen_by g.P.Part.seen c.drop_strong-in-Err.new.seat) c.drop_strong-in-Err.ensures.dropped
+    (c.in-Err.ensures.spent is)

@@ -9,7 +9,7 @@ use Rattle.queue_law.specs.Pushes.{carried_item}
 use Rattle.part_calls.specs.Parts.{seen_by}
 use Rattle.linked_queue.specs.Leaving.{Leaves, with_found}
 use Rattle.linked_queue.proofs.Accepting.{may_still}
-use Rattle.linked_queue.proofs.Leavings.{drop_leaves}
+use Rattle.linked_queue.proofs.Leavings.{drop_leaves, drop_spent}
 use Rattle.double_link_queue.specs.Pushes.{beside_back}
 use Rattle.double_link_queue.proofs.Backs.{load_kept}
 use Rattle.double_link_queue.proofs.Owning.{both_of, through_both}
@@ -63,3 +63,9 @@ returns-in-Err-take_tail-clause-load g c =
     (returns-in-Err-take_tail-clause-leaves g c)
     (ap beside_back c.drop_strong.ensures.seen ∙ c.in-Err-take_tail.ensures.refused
     ∙ ap beside_back c.load_tail.ensures.beside)
+
+pub returns-in-Err-take_tail-clause-spent : goal.returns-in-Err-take_tail-clause-spent
+returns-in-Err-take_tail-clause-spent g c = λ is.
+    drop_spent c.in-Ok-Some.last.slot (seen_by g.P.Part.seen c.take_tail.new.seat)
+    (seen_by g.P.Part.seen c.drop_strong.new.seat) c.drop_strong.ensures.dropped
+    (c.in-Err-take_tail.ensures.spent is)

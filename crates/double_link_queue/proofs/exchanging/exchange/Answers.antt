@@ -76,6 +76,7 @@ returns-in-Ok-try_replace g c =
       leaves = exchange_keeps fits d last node old copied c.requires.ready copies
           c.copy_strong.ensures.seen c.copy_strong.ensures.objects new still;
       why = tt;
+      spent = tt;
       room = c.try_replace.ensures.room;
       beside_part = c.try_replace.ensures.beside ∙ c.copy_strong.ensures.beside;
       rest = c.try_replace.ensures.rest;
@@ -116,6 +117,7 @@ returns g c =
       why = inr (inr (lost_tail fits d last node old copied c.requires.ready copies
           c.copy_strong.ensures.seen c.copy_strong.ensures.objects lost new c.in-Err.lost.now loses
           c.held_as.result c.held_as.ensures));
+      spent = λ is. absurd (cc (is));
       room = c.drop_strong.ensures.room c.try_replace.ensures.room;
       beside_part = c.drop_strong.ensures.beside ∙ c.try_replace.ensures.beside
           ∙ c.copy_strong.ensures.beside;

@@ -10,7 +10,9 @@ use Rattle.double_link_queue.specs.Pushes.{PushDiffers}
 use Rattle.linked_queue.proofs.CellLoads.{cell_seen, cell_sights, cell_there, not_null}
 use Rattle.linked_queue.proofs.Nodes.{sees_tail}
 use Rattle.counted_handles.specs.declared.place.Place.TheVariants as place
-use Rattle.double_link_queue.proofs.Making.{load_makes}
+use Rattle.linked_queue.proofs.Leavings.{spent_still}
+use Rattle.linked_queue.proofs.Making.{load_makes}
+use Rattle.counted_handles.specs.declared.refusal.LoadError.TheVariants as unloaded
 use Rattle.double_link_queue.proofs.exchanging.load_tail.Goals as goal
 
 pub returns : goal.returns
@@ -55,6 +57,9 @@ returns g c =
       beside = all.0.1;
       leaves = all.0.2;
       why = all.1;
+      spent = spent_still unloaded.Spent c.try_load.result (seen_by g.P.Part.seen c.args.seat.now)
+          (seen_by g.P.Part.seen c.try_load.new.seat) (λ e. ap (seen_by g.P.Part.seen) (c.try_load.ensures.refused e))
+          c.try_load.ensures.spent.0;
       room = c.try_load.ensures.room c.requires.room;
       beside_part = c.try_load.ensures.beside;
       rest = c.try_load.ensures.rest;

@@ -5,7 +5,7 @@ use Rattle.core_events.specs.Views.{without}
 use Rattle.counted_handles.specs.Handles.{Handle}
 use Rattle.part_calls.specs.Parts.{seen_by}
 use Rattle.linked_queue.specs.Leaving.{with_found}
-use Rattle.linked_queue.proofs.Leavings.{drop_leaves}
+use Rattle.linked_queue.proofs.Leavings.{drop_leaves, drop_spent}
 use Rattle.double_link_queue.specs.Leaving.{LeavesBoth}
 use Rattle.double_link_queue.proofs.Helps.{tail_through}
 use Rattle.double_link_queue.proofs.Owning.{both_of, through_both}
@@ -72,3 +72,9 @@ returns-in-Err-helped-clause-tail g c =
     (drop_leaves before late new c.drop_strong.ensures.dropped c.drop_strong.ensures.objects) in
     tail_through before c.args.last.now.slot old mid late new gains goes gives c.requires.tail
     c.help_at-helped.ensures.tail c.drop_strong.ensures.seen
+
+pub returns-in-Err-helped-clause-spent : goal.returns-in-Err-helped-clause-spent
+returns-in-Err-helped-clause-spent g c = λ is.
+    drop_spent c.in-Ok-Some.before.slot (seen_by g.P.Part.seen c.help_at-helped.new.seat)
+    (seen_by g.P.Part.seen c.drop_strong.new.seat) c.drop_strong.ensures.dropped
+    c.in-Err-helped.ensures.now_spent

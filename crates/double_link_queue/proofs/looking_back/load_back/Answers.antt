@@ -5,6 +5,8 @@ use Rattle.queue_law.specs.Lessons.{before_next}
 use Rattle.linked_queue.proofs.Accepting.{kept_all}
 use Rattle.double_link_queue.proofs.LooksBack.{before_ready, looked_back}
 use Rattle.double_link_queue.proofs.Making.{weak_load_makes}
+use Rattle.linked_queue.proofs.Leavings.{spent_still}
+use Rattle.counted_handles.specs.declared.refusal.LoadError.TheVariants as unloaded
 use Rattle.double_link_queue.proofs.looking_back.load_back.Goals as goal
 
 pub try_load_weak-requires-clause-deed : goal.try_load_weak-requires-clause-deed
@@ -41,6 +43,10 @@ returns g c =
       beside = all.0.1;
       leaves = all.0.2;
       why = all.1;
+      spent = spent_still unloaded.Spent c.try_load_weak.result
+          (seen_by g.P.Part.seen c.args.seat.now) (seen_by g.P.Part.seen c.try_load_weak.new.seat)
+          (λ e. ap (seen_by g.P.Part.seen) (c.try_load_weak.ensures.refused e))
+          c.try_load_weak.ensures.spent.0;
       room = c.try_load_weak.ensures.room c.requires.room;
       beside_part = c.try_load_weak.ensures.beside;
       rest = c.try_load_weak.ensures.rest;

@@ -1,4 +1,4 @@
-use Rattle.std.proofs.Common.{ap, ◌∙◌}
+use Rattle.std.proofs.Common.{ap, ◌∙◌, ◌≡◌}
 use Rattle.core_events.specs.Views.{without}
 use Rattle.queue_law.specs.declared.view.View.{View}
 use Rattle.part_calls.specs.Parts.{as_part, seen_by}
@@ -6,10 +6,13 @@ use Rattle.linked_queue.specs.Leaving.{found_by}
 use Rattle.linked_queue.specs.Queues.{beside_eyes}
 use Rattle.double_link_queue.specs.Pushes.{SeesBefore}
 use Rattle.double_link_queue.proofs.Backs.{tail_left}
-use Rattle.double_link_queue.proofs.Leavings.{drop_weak_leaves}
+use Rattle.double_link_queue.proofs.Leavings.{drop_weak_leaves, drop_weak_spent}
 use Rattle.double_link_queue.proofs.Owning.{found_gives}
 use Rattle.double_link_queue.proofs.Upgrades.{before_left}
 use Rattle.double_link_queue.proofs.Whys.{found_then}
+use Rattle.linked_queue.proofs.Leavings.{then_err}
+use Rattle.control_word.specs.Resting.{IsSpent}
+use Rattle.counted_handles.specs.declared.refusal.LoadError.TheVariants as unloaded
 use Rattle.double_link_queue.proofs.looking_back.upgrade_back.Goals as goal
 
 pub returns-clause-sees : goal.returns-clause-sees
@@ -54,3 +57,13 @@ returns-clause-leaves g c =
     found_gives back (found_by c.count_before-found.result) old mid new c.requires.back.owns
     c.count_before-found.ensures.leaves
     (drop_weak_leaves fits d back mid new c.drop_weak.ensures.dropped c.drop_weak.ensures.objects)
+
+pub returns-clause-spent : goal.returns-clause-spent
+returns-clause-spent g c =
+    then_err (λ error. error ≡ unloaded.Spent → IsSpent c.count_before-found.new.seat.view.core)
+    (λ error. error ≡ unloaded.Spent → IsSpent c.drop_weak.new.seat.view.core)
+    c.count_before-found.result
+    (λ error spent is. drop_weak_spent g.P.Kind.PayloadKind.fits (as_part g.P.Part.part c.args.domain.now)
+    c.args.back.slot (seen_by g.P.Part.seen c.count_before-found.new.seat)
+    (seen_by g.P.Part.seen c.drop_weak.new.seat) c.drop_weak.ensures.dropped (spent is))
+    c.count_before-found.ensures.spent

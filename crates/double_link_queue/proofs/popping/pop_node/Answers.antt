@@ -1,5 +1,5 @@
 use Rattle.part_calls.specs.Parts.{as_part, seen_by}
-use Rattle.std.proofs.Common.{◌≡◌, inr, ap, sym, subst}
+use Rattle.std.proofs.Common.{◌≡◌, inr, ap, sym, subst, ◌∙◌}
 use Rattle.std.specs.Prelude.{None, Option}
 use Rattle.plain_state.specs.declared.act.EventPlace.TheVariants.{Field}
 use Rattle.plain_state.specs.declared.slot.SlotId.{SlotId}
@@ -11,8 +11,8 @@ use Rattle.linked_queue.specs.declared.queue.PopError.{PopError}
 use Rattle.linked_queue.specs.Leaving.{Leaves, with_found}
 use Rattle.linked_queue.specs.Pops.{IsWhyUnpopped, item_in, popped_too}
 use Rattle.linked_queue.specs.Queues.{deeds_in, ends_of}
-use Rattle.linked_queue.proofs.Leavings.{drop_leaves}
-use Rattle.linked_queue.proofs.Poppings.{passed, pops_item, pops_through, why_of}
+use Rattle.linked_queue.proofs.Leavings.{drop_leaves, drop_spent}
+use Rattle.linked_queue.proofs.Poppings.{passed, pops_item, pops_through, why_of, spent_by}
 use Rattle.double_link_queue.proofs.popping.pop_node.Goals as goal
 
 pub returns-in-Ok-None-clause-why : goal.returns-in-Ok-None-clause-why
@@ -89,3 +89,13 @@ returns-clause-popped g c =
     ≡ popped_too (item_in after_see_item s) (deeds_in after_see_item.view.client))
     c.slot.ensures c.in_default.ensures.popped)
     c.empty.ensures.leaves c.empty.ensures.client
+
+pub returns-in-Err-clause-spent : goal.returns-in-Err-clause-spent
+returns-in-Err-clause-spent g c = λ is.
+    c.in-Err.ensures.spent (spent_by c.in-Err.error (sym c.refusal_of.ensures ∙ is))
+
+pub returns-in-Err-take-clause-spent : goal.returns-in-Err-take-clause-spent
+returns-in-Err-take-clause-spent g c = λ is.
+    drop_spent c.in-Ok-Some.item.slot (seen_by g.P.Part.seen c.take.new.seat)
+    (seen_by g.P.Part.seen c.drop_strong.new.seat) c.drop_strong.ensures.dropped
+    (c.in-Err-take.ensures.spent is)

@@ -14,10 +14,13 @@ use Rattle.core_invariant.proofs.Kit.{times_push}
 use Rattle.linked_queue.specs.Leaving.{Leaves}
 use Rattle.linked_queue.specs.Nodes.{HasNode}
 use Rattle.linked_queue.specs.Pops.{item_in}
-use Rattle.linked_queue.proofs.Leavings.{copy_leaves, drop_leaves, leaves_same}
+use Rattle.linked_queue.proofs.Leavings.{copy_leaves, drop_leaves, leaves_same, drop_spent}
 use Rattle.linked_queue.proofs.Owning.{has_owned, still_owned, through}
 use Rattle.linked_queue.proofs.Poppings.{item_still, leaves_on}
 use Rattle.linked_queue.proofs.Pushings.{left_of, node_still}
+use Rattle.acquire_retire.specs.Seats.{SeatState}
+use Rattle.control_word.specs.Resting.{IsSpent}
+use Rattle.queue_law.specs.declared.view.View.{View}
 use Rattle.double_link_queue.proofs.pushing.load_node.Goals as goal
 
 pub copy_strong-requires-clause-owned : goal.copy_strong-requires-clause-owned
@@ -116,3 +119,10 @@ returns-clause-events g c =
           after_carry)
           (λ i. (c.slot.ensures i, c.in-Ok.ensures.copied.0 i)) c.carry.ensures.stores;
     }
+
+pub returns-in_default-clause-spent : goal.returns-in_default-clause-spent
+returns-in_default-clause-spent g c = λ is.
+    drop_spent c.in_ok-node.node.slot (seen_by g.P.Part.seen c.copy_strong.new.seat)
+    (seen_by g.P.Part.seen c.drop_strong.new.seat) c.drop_strong.ensures.dropped
+    (subst (λ (z : SeatState View). IsSpent z.view.core)
+    (sym (ap (seen_by g.P.Part.seen) c.in_default.ensures.refused)) (c.in_default.ensures.spent.0 refl))

@@ -42,3 +42,9 @@ returns-in-Err-Spent-clause-leaves g c =
     through_both c.in-Ok.node.slot None old mid mid new
     (both_of (old.view.core.owned ++ c.in-Ok.node.slot ∷ []) old mid c.in-Ok.ensures.leaves)
     (both_same mid mid refl) c.push_node.ensures.leaves
+
+pub returns-in-Err-clause-spent : goal.returns-in-Err-clause-spent
+returns-in-Err-clause-spent g c = λ is. c.in-Err.ensures.spent (cc (is))
+
+pub returns-in-Err-Spent-clause-spent : goal.returns-in-Err-Spent-clause-spent
+returns-in-Err-Spent-clause-spent g c = λ is. c.in-Err-Spent.ensures.spent c.in-Err-Spent.field-0-is

@@ -48,3 +48,6 @@ loop-try-preserved g c =
       c.take_last.ensures.beside_part ∙ was.6,
       c.take_last.ensures.makes ∙ was.7,
     )
+
+pub returns-in-Err-Spent-clause-why : goal.returns-in-Err-Spent-clause-why
+returns-in-Err-Spent-clause-why g c = c.in-Err-Spent.ensures.spent c.in-Err-Spent.field-0-is

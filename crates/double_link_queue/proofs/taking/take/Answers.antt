@@ -76,6 +76,8 @@ returns-in-Ok-try_replace g c =
           replaces still;
       refused = tt;
       why = tt;
+      makes = search rules;
+      spent = tt;
       leaves = taken_leaves fits d c.args.sight.front c.args.sight.next
           c.args.sight.item before after_copy_strong c.requires.sees copies
           c.copy_strong.ensures.seen c.copy_strong.ensures.objects after_try_replace
@@ -122,6 +124,8 @@ returns g c =
           after_drop_strong) back c.drop_strong.ensures.dropped)
           (subst (λ (s : SlotId). KnowsStill (without_strong s c.try_replace.new.seat.view.core)
           after_try_replace after_drop_strong) back c.drop_strong.ensures.objects);
+      makes = search rules;
+      spent = λ is. absurd (cc (is));
       room = c.drop_strong.ensures.room c.try_replace.ensures.room;
       beside_part = c.drop_strong.ensures.beside ∙ c.try_replace.ensures.beside
           ∙ c.copy_strong.ensures.beside;

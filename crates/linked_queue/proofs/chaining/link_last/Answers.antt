@@ -1,14 +1,14 @@
 use Rattle.linked_queue.specs.Queues.{beside_eyes}
-use Rattle.std.proofs.Common.{◌≡◌, ◌<◌, [], ◌∷◌, ◌++◌, refl, ap, sym, ◌∙◌, subst, arith}
+use Rattle.std.proofs.Common.{[], ◌∷◌, ◌++◌, refl, ap, sym, ◌∙◌, subst, arith}
 use Rattle.std.specs.Prelude.{None}
 use Rattle.plain_state.specs.declared.slot.SlotId.{SlotId}
 use Rattle.core_events.specs.declared.view.CoreView.{CoreView}
-use Rattle.core_invariant.proofs.Kit.{one_same, times_push}
+use Rattle.core_invariant.proofs.Kit.{times_push}
 use Rattle.queue_law.specs.Pushes.{carried_item}
 use Rattle.part_calls.specs.Parts.{as_part, seen_by}
 use Rattle.linked_queue.specs.Pushes.{Links, SeesBehind}
 use Rattle.linked_queue.proofs.Accepting.{may_still}
-use Rattle.linked_queue.proofs.Leavings.{drop_leaves}
+use Rattle.linked_queue.proofs.Leavings.{drop_leaves, drop_spent, drop_makes}
 use Rattle.linked_queue.proofs.Linkings.{why_later}
 use Rattle.linked_queue.proofs.Owning.{through}
 use Rattle.linked_queue.proofs.Poppings.{leaves_on, some_found}
@@ -100,3 +100,15 @@ pub returns-clause-behind : goal.returns-clause-behind
 returns-clause-behind g c =
     subst (λ (s : SlotId). SeesBehind s c.args.node (seen_by g.P.Part.seen c.link.new.seat)) c.slot.ensures
     c.in_default.ensures.behind
+
+pub returns-in-Err-link-clause-spent : goal.returns-in-Err-link-clause-spent
+returns-in-Err-link-clause-spent g c = λ is.
+    drop_spent c.in-Ok.last.slot (seen_by g.P.Part.seen c.link.new.seat)
+    (seen_by g.P.Part.seen c.drop_strong.new.seat) c.drop_strong.ensures.dropped
+    (c.in-Err-link.ensures.spent is)
+
+pub returns-in-Err-link-clause-makes : goal.returns-in-Err-link-clause-makes
+returns-in-Err-link-clause-makes g c =
+    drop_makes c.in-Ok.last.slot (seen_by g.P.Part.seen c.link.new.seat)
+    (seen_by g.P.Part.seen c.drop_strong.new.seat) c.drop_strong.ensures.dropped
+    ∙ c.link.ensures.makes ∙ c.find_last.ensures.makes

@@ -1,10 +1,11 @@
-use Rattle.std.proofs.Common.{refl}
+use Rattle.std.proofs.Common.{ap, refl}
 use Rattle.queue_law.specs.Nodes.{make_next}
 use Rattle.linked_queue.proofs.Accepting.{kept_all}
 use Rattle.part_calls.specs.Parts.{as_part, seen_by}
+use Rattle.slot_store.specs.declared.making.MakeError.TheVariants as refused
 use Rattle.linked_queue.specs.Nodes.{HasNode}
 use Rattle.linked_queue.proofs.NewNodes.{made_node, node_ready}
-use Rattle.linked_queue.proofs.Leavings.{then_ok_both}
+use Rattle.linked_queue.proofs.Leavings.{spent_still, then_ok_both}
 use Rattle.linked_queue.proofs.laying.make_node.Goals as goal
 
 pub make-requires-clause-deed : goal.make-requires-clause-deed
@@ -23,3 +24,9 @@ make-requires-clause-accepted g c =
     kept_all g.P.Part.seen g.P.Part.suits g.met.P.HasQueue.accepts
     c.args.domain.now.protocol c.args.seat.now.view.client make_next
     (λ own after v a w. refl)
+
+pub returns-clause-spent : goal.returns-clause-spent
+returns-clause-spent g c =
+    spent_still refused.AddsSpent c.make.result (seen_by g.P.Part.seen c.args.seat.now)
+    (seen_by g.P.Part.seen c.make.new.seat)
+    (λ e. ap (seen_by g.P.Part.seen) (c.make.ensures.no_add e)) (λ e. (c.make.ensures.adds_spent.0 e).1)

@@ -12,8 +12,8 @@ use Rattle.linked_queue.specs.Cells.{TailTells}
 use Rattle.linked_queue.specs.Pushes.{Helps}
 use Rattle.linked_queue.specs.Queues.{ends_of}
 use Rattle.linked_queue.specs.Leaving.{Leaves, with_found}
-use Rattle.linked_queue.proofs.Leavings.{drop_leaves, leaves_same}
-use Rattle.linked_queue.proofs.Linkings.{drop_adds, tail_still}
+use Rattle.linked_queue.proofs.Leavings.{drop_adds, drop_leaves, drop_spent, leaves_same, drop_makes}
+use Rattle.linked_queue.proofs.Linkings.{tail_still}
 use Rattle.linked_queue.proofs.Owning.{through}
 use Rattle.linked_queue.proofs.Poppings.{leaves_on, some_found}
 use Rattle.linked_queue.proofs.linking.find_last.Goals as goal
@@ -110,12 +110,15 @@ returns-in-Ok g c =
       adds = let first = c.load_tail.ensures.adds in
           let second = c.see_behind.ensures.adds in
           let third = c.help-helped.ensures.adds in
-          let a = drop_adds g.P.Kind.PayloadKind.fits (as_part g.P.Part.part c.args.domain.now) c.in-Ok-Some.old.slot (seen_by g.P.Part.seen c.help-helped.new.seat)
+          let a = drop_adds c.in-Ok-Some.old.slot (seen_by g.P.Part.seen c.help-helped.new.seat)
           (seen_by g.P.Part.seen c.drop_strong-2.new.seat) c.drop_strong-2.ensures.dropped in
           omega arith;
       beside = search rules;
       leaves = all;
       why = tt;
+      makes = drop_makes c.in-Ok-Some.old.slot (seen_by g.P.Part.seen c.help-helped.new.seat) (seen_by g.P.Part.seen c.drop_strong-2.new.seat) c.drop_strong-2.ensures.dropped
+          ∙ c.help-helped.ensures.makes ∙ c.see_behind.ensures.makes ∙ c.load_tail.ensures.makes;
+      spent = tt;
       room = search rules;
       beside_part = c.drop_strong-2.ensures.beside ∙ c.help-helped.ensures.beside_part
           ∙ c.see_behind.ensures.beside_part ∙ c.load_tail.ensures.beside_part;
@@ -127,9 +130,9 @@ returns-in-Err-helped-clause-adds g c =
     let first = c.load_tail.ensures.adds in
     let second = c.see_behind.ensures.adds in
     let third = c.help-helped.ensures.adds in
-    let a = drop_adds g.P.Kind.PayloadKind.fits (as_part g.P.Part.part c.args.domain.now) c.in-Ok-Some.old.slot (seen_by g.P.Part.seen c.help-helped.new.seat)
+    let a = drop_adds c.in-Ok-Some.old.slot (seen_by g.P.Part.seen c.help-helped.new.seat)
     (seen_by g.P.Part.seen c.drop_strong-2.new.seat) c.drop_strong-2.ensures.dropped in
-    let b = drop_adds g.P.Kind.PayloadKind.fits (as_part g.P.Part.part c.args.domain.now) c.in-Ok-Some-see_behind.next.slot (seen_by g.P.Part.seen c.drop_strong-2.new.seat)
+    let b = drop_adds c.in-Ok-Some-see_behind.next.slot (seen_by g.P.Part.seen c.drop_strong-2.new.seat)
     (seen_by g.P.Part.seen c.drop_strong-in-Err-helped.new.seat) c.drop_strong-in-Err-helped.ensures.dropped in
     omega arith
 
@@ -174,3 +177,27 @@ returns-in-Ok-None-see_behind-clause-events g c = record {
         (λ i. (c.in-Ok-None-see_behind.field-0-is i, c.slot.ensures i)) c.in-Ok-None-see_behind.ensures.loads,
   );
 }
+
+pub returns-in-Err-see_behind-clause-spent : goal.returns-in-Err-see_behind-clause-spent
+returns-in-Err-see_behind-clause-spent g c = λ is.
+    drop_spent c.in-Ok-Some.old.slot (seen_by g.P.Part.seen c.see_behind.new.seat)
+    (seen_by g.P.Part.seen c.drop_strong.new.seat) c.drop_strong.ensures.dropped
+    (c.in-Err-see_behind.ensures.spent is)
+
+pub returns-in-Err-helped-clause-spent : goal.returns-in-Err-helped-clause-spent
+returns-in-Err-helped-clause-spent g c = λ is.
+    drop_spent c.in-Ok-Some-see_behind.next.slot (seen_by g.P.Part.seen c.drop_strong-2.new.seat)
+    (seen_by g.P.Part.seen c.drop_strong-in-Err-helped.new.seat)
+    c.drop_strong-in-Err-helped.ensures.dropped
+    (drop_spent c.in-Ok-Some.old.slot (seen_by g.P.Part.seen c.help-helped.new.seat)
+    (seen_by g.P.Part.seen c.drop_strong-2.new.seat) c.drop_strong-2.ensures.dropped
+    (c.in-Err-helped.ensures.spent is))
+
+pub returns-in-Err-helped-clause-makes : goal.returns-in-Err-helped-clause-makes
+returns-in-Err-helped-clause-makes g c =
+    drop_makes c.in-Ok-Some-see_behind.next.slot (seen_by g.P.Part.seen c.drop_strong-2.new.seat)
+    (seen_by g.P.Part.seen c.drop_strong-in-Err-helped.new.seat)
+    c.drop_strong-in-Err-helped.ensures.dropped
+    ∙ drop_makes c.in-Ok-Some.old.slot (seen_by g.P.Part.seen c.help-helped.new.seat)
+    (seen_by g.P.Part.seen c.drop_strong-2.new.seat) c.drop_strong-2.ensures.dropped
+    ∙ c.help-helped.ensures.makes ∙ c.see_behind.ensures.makes ∙ c.load_tail.ensures.makes

@@ -70,6 +70,8 @@ returns-in-Ok-try_replace g c =
           c.requires.tail c.requires.load copies c.copy_strong.ensures.seen
           c.copy_strong.ensures.objects (seen_by g.P.Part.seen c.try_replace.new.seat) still;
       why = tt;
+      makes = search rules;
+      spent = tt;
       room = c.try_replace.ensures.room;
       beside_part = c.try_replace.ensures.beside ∙ c.copy_strong.ensures.beside;
       rest = c.try_replace.ensures.rest;
@@ -93,6 +95,8 @@ returns g c =
       linked = tt;
       behind = tt;
       refused = search rules;
+      makes = search rules;
+      spent = λ is. absurd (cc (is));
       leaves = unlinked g.P.Kind.PayloadKind.fits (as_part g.P.Part.part c.args.domain.now) c.args.last c.args.node (seen_by g.P.Part.seen c.args.seat.now) (seen_by g.P.Part.seen c.copy_strong.new.seat)
           c.requires.tail c.requires.load copies c.copy_strong.ensures.seen
           c.copy_strong.ensures.objects (seen_by g.P.Part.seen c.try_replace.new.seat) (seen_by g.P.Part.seen c.drop_strong.new.seat) c.in-Err.lost.now loses

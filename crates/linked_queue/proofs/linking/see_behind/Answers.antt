@@ -13,6 +13,9 @@ use Rattle.linked_queue.specs.Pushes.{PushDiffers, SeesBehind, SeesTail}
 use Rattle.linked_queue.proofs.CellLoads.{found_sees}
 use Rattle.linked_queue.proofs.EndNodes.{sees_behind, still_tail}
 use Rattle.linked_queue.proofs.Sights.{sights}
+use Rattle.counted_handles.specs.declared.refusal.LoadError.TheVariants as unloaded
+use Rattle.linked_queue.proofs.Leavings.{spent_still}
+use Rattle.linked_queue.proofs.Making.{load_makes}
 use Rattle.linked_queue.proofs.linking.see_behind.Goals as goal
 
 pub returns : goal.returns
@@ -43,6 +46,13 @@ returns g c =
       beside = all.0.1;
       leaves = all.0.2;
       why = all.1;
+      makes = load_makes g.P.Kind.PayloadKind.fits (as_part g.P.Part.part c.args.domain.now)
+          (seen_by g.P.Part.seen c.args.seat.now) (seen_by g.P.Part.seen c.try_load.new.seat)
+          (place.Field c.args.old 0) c.try_load.result (λ e. ap (seen_by g.P.Part.seen) (c.try_load.ensures.refused e))
+          c.try_load.ensures.loaded c.try_load.ensures.moved;
+      spent = spent_still unloaded.Spent c.try_load.result (seen_by g.P.Part.seen c.args.seat.now)
+          (seen_by g.P.Part.seen c.try_load.new.seat) (λ e. ap (seen_by g.P.Part.seen) (c.try_load.ensures.refused e))
+          c.try_load.ensures.spent.0;
       room = c.try_load.ensures.room c.requires.room;
       beside_part = c.try_load.ensures.beside;
       rest = c.try_load.ensures.rest;

@@ -1,5 +1,5 @@
 use Rattle.part_calls.specs.Parts.{as_part, seen_by}
-use Rattle.std.proofs.Common.{ap, sym, subst}
+use Rattle.std.proofs.Common.{◌∙◌, ap, sym, subst}
 use Rattle.std.specs.Prelude.{None, Option, Some}
 use Rattle.plain_state.specs.declared.act.EventPlace.TheVariants.{Field}
 use Rattle.plain_state.specs.declared.slot.SlotId.{SlotId}
@@ -11,8 +11,8 @@ use Rattle.linked_queue.specs.declared.queue.PopError.{PopError}
 use Rattle.linked_queue.specs.Leaving.{Leaves, handle_by, with_found}
 use Rattle.linked_queue.specs.Pops.{IsWhyUnpopped, TakesItem}
 use Rattle.linked_queue.specs.Queues.{deeds_in, ends_of}
-use Rattle.linked_queue.proofs.Leavings.{drop_leaves}
-use Rattle.linked_queue.proofs.Poppings.{owns_found, pops_through, why_of}
+use Rattle.linked_queue.proofs.Leavings.{drop_leaves, drop_spent, drop_makes}
+use Rattle.linked_queue.proofs.Poppings.{owns_found, pops_through, spent_by, why_of}
 use Rattle.linked_queue.proofs.popping.pop_behind.Goals as goal
 
 pub returns-in-Err-clause-why : goal.returns-in-Err-clause-why
@@ -73,3 +73,25 @@ returns-in-Err-popped-clause-popped g c =
     (drop_leaves c.in-Ok-Some.next.slot (seen_by g.P.Part.seen c.pop_node-popped.new.seat) (seen_by g.P.Part.seen c.drop_strong.new.seat)
     c.drop_strong.ensures.dropped c.drop_strong.ensures.objects)
     c.drop_strong.ensures.seen
+
+pub returns-in-Err-clause-spent : goal.returns-in-Err-clause-spent
+returns-in-Err-clause-spent g c = λ is.
+    c.in-Err.ensures.spent (spent_by c.in-Err.error (sym c.refusal_of.ensures ∙ is))
+
+pub returns-in-Err-popped-clause-spent : goal.returns-in-Err-popped-clause-spent
+returns-in-Err-popped-clause-spent g c = λ is.
+    drop_spent c.in-Ok-Some.next.slot (seen_by g.P.Part.seen c.pop_node-popped.new.seat)
+    (seen_by g.P.Part.seen c.drop_strong.new.seat) c.drop_strong.ensures.dropped
+    (c.in-Err-popped.ensures.spent is)
+
+pub returns-in-Ok-clause-makes : goal.returns-in-Ok-clause-makes
+returns-in-Ok-clause-makes g c =
+    drop_makes c.in-Ok-Some.next.slot (seen_by g.P.Part.seen c.pop_node-popped.new.seat)
+    (seen_by g.P.Part.seen c.drop_strong.new.seat) c.drop_strong.ensures.dropped
+    ∙ c.pop_node-popped.ensures.makes ∙ c.see_next.ensures.makes
+
+pub returns-in-Err-popped-clause-makes : goal.returns-in-Err-popped-clause-makes
+returns-in-Err-popped-clause-makes g c =
+    drop_makes c.in-Ok-Some.next.slot (seen_by g.P.Part.seen c.pop_node-popped.new.seat)
+    (seen_by g.P.Part.seen c.drop_strong.new.seat) c.drop_strong.ensures.dropped
+    ∙ c.pop_node-popped.ensures.makes ∙ c.see_next.ensures.makes

@@ -1,14 +1,16 @@
 use Rattle.part_calls.specs.Parts.{as_part, seen_by}
-use Rattle.std.proofs.Common.{ap, sym, subst}
+use Rattle.std.proofs.Common.{◌≡◌, ◌∙◌, ap, sym, subst}
 use Rattle.plain_state.specs.declared.slot.SlotId.{SlotId}
 use Rattle.acquire_retire.proofs.Wholes.{then_ok}
 use Rattle.atomic_shared.specs.Places.{named}
+use Rattle.control_word.specs.Resting.{IsSpent}
 use Rattle.linked_queue.specs.declared.queue.PopError.{PopError}
+use Rattle.linked_queue.specs.declared.queue.PopError.TheVariants as unpopped
 use Rattle.linked_queue.specs.Leaving.{found_by}
 use Rattle.linked_queue.specs.Queues.{deeds_in}
 use Rattle.linked_queue.specs.Pops.{IsWhyUnpopped, PopsAtHead, PopsBehind}
-use Rattle.linked_queue.proofs.Leavings.{drop_leaves}
-use Rattle.linked_queue.proofs.Poppings.{owns_found, pops_through, why_of}
+use Rattle.linked_queue.proofs.Leavings.{drop_leaves, drop_spent, then_err}
+use Rattle.linked_queue.proofs.Poppings.{owns_found, pops_through, spent_by, why_of}
 use Rattle.linked_queue.proofs.popping.pop_first.Goals as goal
 
 pub returns-in-Err-clause-why : goal.returns-in-Err-clause-why
@@ -51,3 +53,17 @@ returns-clause-popped g c =
     (drop_leaves c.in-Ok.front.slot (seen_by g.P.Part.seen c.pop_behind-popped.new.seat) (seen_by g.P.Part.seen c.drop_strong.new.seat)
     c.drop_strong.ensures.dropped c.drop_strong.ensures.objects)
     c.drop_strong.ensures.seen
+
+pub returns-in-Err-clause-spent : goal.returns-in-Err-clause-spent
+returns-in-Err-clause-spent g c = λ is.
+    c.in-Err.ensures.spent (spent_by c.in-Err.error (sym c.refusal_of.ensures ∙ is))
+
+pub returns-clause-spent : goal.returns-clause-spent
+returns-clause-spent g c =
+    then_err (λ error. error ≡ unpopped.Spent → IsSpent c.pop_behind-popped.new.seat.view.core)
+    (λ error. error ≡ unpopped.Spent → IsSpent c.drop_strong.new.seat.view.core)
+    c.pop_behind-popped.result
+    (λ error spent is. drop_spent c.in-Ok.front.slot
+    (seen_by g.P.Part.seen c.pop_behind-popped.new.seat) (seen_by g.P.Part.seen c.drop_strong.new.seat)
+    c.drop_strong.ensures.dropped (spent is))
+    c.pop_behind-popped.ensures.spent

@@ -11,10 +11,13 @@ use Rattle.plain_state.specs.Lists.{times}
 use Rattle.core_events.specs.declared.view.CoreView.{CoreView}
 use Rattle.core_events.specs.Views.{without}
 use Rattle.core_invariant.proofs.Kit.{times_push}
+use Rattle.acquire_retire.specs.Seats.{SeatState}
+use Rattle.control_word.specs.Resting.{IsSpent}
+use Rattle.queue_law.specs.declared.view.View.{View}
 use Rattle.linked_queue.specs.Leaving.{Leaves}
 use Rattle.linked_queue.specs.Nodes.{HasNode}
 use Rattle.linked_queue.specs.Pops.{item_in}
-use Rattle.linked_queue.proofs.Leavings.{copy_leaves, drop_leaves, leaves_same}
+use Rattle.linked_queue.proofs.Leavings.{copy_leaves, drop_leaves, drop_spent, leaves_same}
 use Rattle.linked_queue.proofs.Owning.{has_owned, still_owned, through}
 use Rattle.linked_queue.proofs.Poppings.{item_still, leaves_on}
 use Rattle.linked_queue.proofs.Pushings.{left_of, node_still}
@@ -34,6 +37,13 @@ returns-in_default-clause-leaves g c =
     (leaves_same (seen_by g.P.Part.seen c.make_node.new.seat) (seen_by g.P.Part.seen c.copy_strong.new.seat) (ap (seen_by g.P.Part.seen) c.in_default.ensures.refused))
     (drop_leaves c.in_ok-node.node.slot (seen_by g.P.Part.seen c.copy_strong.new.seat) (seen_by g.P.Part.seen c.drop_strong.new.seat)
     c.drop_strong.ensures.dropped c.drop_strong.ensures.objects)
+
+pub returns-in_default-clause-spent : goal.returns-in_default-clause-spent
+returns-in_default-clause-spent g c = λ is.
+    drop_spent c.in_ok-node.node.slot (seen_by g.P.Part.seen c.copy_strong.new.seat)
+    (seen_by g.P.Part.seen c.drop_strong.new.seat) c.drop_strong.ensures.dropped
+    (subst (λ (z : SeatState View). IsSpent z.view.core)
+    (sym (ap (seen_by g.P.Part.seen) c.in_default.ensures.refused)) (c.in_default.ensures.spent.0 refl))
 
 pub carry-requires-clause-node : goal.carry-requires-clause-node
 carry-requires-clause-node g c =

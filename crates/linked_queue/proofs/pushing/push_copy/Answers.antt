@@ -41,3 +41,9 @@ push_node-requires-clause-may g c =
     c.load_node.new.seat (item_in (seen_by g.P.Part.seen c.args.seat.now) c.args.item.now.slot)
     (carried_item (g.P.Part.seen c.load_node.new.seat.view.client)) c.load_node.ensures.beside_part
     (sym c.in-Ok.ensures.carried) c.requires.may
+
+pub returns-in-Err-clause-spent : goal.returns-in-Err-clause-spent
+returns-in-Err-clause-spent g c = λ is. c.in-Err.ensures.spent (cc (is))
+
+pub returns-in-Err-Spent-clause-spent : goal.returns-in-Err-Spent-clause-spent
+returns-in-Err-Spent-clause-spent g c = λ is. c.in-Err-Spent.ensures.spent c.in-Err-Spent.field-0-is

@@ -1,7 +1,7 @@
 use Rattle.part_calls.specs.Parts.{seen_by}
-use Rattle.std.proofs.Common.{ap, ◌∙◌}
+use Rattle.std.proofs.Common.{ap, ◌∙◌, arith}
 use Rattle.linked_queue.specs.Queues.{deeds_in}
-use Rattle.linked_queue.proofs.Leavings.{drop_leaves}
+use Rattle.linked_queue.proofs.Leavings.{drop_leaves, drop_makes}
 use Rattle.linked_queue.proofs.Linkings.{then_gives}
 use Rattle.linked_queue.proofs.pushing.push_item.Goals as goal
 
@@ -20,3 +20,15 @@ returns-in-Ok-clause-events g c = record {
   copy = c.in-Ok.ensures.events;
   drops = c.drop_strong.ensures.dropped;
 }
+
+pub returns-in-Ok-clause-makes : goal.returns-in-Ok-clause-makes
+returns-in-Ok-clause-makes g c =
+    let same = drop_makes c.args.item.slot (seen_by g.P.Part.seen c.push_copy.new.seat)
+    (seen_by g.P.Part.seen c.drop_strong.new.seat) c.drop_strong.ensures.dropped in
+    let makes = c.push_copy.ensures.makes in omega arith
+
+pub returns-in-Ok-clause-makes_kept : goal.returns-in-Ok-clause-makes_kept
+returns-in-Ok-clause-makes_kept g c =
+    let same = drop_makes c.args.item.slot (seen_by g.P.Part.seen c.push_copy.new.seat)
+    (seen_by g.P.Part.seen c.drop_strong.new.seat) c.drop_strong.ensures.dropped in
+    let makes = c.push_copy.ensures.makes_kept in omega arith

@@ -2,7 +2,7 @@ use Rattle.std.proofs.Common.{refl, subst}
 use Rattle.plain_state.specs.declared.slot.SlotId.{SlotId}
 use Rattle.part_calls.specs.Parts.{as_part, seen_by}
 use Rattle.linked_queue.specs.Pushes.{Advances, Links}
-use Rattle.linked_queue.proofs.Leavings.{drop_leaves, leaves_same}
+use Rattle.linked_queue.proofs.Leavings.{drop_leaves, drop_spent, leaves_same}
 use Rattle.linked_queue.proofs.Linkings.{then_gives}
 use Rattle.linked_queue.proofs.Pushings.{gives_both, l_there}
 use Rattle.linked_queue.proofs.pushing.push_node.Goals as goal
@@ -51,3 +51,9 @@ returns-in-Ok-clause-events g c = record {
       (seen_by g.P.Part.seen c.advance.new.seat)) c.slot-in-Ok.ensures c.advance.ensures.advances;
   drops = c.drop_strong.ensures.dropped;
 }
+
+pub returns-in-Err-clause-spent : goal.returns-in-Err-clause-spent
+returns-in-Err-clause-spent g c = λ is.
+    drop_spent c.args.node.slot (seen_by g.P.Part.seen c.link_last.new.seat)
+    (seen_by g.P.Part.seen c.drop_strong-in-Err.new.seat) c.drop_strong-in-Err.ensures.dropped
+    (c.in-Err.ensures.spent is)

@@ -1,3 +1,4 @@
+use Rattle.std.specs.Prelude.{◌≡◌}
 use Rattle.core_events.specs.Steps.{HasRoom}
 use Rattle.control_word.specs.Resting.{IsAtRest}
 use Rattle.queue_law.specs.Pushes.{carried_item}
@@ -17,3 +18,4 @@ invariant-loop-try g l =
     (carried_item (g.P.Part.seen l.seat.view.client))
     × LinksNothing (seen_by g.P.Part.seen l.fn.seat) (seen_by g.P.Part.seen l.seat)
     × HasBeside g.P.Part.with_seen first_view l.fn.seat l.seat
+    × (l.seat.view.core.makes ≡ l.fn.seat.view.core.makes)

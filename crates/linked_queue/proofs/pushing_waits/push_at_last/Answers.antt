@@ -1,9 +1,9 @@
-use Rattle.std.proofs.Common.{refl, subst}
+use Rattle.std.proofs.Common.{refl, subst, ◌∙◌}
 use Rattle.plain_state.specs.declared.slot.SlotId.{SlotId}
 use Rattle.part_calls.specs.Parts.{as_part, seen_by}
 use Rattle.linked_queue.specs.Pushes.{Advances}
 use Rattle.linked_queue.specs.Waits.{LinksAtLast}
-use Rattle.linked_queue.proofs.Leavings.{drop_leaves, leaves_same}
+use Rattle.linked_queue.proofs.Leavings.{drop_leaves, drop_spent, leaves_same, drop_makes}
 use Rattle.linked_queue.proofs.Linkings.{then_gives}
 use Rattle.linked_queue.proofs.Pushings.{gives_both, l_there}
 use Rattle.linked_queue.proofs.pushing_waits.push_at_last.Goals as goal
@@ -50,3 +50,15 @@ returns-in-Ok-clause-events g c = record {
       (seen_by g.P.Part.seen c.advance.new.seat)) c.slot-in-Ok.ensures c.advance.ensures.advances;
   drops = c.drop_strong.ensures.dropped;
 }
+
+pub returns-in-Err-clause-why : goal.returns-in-Err-clause-why
+returns-in-Err-clause-why g c =
+    drop_spent c.args.node.slot (seen_by g.P.Part.seen c.link_at_last.new.seat)
+    (seen_by g.P.Part.seen c.drop_strong-in-Err.new.seat) c.drop_strong-in-Err.ensures.dropped
+    c.in-Err.ensures.why
+
+pub returns-in-Ok-clause-makes : goal.returns-in-Ok-clause-makes
+returns-in-Ok-clause-makes g c =
+    drop_makes c.in-Ok.last.slot (seen_by g.P.Part.seen c.advance.new.seat)
+    (seen_by g.P.Part.seen c.drop_strong.new.seat) c.drop_strong.ensures.dropped
+    ∙ c.advance.ensures.makes ∙ c.link_at_last.ensures.makes

@@ -63,6 +63,8 @@ returns-in-Ok-try_replace g c =
           replaces still;
       refused = tt;
       why = tt;
+      makes = search rules;
+      spent = tt;
       leaves = taken_leaves g.P.Kind.PayloadKind.fits (as_part g.P.Part.part c.args.domain.now) c.args.sight.front c.args.sight.next
           c.args.sight.item (seen_by g.P.Part.seen c.args.seat.now) (seen_by g.P.Part.seen c.copy_strong.new.seat) c.requires.sees copies
           c.copy_strong.ensures.seen c.copy_strong.ensures.objects (seen_by g.P.Part.seen c.try_replace.new.seat)
@@ -91,6 +93,8 @@ returns g c =
       popped = tt;
       dummy = tt;
       refused = search rules;
+      makes = search rules;
+      spent = λ is. absurd (cc (is));
       why = inl (inr (inr (inr (lost_to g.P.Kind.PayloadKind.fits (as_part g.P.Part.part c.args.domain.now) c.args.sight.front c.args.sight.next c.args.sight.item (seen_by g.P.Part.seen c.args.seat.now)
           (seen_by g.P.Part.seen c.copy_strong.new.seat) c.requires.sees copies c.copy_strong.ensures.seen
           c.copy_strong.ensures.objects (seen_by g.P.Part.seen c.try_replace.new.seat) (seen_by g.P.Part.seen c.drop_strong.new.seat)

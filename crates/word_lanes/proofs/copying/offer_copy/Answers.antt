@@ -1,11 +1,11 @@
-use Rattle.std.proofs.Common.{[], inr, refl, ap, subst, sym}
+use Rattle.std.proofs.Common.{[], inr, refl, ap, subst, sym, arith}
 use Rattle.counted_handles.specs.Handles.{Handle}
 use Rattle.words_law.specs.Views.{View}
 use Rattle.word_lanes.specs.Counting.{Counts}
-use Rattle.word_lanes.proofs.Copied.{back_owns, copy_counts, copy_interns, copy_known, copy_owns, copy_ready, copy_stays, owns_copy}
+use Rattle.word_lanes.proofs.Copied.{back_owns, copy_counts, copy_interns, copy_known, copy_owns, copy_ready, copy_stays, owns_copy, copy_makes, copy_adds}
 use Rattle.word_lanes.proofs.Counted.{counts_none}
 use Rattle.word_lanes.proofs.Offered.{texts}
-use Rattle.word_lanes.proofs.Kept.{owns_drop, uses_none}
+use Rattle.word_lanes.proofs.Kept.{owns_drop, uses_none, drop_counts, spent_drop}
 use Rattle.word_lanes.proofs.copying.offer_copy.Goals as goal
 
 pub returns-in_default-clause-refused : goal.returns-in_default-clause-refused
@@ -75,11 +75,39 @@ returns-in-Ok-offer-clause-interns g c =
 
 pub returns-in-Err-clause-why : goal.returns-in-Err-clause-why
 returns-in-Err-clause-why g c =
-    inr (copy_stays _ c.args.domain.now c.args.handle.now.slot c.in-Ok.copy.slot
-    c.in-Ok.ensures.copied.0 c.args.seat.now c.copy_strong.new.seat c.in-Ok.ensures.copied.1
-    c.in-Err.refused.why c.in-Err.ensures.why)
+    inr (copy_stays _ c.args.domain.now c.args.handle.now.slot c.args.seat.now
+    c.copy_strong.new.seat c.offer.new.seat c.drop_strong.new.seat c.in-Ok.ensures.copied.1
+    c.in-Err.refused.why c.in-Err.ensures.why
+    (spent_drop _ c.args.domain.now c.in-Err.refused.back.slot c.offer.new.seat
+    c.drop_strong.new.seat c.drop_strong.ensures.dropped))
 
 pub returns-in-Err-clause-interns : goal.returns-in-Err-clause-interns
 returns-in-Err-clause-interns g c =
     copy_interns c.args.seat.now c.copy_strong.new.seat c.offer.new.seat c.drop_strong.new.seat
     c.copy_strong.ensures.client c.offer.ensures.interns c.drop_strong.ensures.client
+
+pub returns-in-Ok-offer-clause-makes : goal.returns-in-Ok-offer-clause-makes
+returns-in-Ok-offer-clause-makes g c =
+    copy_makes _ c.args.domain.now c.args.handle.now.slot c.args.seat.now c.copy_strong.new.seat
+    c.offer.new.seat c.in-Ok.ensures.copied.1 c.offer.ensures.makes
+
+pub returns-in-Ok-offer-clause-adds : goal.returns-in-Ok-offer-clause-adds
+returns-in-Ok-offer-clause-adds g c =
+    copy_adds _ c.args.domain.now c.args.handle.now.slot c.args.seat.now c.copy_strong.new.seat
+    c.offer.new.seat c.in-Ok.ensures.copied.1 c.offer.ensures.adds
+
+pub returns-in-Err-clause-makes : goal.returns-in-Err-clause-makes
+returns-in-Err-clause-makes g c =
+    let same = (drop_counts _ c.args.domain.now c.in-Err.refused.back.slot c.offer.new.seat
+    c.drop_strong.new.seat c.drop_strong.ensures.dropped).1 in
+    let makes = copy_makes _ c.args.domain.now c.args.handle.now.slot c.args.seat.now
+    c.copy_strong.new.seat c.offer.new.seat c.in-Ok.ensures.copied.1 c.offer.ensures.makes in
+    omega arith
+
+pub returns-in-Err-clause-adds : goal.returns-in-Err-clause-adds
+returns-in-Err-clause-adds g c =
+    let same = (drop_counts _ c.args.domain.now c.in-Err.refused.back.slot c.offer.new.seat
+    c.drop_strong.new.seat c.drop_strong.ensures.dropped).0 in
+    let adds = copy_adds _ c.args.domain.now c.args.handle.now.slot c.args.seat.now
+    c.copy_strong.new.seat c.offer.new.seat c.in-Ok.ensures.copied.1 c.offer.ensures.adds in
+    omega arith

@@ -2,7 +2,7 @@ use Rattle.std.proofs.Common.{refl, sym, subst, arith}
 use Rattle.words_law.specs.Views.{View}
 use Rattle.word_lanes.specs.Counting.{UsesInterns}
 use Rattle.word_lanes.proofs.Copied.{copy_ready}
-use Rattle.word_lanes.proofs.Kept.{owns_back, owns_drop, owns_on, spent_drop, uses_then}
+use Rattle.word_lanes.proofs.Kept.{owns_back, owns_drop, owns_on, spent_drop, uses_then, drop_counts}
 use Rattle.word_lanes.proofs.Passed.{had_more, piece_counts, piece_knows, piece_steps, piece_stops, piece_used, same_record, still_more}
 use Rattle.word_lanes.proofs.counting.count_piece.Goals as goal
 
@@ -98,3 +98,10 @@ returns-in-Err-pass_on-clause-ready g c =
 
 pub pass_on-requires-clause-known : goal.pass_on-requires-clause-known
 pass_on-requires-clause-known g c = (c.in-Ok.ensures.knows.0, c.in-Ok.ensures.knows.2)
+
+pub returns-in-Err-pass_on-clause-makes : goal.returns-in-Err-pass_on-clause-makes
+returns-in-Err-pass_on-clause-makes g c =
+    let same = (drop_counts _ c.args.domain.now c.in-Ok.handle.slot c.pass_on.new.seat
+    c.drop_strong.new.seat c.drop_strong.ensures.dropped).1 in
+    let first = c.intern_piece.ensures.makes in
+    let second = c.pass_on.ensures.makes in omega arith

@@ -8,6 +8,7 @@ pub loop-taken-init : goal.loop-taken-init
 loop-taken-init g c = record {
   ready = c.requires.ready;
   takes = takes_none c.args.seat.now.view.client c.args.tally.now;
+  makes = refl;
   interns = uses_none c.args.seat.now.view.client c.args.seat.now.view.client refl;
   owns = owns_none c.args.seat.now;
 }
@@ -19,6 +20,7 @@ loop-taken-preserved g c = record {
       c.loop-taken.seat.view.client c.take_one.new.seat.view.client c.args.tally.now
       c.loop-taken.tally c.take_one.new.tally c.loop-taken.invariant.takes
       c.in_ok-take_one.ensures.takes c.if-not-branch.false;
+  makes = c.take_one.ensures.makes ∙ c.loop-taken.invariant.makes;
   interns = uses_then 0 0 c.args.seat.now.view.client c.loop-taken.seat.view.client
       c.take_one.new.seat.view.client c.loop-taken.invariant.interns c.take_one.ensures.interns;
   owns = owns_on c.args.seat.now.view.core.owned c.args.seat.now c.loop-taken.seat

@@ -1,6 +1,7 @@
 use Rattle.std.proofs.Common.{ap}
 use Rattle.word_lanes.proofs.Kept.{uses_none}
-use Rattle.word_lanes.proofs.Offered.{may_push, offer_ready, offered_ok, refused_idle, texts}
+use Rattle.word_lanes.proofs.Offered.{may_push, offer_ready, offered_ok, refused_idle, texts, push_adds}
+use Rattle.word_lanes.specs.Whys.{of_queue}
 use Rattle.word_lanes.proofs.offering.offer.Goals as goal
 
 pub push-requires-clause-may : goal.push-requires-clause-may
@@ -26,3 +27,8 @@ pub returns-clause-interns : goal.returns-clause-interns
 returns-clause-interns g c =
     uses_none c.args.seat.now.view.client c.push.new.seat.view.client
     (ap texts c.push.ensures.beside)
+
+pub returns-clause-adds : goal.returns-clause-adds
+returns-clause-adds g c =
+    push_adds c.args.handle.slot c.push.result (of_queue c.args.seat.now) (of_queue c.push.new.seat)
+    c.push.ensures.pushed c.push.ensures.refused

@@ -12,3 +12,4 @@ invariant-loop-try g l =
     × Leaves l.fn.seat.view.core.owned (seen_by g.P.Part.seen l.fn.seat)
     (seen_by g.P.Part.seen l.seat)
     × StaysBeside g.P.Part.seen g.P.Part.with_seen l.fn.seat l.seat
+    × (l.seat.view.core.makes ≡ l.fn.seat.view.core.makes)

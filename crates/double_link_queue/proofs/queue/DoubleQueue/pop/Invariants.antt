@@ -1,4 +1,4 @@
-use Rattle.std.specs.Prelude.{None}
+use Rattle.std.specs.Prelude.{◌≡◌, None}
 use Rattle.core_events.specs.Steps.{HasRoom}
 use Rattle.control_word.specs.Resting.{IsAtRest}
 use Rattle.part_calls.specs.Parts.{StaysBeside, seen_by}
@@ -12,3 +12,4 @@ invariant-loop-try g l =
     × IsAttached (g.P.Part.seen l.seat.view.client)
     × Pops None (seen_by g.P.Part.seen l.fn.seat) (seen_by g.P.Part.seen l.seat)
     × StaysBeside g.P.Part.seen g.P.Part.with_seen l.fn.seat l.seat
+    × (l.seat.view.core.makes ≡ l.fn.seat.view.core.makes)

@@ -14,3 +14,6 @@ pub returns-in-Ok-clause-beside : goal.returns-in-Ok-clause-beside
 returns-in-Ok-clause-beside g c =
     stays_then g.P.Part.seen g.P.Part.with_seen g.P.Part.puts_over c.args.seat.now
     c.loop-try.seat c.try_pop.new.seat c.loop-try.invariant.4 c.try_pop.ensures.beside
+
+pub returns-in-Err-Spent-clause-why : goal.returns-in-Err-Spent-clause-why
+returns-in-Err-Spent-clause-why g c = c.in-Err-Spent.ensures.spent c.in-Err-Spent.field-0-is

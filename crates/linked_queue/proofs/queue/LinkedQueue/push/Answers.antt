@@ -1,18 +1,19 @@
-use Rattle.std.proofs.Common.{◌<◌, inr, refl, ap, sym, ◌∙◌, arith}
+use Rattle.std.proofs.Common.{refl, ap, sym, ◌∙◌, arith}
 use Rattle.std.specs.Prelude.{None}
 use Rattle.queue_law.specs.declared.view.Item.{Item}
 use Rattle.queue_law.specs.declared.view.View.{View}
 use Rattle.queue_law.specs.Pushes.{carried_item}
 use Rattle.queue_law.specs.Views.{first_view}
-use Rattle.part_calls.specs.Parts.{seen_by}
+use Rattle.part_calls.specs.Parts.{as_part, seen_by}
 use Rattle.part_calls.proofs.Beside.{stays_beside}
 use Rattle.linked_queue.specs.Pops.{item_in}
 use Rattle.linked_queue.specs.Pushes.{pushed_too}
 use Rattle.linked_queue.specs.Queues.{deeds_in}
 use Rattle.linked_queue.proofs.Accepting.{may_still}
-use Rattle.linked_queue.proofs.Leavings.{drop_leaves, leaves_same}
+use Rattle.linked_queue.proofs.Leavings.{drop_leaves, leaves_same, drop_makes}
 use Rattle.linked_queue.proofs.Linkings.{then_gives}
 use Rattle.linked_queue.proofs.Owning.{through}
+use Rattle.linked_queue.proofs.Pushings.{never_pushed}
 use Rattle.linked_queue.proofs.queue.LinkedQueue.push.Goals as goal
 
 pub returns-in-Err-clause-beside : goal.returns-in-Err-clause-beside
@@ -81,12 +82,22 @@ returns-in-Err-push_at_last-clause-beside g c =
     g.P.Part.puts_over c.args.seat.now c.push_at_last.new.seat
     (c.push_at_last.ensures.beside_part ∙ c.load_node.ensures.beside_part)
 
-pub returns-in-Err-push_at_last-clause-why : goal.returns-in-Err-push_at_last-clause-why
-returns-in-Err-push_at_last-clause-why g c =
-    inr (
-      refl,
-      c.in-Ok.node.slot,
-      (seen_by g.P.Part.seen c.load_node.new.seat),
-      c.in-Ok.ensures.events,
-      c.in-Err-push_at_last.ensures.why,
-    )
+pub returns-in-Err-clause-why : goal.returns-in-Err-clause-why
+returns-in-Err-clause-why g c =
+    never_pushed g.P.Kind.PayloadKind.fits (as_part g.P.Part.part c.args.domain.now) 1 c.in-Err.why
+    (seen_by g.P.Part.seen c.args.seat.now) (seen_by g.P.Part.seen c.load_node.new.seat)
+    c.in-Err.ensures.why c.in-Err.ensures.spent
+
+pub returns-in-Ok-push_at_last-clause-makes : goal.returns-in-Ok-push_at_last-clause-makes
+returns-in-Ok-push_at_last-clause-makes g c =
+    let same = drop_makes c.args.item.slot (seen_by g.P.Part.seen c.push_at_last.new.seat)
+    (seen_by g.P.Part.seen c.drop_strong.new.seat) c.drop_strong.ensures.dropped in
+    let none = c.push_at_last.ensures.makes in
+    let makes = c.load_node.ensures.makes in omega arith
+
+pub returns-in-Ok-push_at_last-clause-makes_kept : goal.returns-in-Ok-push_at_last-clause-makes_kept
+returns-in-Ok-push_at_last-clause-makes_kept g c =
+    let same = drop_makes c.args.item.slot (seen_by g.P.Part.seen c.push_at_last.new.seat)
+    (seen_by g.P.Part.seen c.drop_strong.new.seat) c.drop_strong.ensures.dropped in
+    let none = c.push_at_last.ensures.makes in
+    let makes = c.load_node.ensures.makes_kept in omega arith
