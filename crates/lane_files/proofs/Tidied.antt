@@ -1,0 +1,51 @@
+-- What a collect and a reap leave of a seat.
+use Rattle.std.proofs.Common.{◌≡◌, ⊎_elim, ℕ, List, [], ap}
+use Rattle.std.specs.Prelude.{None, Option, Some}
+use Rattle.plain_state.specs.Lists.{times}
+use Rattle.core_events.specs.declared.view.CoreView.{CoreView}
+use Rattle.acquire_retire.specs.Collecting.{rest_of}
+use Rattle.acquire_retire.specs.Domains.{DomainState}
+use Rattle.acquire_retire.specs.Seats.{SeatState}
+use Rattle.protected_loads.proofs.Telling.{holds_has}
+use Rattle.retiring_stores.specs.Scanning.{Collected}
+use Rattle.slot_store.specs.Reaping.{Answers, KnowsBoth}
+use Rattle.words_law.specs.Views.{View}
+use Rattle.words_protocol.specs.declared.law.WordsLaw.{WordsLaw}
+use Rattle.slot_store.proofs.Passing.{passes_collect}
+use Rattle.word_lanes.specs.declared.shared.Shared.{Shared}
+use Rattle.word_lanes.specs.Ready.{IsReady, Owns}
+use Rattle.word_lanes.proofs.Copied.{copy_ready}
+
+pub owns_rest : (a b : SeatState View) → rest_of b.view.core ≡ rest_of a.view.core → KnowsBoth a b
+    → Owns a.view.core.owned a b
+owns_rest a b same knows = record {
+  strongly = λ x. ap (λ (v : CoreView). times x v.owned) same;
+  weakly = λ x. ap (λ (v : CoreView). times x v.weaks) same;
+  same = ap (λ (v : CoreView). record v { owned = []; weaks = []; made = []; adds = 0; makes = 0 }) same;
+  knows = λ x was is. knows x (holds_has a.view.core x was) (holds_has b.view.core x is);
+}
+
+module _ (fits : List ℕ → Type 0) (d : DomainState WordsLaw) (a b : SeatState View) where
+  pub owns_collect : Collected fits d a b → Owns a.view.core.owned a b
+  owns_collect c = owns_rest a b c.collects.goes.rest (λ s was is. c.knows s was)
+
+  reap_rest : (weight : List ℕ → ℕ) (answer : Option ℕ) → Answers fits d weight answer a b
+      → rest_of b.view.core ≡ rest_of a.view.core
+  reap_rest weight None got = ⊎_elim
+      (λ none. ap (λ (s : SeatState View). rest_of s.view.core) none.1)
+      (λ waits. waits.1.collected.collects.goes.rest)
+      got
+  reap_rest weight (Some n) got = got.same
+
+  pub owns_reap : (weight : List ℕ → ℕ) (answer : Option ℕ) → Answers fits d weight answer a b
+      → KnowsBoth a b → Owns a.view.core.owned a b
+  owns_reap weight answer got knows = owns_rest a b (reap_rest weight answer got) knows
+
+module _ {fits : List ℕ → Type 0} {d : DomainState WordsLaw} {on : Shared} (a b : SeatState View)
+    (ready : IsReady d on a) (c : Collected fits d a b) where
+  pub collect_same : b.view.client ≡ a.view.client
+  collect_same = c.collects.goes.client
+
+  pub ready_collect : IsReady d on b
+  ready_collect = copy_ready a b ready (owns_collect fits d a b c) collect_same
+      (passes_collect d a b ready.rest ready.room c).room c.rest

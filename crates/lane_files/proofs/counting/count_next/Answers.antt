@@ -1,0 +1,33 @@
+use Rattle.std.proofs.Common.{refl, sym, subst, [], ◌∷◌}
+use Rattle.std.proofs.lemmas.Result.{err_from_is_err_and}
+use Rattle.std.specs.Prelude.{cond}
+use Rattle.words_law.specs.Views.{View}
+use Rattle.word_lanes.specs.Counting.{Takes}
+use Rattle.word_lanes.proofs.Kept.{owns_back}
+use Rattle.lane_files.proofs.Nexts.{counts_next}
+use Rattle.lane_files.proofs.counting.count_next.Goals as goal
+
+pub returns-in_err-keep-clause-why : goal.returns-in_err-keep-clause-why
+returns-in_err-keep-clause-why g c =
+    let p = err_from_is_err_and c.from_residual-in_err-keep.result
+    c.from_residual-in_err-keep.ensures.1 in
+    rw (p.1, p.2) (
+      (
+        c.in_ok-handle.ensures.counts.0,
+        subst (λ (v : View). Takes (c.args.piece.now ∷ []) (cond c.in_ok-handle.ensures.counts.0 1 0)
+            c.args.seat.now.view.client v c.args.lane.now.tally c.count_piece.new.tally)
+            (sym c.keep.ensures.client) c.in_ok-handle.ensures.counts.1,
+      ),
+      c.in_err-keep.ensures.refused,
+      owns_back c.in_ok-handle.handle.slot c.args.seat.now.view.core.owned c.args.seat.now
+          c.count_piece.new.seat c.keep.new.seat c.in_ok-handle.ensures.owns
+          c.in_err-keep.ensures.gives (λ x. refl),
+    )
+
+pub returns-clause-counts : goal.returns-clause-counts
+returns-clause-counts g c =
+    counts_next c.args.piece.now c.in_ok-handle.handle c.args.seat.now c.count_piece.new.seat
+    c.keep.new.seat c.tidy.new.seat c.args.lane.now _ c.in_ok-handle.ensures.counts
+    c.in_ok-handle.ensures.knows c.in_ok-handle.ensures.owns c.in_ok-handle.ensures.interns
+    c.in_ok-keep.ensures.keeps c.keep.ensures.client c.tidy.ensures.owns c.tidy.ensures.client
+    c.requires.held

@@ -1,0 +1,31 @@
+use Rattle.std.proofs.Common.{true, ◌++◌, ◌∷◌, [], List, refl, sym, ap, ◌∙◌}
+use Rattle.std.specs.Prelude.{◌==◌, cond}
+use Rattle.std.specs.HashSet.{contains_by}
+use Rattle.plain_state.specs.declared.slot.SlotId.{SlotId}
+use Rattle.counted_handles.specs.Handles.{Handle}
+use Rattle.word_lanes.proofs.Kept.{owns_drop}
+use Rattle.lane_files.specs.Keeping.{has}
+use Rattle.lane_files.proofs.Keeping.{gives_one, keeps_one}
+use Rattle.lane_files.proofs.keeper.Keeper.keep.Goals as goal
+
+pub returns-then-contains-clause-keeps : goal.returns-then-contains-clause-keeps
+unfolding has
+returns-then-contains-clause-keeps c =
+    gives_one c.args.handle c.args.self.now _ c.args.seat.now c.drop_strong.new.seat
+    (ap (λ (s : SlotId). contains_by (λ n. s.0 == n) c.args.self.now.in_file)
+    (sym c.slot-slot.ensures) ∙ sym c.contains.ensures ∙ c.if-contains.true)
+    refl (λ s. refl)
+    (owns_drop _ c.args.domain.now c.args.handle.slot c.args.seat.now c.drop_strong.new.seat
+    c.drop_strong.ensures.dropped c.drop_strong.ensures.objects)
+
+pub returns-clause-keeps : goal.returns-clause-keeps
+unfolding has
+returns-clause-keeps c =
+    keeps_one c.args.handle c.args.self.now _ c.args.seat.now c.args.seat.now
+    (ap (λ (s : SlotId). contains_by (λ n. s.0 == n) c.args.self.now.in_file)
+    (sym c.slot-slot.ensures) ∙ sym c.contains.ensures ∙ c.if-contains.false)
+    (c.push_reserved.ensures.items
+    ∙ ap (λ (hs : List Handle). hs ++ c.args.handle ∷ []) c.mark.ensures.kept)
+    (λ s. c.in_default.ensures.marks s
+    ∙ ap (λ (t : SlotId). cond (t.0 == s.0) true (has c.args.self.now s)) c.slot-slot.ensures)
+    c.requires.owned refl

@@ -1,0 +1,10 @@
+use Rattle.std.proofs.Common.{◌≡◌}
+use Rattle.word_lanes.specs.Ready.{IsReady, Owns}
+use Rattle.lane_files.proofs.tidying.tidy.Given as goal
+
+abbrev pub invariant-loop-turn : goal.invariant-loop-turn
+invariant-loop-turn g l = record {
+  ready : IsReady l.domain l.shared l.seat;
+  client : l.seat.view.client ≡ l.fn.seat.view.client;
+  owns : Owns l.fn.seat.view.core.owned l.fn.seat l.seat;
+}

@@ -1,0 +1,72 @@
+-- What a lane does for a file, and why it goes no further.
+use Rattle.std.specs.Prelude.{ℕ, ◌≡◌, ◌<◌, ◌≤◌, ◌++◌, Bool, cond, List, [], ◌∷◌, length, slice_index_or, take}
+use Rattle.plain_state.specs.declared.slot.SlotId.{SlotId}
+use Rattle.plain_state.specs.Lists.{times}
+use Rattle.counted_handles.specs.Handles.{Handle}
+use Rattle.acquire_retire.specs.Domains.{DomainState}
+use Rattle.acquire_retire.specs.Seats.{SeatState}
+use Rattle.weak_intern.specs.Knowing.{KnowsRecord}
+use Rattle.words_law.specs.Views.{View}
+use Rattle.words_protocol.specs.declared.law.WordsLaw.{WordsLaw}
+use Rattle.word_lanes.specs.Counting.{Takes, UsesInterns}
+use Rattle.word_lanes.specs.Pieces.{IsWhyNotCounted}
+use Rattle.word_lanes.specs.Ready.{Owns}
+use Rattle.lane_files.specs.declared.lane.Lane.{Lane}
+use Rattle.lane_files.specs.declared.refusal.FileError.{FileError}
+use Rattle.lane_files.specs.declared.refusal.FileError.TheVariants as refused
+use Rattle.lane_files.specs.Keeping.{IsSameKeeper, slots_of}
+
+-- the seat knows that these slots have records of these words, in order
+abbrev pub KnowsEach : List (List ℕ) → List SlotId → SeatState View → Type 0
+KnowsEach [] [] seat = Unit {0}
+KnowsEach [] (s ∷ ss) seat = ⊥
+KnowsEach (w ∷ ws) [] seat = ⊥
+KnowsEach (w ∷ ws) (s ∷ ss) seat =
+    KnowsRecord (λ (v : View). v.1) w s seat × KnowsEach ws ss seat
+
+-- Each of these words has a record that the seat knows. The references that are kept are to the slots of those records,
+-- to each slot once.
+pub record KeepsRecords (words : List (List ℕ)) (kept : List SlotId) (seat : SeatState View)
+    : Type 0 where
+  pub slots : List SlotId
+  pub knows : KnowsEach words slots seat
+  pub once : (s : SlotId) → 0 < times s slots → times s kept ≡ 1
+  pub only : (s : SlotId) → times s slots ≡ 0 → times s kept ≡ 0
+
+-- The lane pushed an item of each of these words, in order, popped at most as many items, and counted the words of
+-- these. It keeps one reference more to the record of each word, and used an intern for each.
+pub record CountsFile (words : List (List ℕ)) (old new : SeatState View) (before after : Lane)
+    : Type 0 where
+  pub taken : ℕ
+  pub most : taken ≤ length words
+  pub takes :
+      Takes words taken old.view.client new.view.client before.tally after.tally
+  pub more : List Handle
+  pub kept : after.keeper.kept.items ≡ before.keeper.kept.items ++ more
+  pub records : KeepsRecords words (slots_of more) new
+  pub owns : Owns (old.view.core.owned ++ slots_of more) old new
+  pub interns : UsesInterns (length words) old.view.client new.view.client
+
+module _ (fits : List ℕ → Type 0) (d : DomainState WordsLaw) where
+  -- Why a word wasn't counted: as `count_piece` tells it; or it was, and there was no memory to keep its record. The
+  -- lane keeps what it kept.
+  abbrev pub IsWhyStopped : List ℕ → FileError → SeatState View → SeatState View → Lane → Lane
+      → Type 0
+  IsWhyStopped word (refused.Piece error) old new before after =
+      IsWhyNotCounted fits d word error old new before.tally after.tally
+  IsWhyStopped word refused.OutOfMemory old new before after =
+      (one : Bool) × Takes (word ∷ []) (cond one 1 0) old.view.client new.view.client
+      before.tally after.tally
+
+  -- it counted some of these words, and stopped at the next one
+  pub record StopsInFile (words : List (List ℕ)) (error : FileError) (old new : SeatState View)
+      (before after : Lane) : Type 0 where
+    pub done : ℕ
+    pub fewer : done < length words
+    pub last : SeatState View
+    pub lane : Lane
+    pub counts : CountsFile (take done words) old last before lane
+    pub why :
+        IsWhyStopped (slice_index_or words done []) error last new lane after
+    pub keeps : IsSameKeeper lane.keeper after.keeper
+    pub owns : Owns last.view.core.owned last new

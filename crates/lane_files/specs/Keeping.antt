@@ -1,0 +1,32 @@
+-- The references that a lane keeps.
+use Rattle.std.specs.Prelude.{ℕ, ◌≡◌, ◌==◌, ◌++◌, Bool, true, cond, List, [], ◌∷◌, map}
+use Rattle.std.specs.HashSet.{contains_by}
+use Rattle.plain_state.specs.declared.slot.SlotId.{SlotId}
+use Rattle.core_events.specs.Views.{without}
+use Rattle.counted_handles.specs.Handles.{Handle}
+use Rattle.acquire_retire.specs.Seats.{SeatState}
+use Rattle.words_law.specs.Views.{View}
+use Rattle.word_lanes.specs.Ready.{Owns}
+use Rattle.lane_files.specs.declared.keeper.Keeper.{Keeper}
+
+-- the slots of some references
+abbrev pub slots_of : List Handle → List SlotId
+slots_of handles = map (λ (h : Handle). h.slot) handles
+
+-- one to this slot is kept for the present file
+unfoldable pub has : Keeper → SlotId → Bool
+has k s = contains_by (λ n. s.0 == n) k.in_file
+
+-- it keeps what it kept, and has the same slots for the present file
+pub record IsSameKeeper (before after : Keeper) : Type 0 where
+  pub kept : after.kept.items ≡ before.kept.items
+  pub same : (s : SlotId) → has after s ≡ has before s
+
+-- The reference is kept, where none to its slot was kept for the file; else it was given up.
+pub record KeepsOne (handle : Handle) (before after : Keeper) (old new : SeatState View) : Type 0 where
+  pub more : List Handle
+  pub is : more ≡ cond (has before handle.slot) [] (handle ∷ [])
+  pub kept : after.kept.items ≡ before.kept.items ++ more
+  pub marks : (s : SlotId) → has after s ≡ cond (handle.slot.0 == s.0) true (has before s)
+  pub owns :
+      Owns (without handle.slot old.view.core.owned ++ slots_of more) old new

@@ -1,0 +1,29 @@
+-- What a lane does for one piece.
+use Rattle.std.specs.Prelude.{ℕ, ◌==◌, ◌++◌, Bool, true, cond, List, [], ◌∷◌, ◌≡◌}
+use Rattle.plain_state.specs.declared.slot.SlotId.{SlotId}
+use Rattle.counted_handles.specs.Handles.{Handle}
+use Rattle.acquire_retire.specs.Seats.{SeatState}
+use Rattle.weak_intern.specs.Knowing.{KnowsRecord}
+use Rattle.words_law.specs.Views.{View}
+use Rattle.word_lanes.specs.Counting.{Takes, UsesInterns}
+use Rattle.word_lanes.specs.Ready.{Owns}
+use Rattle.lane_files.specs.declared.lane.Lane.{Lane}
+use Rattle.lane_files.specs.Keeping.{has, slots_of}
+
+-- It pushed an item of the word and popped one, or none. Where no reference to the slot of the word's record was kept
+-- for the file, one is kept now.
+pub record CountsNext (word : List ℕ) (old new : SeatState View) (before after : Lane) : Type 0 where
+  pub one : Bool
+  pub takes :
+      Takes (word ∷ []) (cond one 1 0) old.view.client new.view.client before.tally
+      after.tally
+  pub handle : Handle
+  pub knows : KnowsRecord (λ (v : View). v.1) word handle.slot new
+  pub more : List Handle
+  pub is : more ≡ cond (has before.keeper handle.slot) [] (handle ∷ [])
+  pub kept : after.keeper.kept.items ≡ before.keeper.kept.items ++ more
+  pub marks :
+      (s : SlotId) → has after.keeper s
+      ≡ cond (handle.slot.0 == s.0) true (has before.keeper s)
+  pub owns : Owns (old.view.core.owned ++ slots_of more) old new
+  pub interns : UsesInterns 1 old.view.client new.view.client

@@ -1,0 +1,41 @@
+//! How a lane destroys what ended.
+ghost use Rattle.std.specs.Prelude.{◌≡◌};
+ghost use Rattle.deleter.specs.Weighing.{Weighs};
+ghost use Rattle.word_lanes.specs.Ready.{IsReady, Owns};
+
+use acquire_retire::{Domain, Seat};
+use deleter::Deleter;
+use directory_protocol::RecordKind;
+use plain_state::PayloadKind;
+use protocol_pairs::PairKind;
+use queue_protocol::NodeKind;
+use retiring_stores::collect;
+use slot_store::reap;
+use word_lanes::Shared;
+use words_protocol::WordsLaw;
+
+/// The most objects that a lane destroys after one piece.
+const MOST_REAPS: u32 = 4;
+
+/// Collects, and then destroys what is dying, four objects at most. A collect is at most a step for each announcement
+/// word and three for each retired entry, and each object at most 21 steps and four collects.
+pub fn tidy<F: Fn(&[u64; 16]) -> u64>(
+    domain: &Domain<WordsLaw>,
+    seat: &mut Seat<WordsLaw>,
+    shared: &Shared,
+    weigh: &Deleter<PairKind<NodeKind, RecordKind>, F>,
+)
+    requires ready { IsReady domain.now shared.now seat.old }
+    requires weighs { Weighs ⟦<PairKind<NodeKind, RecordKind> as PayloadKind>⟧.fits
+        ⟦<PairKind<NodeKind, RecordKind> as PayloadKind>⟧.weight F.Fn weigh.now }
+    ensures client { seat.new.view.client ≡ seat.old.view.client }
+    ensures owns { Owns seat.old.view.core.owned seat.old seat.new }
+    ensures ready { IsReady domain.now shared.now seat.new }
+{
+    collect(domain, seat);
+    for _turn in 0..MOST_REAPS {
+        if reap(domain, seat, weigh).is_none() {
+            return;
+        }
+    }
+}
