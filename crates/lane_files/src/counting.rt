@@ -30,8 +30,9 @@ use words_protocol::WordsLaw;
 /// piece, pushes a reference to its record, pops one and counts its word, and destroys some of what ended. It keeps one
 /// reference to the record of each word of the file, and uses an intern for each piece.
 ///
-/// It is refused at the first piece that isn't counted, with the cause of `count_piece`, or where there is no memory for
-/// one reference more. The pieces before it are counted then, and their records kept. It may wait for other threads.
+/// It is refused at the first piece that isn't counted, with the cause of `count_piece`, or where there is no memory
+/// for one reference more. The pieces before it are counted then, and their records kept. It may wait for other
+/// threads.
 pub fn count_file<R: Wait, G: Gate, F: Fn(&[u64; 16]) -> u64>(
     rt: &R,
     domain: &Domain<WordsLaw>,

@@ -15,8 +15,8 @@ pub struct FileText {
 }
 
 impl FileText {
-    /// These bytes, and where `cdrc_text` cuts them into pieces. It is refused exactly where there are more than `limit`
-    /// pieces, and an allocation may fail. Linear in the bytes.
+    /// These bytes, and where `cdrc_text` cuts them into pieces. It is refused exactly where there are more than
+    /// `limit` pieces, and an allocation may fail. Linear in the bytes.
     pub fn cut(alloc: Global, bytes: Vec<u8>, limit: u64) -> Result<FileText, PiecesError>
         ensures words { IfOk result (λ file. pieces_in file ≡ pieces_of bytes.items) }
         ensures lies { IfOk result HasPieces }

@@ -2,8 +2,8 @@
 //!
 //! The rule: a make takes any free slot, and a heap settles in any order. So two runs of the same commands may have
 //! their objects in other slots and their lists in other orders; but by a renaming of slots, one to one, their desks
-//! are the same (`Alike`). Such desks refuse the same commands for the same reasons, and a command without a fault answers
-//! the same at both, up to the bytes that are written, and leaves such desks again.
+//! are the same (`Alike`). Such desks refuse the same commands for the same reasons, and a command without a fault
+//! answers the same at both, up to the bytes that are written, and leaves such desks again.
 //!
 //! It isn't promised that a command runs at all, nor in which order objects end. Nothing here runs, and nothing is said
 //! of how lines are spelled.
