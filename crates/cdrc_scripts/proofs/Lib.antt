@@ -1,2 +1,4 @@
 pub mod OneLine
+pub mod OneOutput
+pub mod SameBytes
 pub mod Taking

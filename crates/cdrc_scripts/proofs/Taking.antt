@@ -1,5 +1,5 @@
 -- What a command that ran, or has a fault, says of the line that spells it; and what a run on a domain says of the text.
-use Rattle.std.proofs.Common.{◌≡◌, ◌⊎◌, ℕ, Bool, true, false, List, [], ◌∷◌, ◌++◌, Option, Some, None, refl, ap, sym, subst, inl, inr}
+use Rattle.std.proofs.Common.{◌≡◌, ℕ, Bool, true, false, List, [], ◌∷◌, ◌++◌, Option, Some, None, refl, ap, sym, subst, inl, inr}
 use Rattle.std.specs.Bool.{MatchBool}
 use Rattle.line_words.specs.declared.reason.Reason.{Reason}
 use Rattle.line_words.specs.declared.reason.Reason.TheVariants.{Syntax, Range, Name, Kind, NotEnabled}

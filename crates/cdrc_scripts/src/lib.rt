@@ -5,7 +5,8 @@
 //! range, or names what isn't bound so is refused, and its number and reason are the last line. A number that is told
 //! of references is the sum over all lists that the plain state has.
 //!
-//! Nothing is promised of which slot a make takes. Handles that are left at the end are dropped.
+//! Nothing is promised of which slot a make takes, nor in which order a heap settles. What is written doesn't depend on
+//! it (`scripts_have_one_output`). Handles that are left at the end are dropped.
 //!
 //! ```text
 //! let done = script(alloc, b"heap 1 0 0\nmake a 7\nread a 0\n")?;  // done.written, done.seat
@@ -14,6 +15,7 @@
 //! ```
 #![tactic(auto)]
 
+mod laws;
 mod lines;
 mod machine;
 mod run;
@@ -23,5 +25,6 @@ mod shown;
 #[cfg(test)]
 mod tests;
 
+pub use laws::scripts_have_one_output;
 pub use line_machine::Written;
 pub use run::{Scripted, script};

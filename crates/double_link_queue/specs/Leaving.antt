@@ -12,8 +12,8 @@ use Rattle.linked_queue.specs.Leaving.{aside}
 abbrev pub apart : CoreView → CoreView
 apart v = record (aside v) { weaks = [] }
 
--- The seat owns these references strongly and these weakly, each in some order, and takes no add back. What it has beside
--- is as it was, and so is what it knows of the objects that it held and still holds.
+-- The seat owns these references strongly and these weakly, each in some order, and takes no add back. What it has
+-- beside is as it was, and so is what it knows of the objects that it held and still holds.
 pub record LeavesBoth {V : Type 0} (owned weaks : List SlotId) (old new : SeatState V) : Type 0
   where
     pub owns : (x : SlotId) → times x new.view.core.owned ≡ times x owned

@@ -51,7 +51,8 @@ impl DoubleQueue {
         ensures why { IfErr result
             (λ error. IsWhyUnpopped P.Kind.fits (as_part P.part domain.now) 3 error
             (seen_by P.seen seat.old)) }
-        ensures spent { IfErr result (λ error. error ≡ unpopped.Spent → IsSpent seat.new.view.core) }
+        ensures spent { IfErr result
+            (λ error. error ≡ unpopped.Spent → IsSpent seat.new.view.core) }
         ensures makes { seat.new.view.core.makes ≡ seat.old.view.core.makes }
         ensures attached { IsAttached (P.seen seat.new.view.client) }
         ensures beside { StaysBeside P.seen P.with_seen seat.old seat.new }

@@ -20,7 +20,7 @@ use queue_protocol::{HasQueue, QueueLaw, ShutHead, ShutTail};
 
 impl LinkedQueue {
     /// Shuts the queue: puts null into the head cell and then into the tail cell, and notes what still waited as left.
-    /// It is for seat 0, once every other seat has left. Two steps, and two collects.
+    /// It is for seat 0, once every other seat has left. Two steps, two collects, and no make.
     pub fn shut<S, P: HasQueue<S>>(&self, domain: &Domain<P>, root: &mut Seat<P>)
         requires rest { IsAtRest domain.now root.old }
         requires room { HasRoom root.old.view.core }
@@ -32,6 +32,7 @@ impl LinkedQueue {
         ensures left { (P.seen root.new.view.client)
             ≡ shut_in (ends_of (as_part P.part domain.now)) (seen_by P.seen root.old)
             (P.seen root.old.view.client) }
+        ensures makes { root.new.view.core.makes ≡ root.old.view.core.makes }
         ensures leaves { Leaves root.old.view.core.owned (seen_by P.seen root.old)
             (seen_by P.seen root.new) }
         ensures beside { StaysBeside P.seen P.with_seen root.old root.new }
@@ -59,6 +60,7 @@ fn shut_head<S, P: HasQueue<S>>(domain: &Domain<P>, seat: &mut Seat<P>, head: u3
         ≡ half_shut_in (ends_of (as_part P.part domain.now)) (seen_by P.seen seat.old)
         (P.seen seat.old.view.client) }
     ensures alone { IsAlone seat.new.view }
+    ensures makes { seat.new.view.core.makes ≡ seat.old.view.core.makes }
     ensures leaves { Leaves seat.old.view.core.owned (seen_by P.seen seat.old)
         (seen_by P.seen seat.new) }
     ensures beside_part { HasBeside P.with_seen first_view seat.old seat.new }
@@ -84,6 +86,7 @@ fn shut_tail<S, P: HasQueue<S>>(domain: &Domain<P>, seat: &mut Seat<P>, tail: u3
     ensures client { (P.seen seat.new.view.client) ≡ record (P.seen seat.old.view.client) {
       stand = record (P.seen seat.old.view.client).stand { laid = 4 };
     } }
+    ensures makes { seat.new.view.core.makes ≡ seat.old.view.core.makes }
     ensures leaves { Leaves seat.old.view.core.owned (seen_by P.seen seat.old)
         (seen_by P.seen seat.new) }
     ensures beside_part { HasBeside P.with_seen first_view seat.old seat.new }

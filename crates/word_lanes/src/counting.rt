@@ -36,7 +36,8 @@ use words_protocol::WordsLaw;
 /// `Interning` comes with the cause of an intern, and then no intern is used and nothing pushed. `Offering` comes with
 /// the cause of `offer_copy`, and nothing is pushed then. `Taking` comes with the cause of `take_one`, and the piece
 /// was pushed then. After each the tally is as it was, and the seat owns what it owned. One make for each 120 bytes and
-/// one more, at most. Its steps are those of an intern, an `offer_copy` and a `take_one`. It may wait for other threads.
+/// one more, at most. Its steps are those of an intern, an `offer_copy` and a `take_one`. It may wait for other
+/// threads.
 pub fn count_piece<R: Wait>(
     rt: &R,
     domain: &Domain<WordsLaw>,

@@ -1,0 +1,5 @@
+pub mod Renamings
+pub mod States
+pub mod Desks
+pub mod Orderly
+pub mod Said
