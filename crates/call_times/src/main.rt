@@ -1,6 +1,6 @@
 //! `call_times THREADS` times single calls of the library: for each operation it opens a domain, lets so many threads
-//! make the calls in a loop on one shared cell, and prints a line `cdrc OP THREADS NS`, where NS is the wall time of
-//! one turn in one thread.
+//! make the calls in a loop on what all of them share, and prints a line `cdrc OP THREADS NS`, where NS is the wall time
+//! of one turn in one thread.
 //!
 //! Thread i, from 1 on, has seat 2i of 2(THREADS + 1), so that no two threads write one cache line: two seats'
 //! announcement words share one, and the last seat's the first cells'. With `--neighbours` before THREADS it has seat
@@ -20,11 +20,13 @@ mod clock;
 mod directory;
 mod fault;
 mod interning;
+mod queueing;
 mod request;
 
 use crate::clock::{Tenths, time};
 use crate::fault::Fault;
 use crate::interning::time_interns;
+use crate::queueing::time_queue;
 use crate::request::{Request, asked};
 use std::alloc::Global;
 use std::env;
@@ -56,6 +58,8 @@ fn time_all<R: Print + Clock + Threads + Wait + Sync>(
         let each = time(rt, alloc, operation, placing, threads)?;
         print_line(rt, operation.name(), threads, each)?;
     }
+    let each = time_queue(rt, alloc, placing, threads)?;
+    print_line(rt, "queue", threads, each)?;
     let each = time_interns(rt, alloc, placing, threads)?;
     print_line(rt, "intern", threads, each)
 }

@@ -1,8 +1,8 @@
 //! The loops of turns whose times are taken: in each turn a thread makes one or two calls on one shared cell or object.
 //!
 //! `open` opens a domain for some threads, and takes their seats as a `Placing` says: every other seat, so that no two
-//! threads write one cache line, or seats side by side. `begin` puts an object into the cell, and `make_turns` makes the
-//! turns of one thread.
+//! threads write one cache line, or seats side by side. `begin` puts an object into the cell, and `make_turns` makes
+//! the turns of one thread.
 //!
 //! The rule that is kept is that of the domain. It is proved that each call is one that its seat may make, and which
 //! seat each thread has. Nothing is said of times, nor of what the cell holds.
