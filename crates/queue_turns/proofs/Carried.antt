@@ -1,5 +1,5 @@
 -- A seat that pushes copies of a reference of its own, and drops what it pops, owns that reference still.
-use Rattle.std.proofs.Common.{◌≡◌, ◌∙◌, inl, inr, ℕ, ◌+◌, ◌<◌, Bool, true, false, List, [], ◌∷◌, ◌++◌, refl, ap, subst, arith}
+use Rattle.std.proofs.Common.{◌≡◌, ◌∙◌, inl, inr, ℕ, ◌<◌, Bool, true, false, List, [], ◌∷◌, ◌++◌, refl, ap, subst, arith}
 use Rattle.std.specs.Prelude.{Option, Some, None}
 use Rattle.retiring_stores.specs.Scanning.{Collected}
 use Rattle.slot_store.specs.Reaping.{Answers}
@@ -18,14 +18,12 @@ owned_ended : (b : Bool) (s : SlotId) (v : CoreView) → (with_ended b s v).owne
 owned_ended true s v = refl
 owned_ended false s v = refl
 
-module _ {P V : Type 0} {fits : List ℕ → Type 0} (d : DomainState P) (x : SlotId) where
-  -- after a copy it owns one more
-  pub copied_more : (old new : SeatState V) → GainsStrong fits d same_view IsSameView x old new
-      → times x new.view.core.owned ≡ times x old.view.core.owned + 1
-  copied_more old new gains =
-      let more = times_push x x old.view.core.owned in
-      let one = one_same x x refl in
-      ap (λ (v : CoreView). times x v.owned) gains.core ∙ omega arith
+-- what it owns after a copy
+module _ {P V : Type 0} {fits : List ℕ → Type 0} (d : DomainState P) where
+  pub copied_owned : (x : SlotId) (old new : SeatState V)
+      → GainsStrong fits d same_view IsSameView x old new
+      → new.view.core.owned ≡ old.view.core.owned ++ x ∷ []
+  copied_owned x old new gains = ap (λ (v : CoreView). v.owned) gains.core
 
 -- what it owns after a drop
 module _ {P V : Type 0} {fits : List ℕ → Type 0} (d : DomainState P) where
@@ -35,26 +33,24 @@ module _ {P V : Type 0} {fits : List ℕ → Type 0} (d : DomainState P) where
       ap (λ (v : CoreView). v.owned) drops.1.core
       ∙ owned_ended (ends drops.0) s (without_strong s old.view.core)
 
--- one of two references has gone
-pub one_left : (x s : SlotId) → s ≡ x → (xs ys : List SlotId) → 1 < times x xs
-    → times x ys ≡ times x (without s xs) → 0 < times x ys
-one_left x s same xs ys two is =
-    let from : times x ys ≡ times x (without x xs) =
-    subst (λ (t : SlotId). times x ys ≡ times x (without t xs)) same is in
-    let fewer = times_without x x xs (omega arith) in
-    let one = one_same x x refl in omega arith
-
--- what was added last has gone again
+-- a reference that was added last has gone again
 pub as_before : (x s : SlotId) (xs mid ys : List SlotId)
-    → ((y : SlotId) → times y mid ≡ times y (xs ++ s ∷ [])) → ys ≡ without s mid
-    → 0 < times x xs → 0 < times x ys
-as_before x s xs mid ys added is some' =
+    → ((y : SlotId) → times y mid ≡ times y (xs ++ s ∷ [])) → times x ys ≡ times x (without s mid)
+    → times x ys ≡ times x xs
+as_before x s xs mid ys added is =
     let push_s = times_push s s xs in
     let one = one_same s s refl in
     let in_mid : 0 < times s mid = omega (arith, added s) in
     let fewer = times_without x s mid in_mid in
-    let push_x = times_push x s xs in
-    let same = ap (times x) is in omega (arith, added x)
+    let push_x = times_push x s xs in omega (arith, added x)
+
+-- the same of another name of its slot
+pub as_before_named : (x s t : SlotId) → t ≡ s → (xs mid ys : List SlotId)
+    → ((y : SlotId) → times y mid ≡ times y (xs ++ s ∷ [])) → times x ys ≡ times x (without t mid)
+    → times x ys ≡ times x xs
+as_before_named x s t same xs mid ys added is =
+    as_before x s xs mid ys added
+    (subst (λ (u : SlotId). times x ys ≡ times x (without u mid)) same is)
 
 module _ {P V : Type 0} (fits : List ℕ → Type 0) (d : DomainState P) (old new : SeatState V) where
   -- a collect leaves what the seat owns

@@ -1,5 +1,7 @@
 -- A seat that pushes and pops, before it takes part in the queue and then.
 use Rattle.std.specs.Prelude.{◌≡◌, true}
+use Rattle.plain_state.specs.declared.slot.SlotId.{SlotId}
+use Rattle.plain_state.specs.Lists.{times}
 use Rattle.core_events.specs.Steps.{HasRoom}
 use Rattle.acquire_retire.specs.Domains.{DomainState}
 use Rattle.acquire_retire.specs.Seats.{SeatState}
@@ -21,3 +23,8 @@ pub record IsReadyToQueue (d : DomainState QueueLaw) (s : SeatState View) : Type
   pub rest : IsAtRest d s
   pub room : HasRoom s.view.core
   pub attached : IsAttached s.view.client
+
+-- it owns each slot as often as before
+abbrev pub OwnsAsMuch : SeatState View → SeatState View → Type 0
+OwnsAsMuch old new =
+    (x : SlotId) → times x new.view.core.owned ≡ times x old.view.core.owned

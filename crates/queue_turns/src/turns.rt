@@ -2,7 +2,7 @@
 ghost use Rattle.std.specs.Prelude.{◌≡◌, ◌<◌, IfOk};
 ghost use Rattle.plain_state.specs.Lists.{times};
 ghost use Rattle.linked_queue.specs.Queues.{CanLay, IsQueueOf};
-ghost use Rattle.queue_turns.specs.Queueing.{IsFreeToQueue, IsReadyToQueue};
+ghost use Rattle.queue_turns.specs.Queueing.{IsFreeToQueue, IsReadyToQueue, OwnsAsMuch};
 
 use crate::opening::{HEAD, TAIL};
 use acquire_retire::{Domain, Seat};
@@ -65,7 +65,7 @@ pub fn make_turns<R: Wait>(
     }
 }
 
-/// Makes the turns of a thread.
+/// Makes the turns of a thread. The seat owns what it owned.
 fn queue_all<R: Wait>(
     rt: &R,
     domain: &Domain<QueueLaw>,
@@ -76,18 +76,18 @@ fn queue_all<R: Wait>(
     requires ready { IsReadyToQueue domain.now seat.old }
     requires queue { IsQueueOf queue.now.head queue.now.tail domain.now }
     requires item { 0 < times item.now.slot seat.old.view.core.owned }
-    ensures item { 0 < times item.now.slot seat.new.view.core.owned }
+    ensures owned { OwnsAsMuch seat.old seat.new }
     ensures ready { IsReadyToQueue domain.now seat.new }
 {
     for _turn in 0..TURNS {
         push_copy(rt, domain, seat, queue, item);
-        pop_first(rt, domain, seat, queue, item);
+        pop_first(rt, domain, seat, queue);
         collect_now(domain, seat);
         reap_ended(domain, seat);
     }
 }
 
-/// Copies the reference to the item, and pushes the copy.
+/// Copies the reference to the item, and pushes the copy. The seat owns what it owned.
 fn push_copy<R: Wait>(
     rt: &R,
     domain: &Domain<QueueLaw>,
@@ -98,7 +98,7 @@ fn push_copy<R: Wait>(
     requires ready { IsReadyToQueue domain.now seat.old }
     requires queue { IsQueueOf queue.now.head queue.now.tail domain.now }
     requires item { 0 < times item.now.slot seat.old.view.core.owned }
-    ensures item { 0 < times item.now.slot seat.new.view.core.owned }
+    ensures owned { OwnsAsMuch seat.old seat.new }
     ensures ready { IsReadyToQueue domain.now seat.new }
 {
     let Ok(copy) = copy_strong(domain, seat, item) else {
@@ -109,21 +109,22 @@ fn push_copy<R: Wait>(
     }
 }
 
-/// Pops what is first, and drops it. The item stays the seat's.
+/// Pops what is first, and drops it. The seat owns what it owned.
 fn pop_first<R: Wait>(
     rt: &R,
     domain: &Domain<QueueLaw>,
     seat: &mut Seat<QueueLaw>,
     queue: &LinkedQueue,
-    item: &Strong,
 )
     requires ready { IsReadyToQueue domain.now seat.old }
     requires queue { IsQueueOf queue.now.head queue.now.tail domain.now }
-    requires item { 0 < times item.now.slot seat.old.view.core.owned }
-    ensures item { 0 < times item.now.slot seat.new.view.core.owned }
+    ensures owned { OwnsAsMuch seat.old seat.new }
     ensures ready { IsReadyToQueue domain.now seat.new }
 {
-    if let Ok(Some(first)) = queue.pop(rt, domain, seat) {
+    let Ok(found) = queue.pop(rt, domain, seat) else {
+        return;
+    };
+    if let Some(first) = found {
         drop_strong(domain, seat, first);
     }
 }
