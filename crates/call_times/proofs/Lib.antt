@@ -1,3 +1,2 @@
-pub mod Copying
-pub mod Keeping
 pub mod Opened
+pub mod Words

@@ -1,3 +1,2 @@
-pub mod Free
-pub mod Trials
 pub mod Interning
+pub mod Requests

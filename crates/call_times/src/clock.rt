@@ -1,23 +1,15 @@
 //! The time of a turn.
 ghost use Rattle.std.specs.Prelude.{◌<◌, ◌≤◌};
-ghost use Rattle.call_times.specs.Free.{IsFree};
 
-use crate::domain::{AnyPayload, Objects, Opened, open};
 use crate::fault::Fault;
-use crate::operation::Operation;
-use crate::strong_turns::CELL;
-use crate::turns::make_turns;
-use acquire_retire::{Domain, Seat};
-use atomic_shared::store;
 use out_of_memory::OutOfMemory;
-use plain_protocol::AnyStep;
-use slot_store::make;
 use std::alloc::Global;
 use std::rt::Clock;
 use std::sync::Wait;
 use std::thread;
 use std::thread::Threads;
 use std::time::{Duration, Instant};
+use turn_loops::{Opened, Operation, Placing, begin, make_turns, open};
 
 /// Tenths of a nanosecond.
 #[derive(Clone, Copy, PartialEq, Eq, Debug, Drop)]
@@ -32,21 +24,12 @@ impl Tenths {
     }
 }
 
-/// Puts an object into the cell.
-fn begin(domain: &Domain<Objects>, root: &mut Seat<Objects>)
-    requires root { IsFree domain.now root.old }
-    requires cell { 0 < domain.now.shape.cells }
-{
-    if let Ok(strong) = make(domain, root, &[0; 16], AnyStep) {
-        store(domain, root, CELL, Some(strong), AnyStep);
-    }
-}
-
 /// The wall time of one turn of the operation, where so many threads make its turns at once.
 pub fn time<R: Threads + Wait + Clock + Sync>(
     rt: &R,
     alloc: Global,
     operation: Operation,
+    placing: Placing,
     threads: u32,
 ) -> Result<Tenths, Fault>
     requires { (1 ≤ threads) × (threads ≤ 15) }
@@ -55,7 +38,7 @@ pub fn time<R: Threads + Wait + Clock + Sync>(
         domain,
         mut root,
         workers,
-    } = open(alloc, threads)?;
+    } = open(alloc, placing, threads)?;
     begin(&domain, &mut root);
     let start = Instant::now(rt)?;
     thread::map_vec(

@@ -1,13 +1,14 @@
-//! A domain with a directory of texts, for some threads, each of which has every other seat.
-ghost use Rattle.std.specs.Prelude.{◌≡◌, ◌*◌, ◌<◌, ◌≤◌, All, IfOk, length};
+//! A domain with a directory of texts, for some threads.
+ghost use Rattle.std.specs.Prelude.{◌+◌, ◌*◌, ◌≤◌, All, IfOk};
 ghost use Rattle.call_times.specs.Interning.{HasGrants, IsFreeToIntern};
+ghost use Rattle.turn_loops.specs.Placings.{AreOfThreads, AreSeats};
 
-use crate::domain::every_other;
 use crate::fault::Fault;
 use acquire_retire::{Domain, Quota, Seat, Shape, open_domain};
 use directory_protocol::DirectoryLaw;
 use out_of_memory::OutOfMemory;
 use std::alloc::Global;
+use turn_loops::{Placing, take_placed};
 
 /// How many texts a thread interns.
 pub const TURNS: u32 = 250_000;
@@ -34,7 +35,7 @@ fn open_all(
 ) -> Result<(Domain<DirectoryLaw>, Vec<Seat<DirectoryLaw>>), Fault>
     requires { (1 ≤ threads) × (threads ≤ 15) }
     ensures grants { IfOk result (λ opened. HasGrants threads opened.0) }
-    ensures seats { IfOk result (λ opened. 0 < length opened.1.items) }
+    ensures seats { IfOk result (λ opened. AreSeats (2 * threads + 2) opened.1.items) }
     ensures free { IfOk result (λ opened. All (IsFreeToIntern opened.0) opened.1.items) }
 {
     let seats = 2 * threads + 2;
@@ -51,16 +52,20 @@ fn open_all(
     Ok(open_domain(alloc, shape, &quotas, law)?)
 }
 
-/// Opens a domain of 2(threads + 1) seats, and takes seat 2i for thread i.
-pub fn open_directory(alloc: Global, threads: u32) -> Result<OpenedDirectory, Fault>
+/// Opens a domain of 2(threads + 1) seats, and takes for each thread the seat that the placing gives it.
+pub fn open_directory(
+    alloc: Global,
+    placing: Placing,
+    threads: u32,
+) -> Result<OpenedDirectory, Fault>
     requires { (1 ≤ threads) × (threads ≤ 15) }
     ensures grants { IfOk result (λ opened. HasGrants threads opened.domain) }
     ensures workers { IfOk result (λ opened.
         All (IsFreeToIntern opened.domain) opened.workers.items) }
+    ensures placed { IfOk result (λ opened. AreOfThreads placing threads opened.workers.items) }
 {
-    let (domain, mut others) = open_all(alloc, threads)?;
-    let root = others.remove(0);
-    let workers = every_other::<DirectoryLaw>(alloc, others, threads)?;
+    let (domain, seats) = open_all(alloc, threads)?;
+    let (root, workers) = take_placed(alloc, seats, placing, threads)?;
     Ok(OpenedDirectory {
         domain,
         root,

@@ -16,6 +16,7 @@ use std::sync::Wait;
 use std::thread;
 use std::thread::Threads;
 use std::time::Instant;
+use turn_loops::Placing;
 use weak_intern::{draw, intern};
 
 /// How many texts there are: w0, w1 and so on.
@@ -25,6 +26,7 @@ const TEXTS: u64 = 5000;
 pub fn time_interns<R: Threads + Wait + Clock + Sync>(
     rt: &R,
     alloc: Global,
+    placing: Placing,
     threads: u32,
 ) -> Result<Tenths, Fault>
     requires { (1 ≤ threads) × (threads ≤ 15) }
@@ -33,7 +35,7 @@ pub fn time_interns<R: Threads + Wait + Clock + Sync>(
         domain,
         root: _root,
         workers,
-    } = open_directory(alloc, threads)?;
+    } = open_directory(alloc, placing, threads)?;
     let start = Instant::now(rt)?;
     thread::map_vec(rt, workers, &|seat| work(rt, &domain, seat, threads)).map_err(
         OutOfMemory::from,

@@ -1,14 +1,16 @@
 //! `call_times THREADS` times single calls of the library: for each operation it opens a domain, lets so many threads
-//! make the calls in a loop on one shared cell, and prints a line `cdrc OP THREADS NS`, where NS is the wall time of
-//! one turn in one thread.
+//! make the calls in a loop on what all of them share, and prints a line `cdrc OP THREADS NS`, where NS is the wall time
+//! of one turn in one thread.
 //!
 //! Thread i, from 1 on, has seat 2i of 2(THREADS + 1), so that no two threads write one cache line: two seats'
-//! announcement words share one, and the last seat's the first cells'.
+//! announcement words share one, and the last seat's the first cells'. With `--neighbours` before THREADS it has seat
+//! i of as many, and all else is the same, so that it shows what neighbouring seats cost.
 //!
 //! It is proved that each call is one that its seat may make, and nothing is proved of times.
 //!
 //! ```text
 //! call_times 4
+//! call_times --neighbours 4
 //! ```
 #![tactic(auto)]
 
@@ -16,18 +18,16 @@ ghost use Rattle.std.specs.Prelude.{◌≤◌, IfSome};
 
 mod clock;
 mod directory;
-mod domain;
 mod fault;
 mod interning;
-mod operation;
-mod strong_turns;
-mod turns;
-mod weak_turns;
+mod queueing;
+mod request;
 
 use crate::clock::{Tenths, time};
 use crate::fault::Fault;
 use crate::interning::time_interns;
-use crate::operation::OPERATIONS;
+use crate::queueing::time_queue;
+use crate::request::{Request, asked};
 use std::alloc::Global;
 use std::env;
 use std::io::Print;
@@ -35,38 +35,32 @@ use std::process::ExitCode;
 use std::rt::Clock;
 use std::sync::Wait;
 use std::thread::Threads;
+use turn_loops::OPERATIONS;
 
-/// As many threads as one domain has room for beside seat 0.
-const MOST_THREADS: u32 = 15;
-
-/// The number of threads that the command line names.
-fn threads_of(rt: &HostRuntime) -> Option<u32>
-    ensures { IfSome result (λ threads. (1 ≤ threads) × (threads ≤ 15)) }
+/// What the command line asks for.
+fn request_of(rt: &HostRuntime) -> Option<Request>
+    ensures { IfSome result (λ request. (1 ≤ request.threads) × (request.threads ≤ 15)) }
 {
-    let arguments: Vec<String> = env::args(rt).ok()?.skip(1).collect(rt.alloc()).ok()?;
-    let [threads] = arguments.as_slice() else {
-        return None;
-    };
-    let threads = threads.parse::<u32>().ok()?;
-    if threads == 0 || threads > MOST_THREADS {
-        return None;
-    }
-    Some(threads)
+    let words: Vec<String> = env::args(rt).ok()?.skip(1).collect(rt.alloc()).ok()?;
+    asked(words.as_slice())
 }
 
 /// Times each operation, and prints its line.
 fn time_all<R: Print + Clock + Threads + Wait + Sync>(
     rt: &R,
     alloc: Global,
-    threads: u32,
+    request: Request,
 ) -> Result<(), Fault>
-    requires { (1 ≤ threads) × (threads ≤ 15) }
+    requires { (1 ≤ request.threads) × (request.threads ≤ 15) }
 {
+    let Request { placing, threads } = request;
     for operation in OPERATIONS {
-        let each = time(rt, alloc, operation, threads)?;
+        let each = time(rt, alloc, operation, placing, threads)?;
         print_line(rt, operation.name(), threads, each)?;
     }
-    let each = time_interns(rt, alloc, threads)?;
+    let each = time_queue(rt, alloc, placing, threads)?;
+    print_line(rt, "queue", threads, each)?;
+    let each = time_interns(rt, alloc, placing, threads)?;
     print_line(rt, "intern", threads, each)
 }
 
@@ -78,11 +72,11 @@ fn print_line<R: Print>(rt: &R, name: &str, threads: u32, each: Tenths) -> Resul
 }
 
 fn main(rt: HostRuntime) -> ExitCode {
-    let Some(threads) = threads_of(&rt) else {
-        let _ = rt.eprintln("call_times: THREADS, from 1 to 15");
+    let Some(request) = request_of(&rt) else {
+        let _ = rt.eprintln("call_times: [--neighbours] THREADS, from 1 to 15");
         return ExitCode::from(2);
     };
-    match time_all(&rt, rt.alloc(), threads) {
+    match time_all(&rt, rt.alloc(), request) {
         Ok(()) => ExitCode::SUCCESS,
         Err(fault) => {
             let _ = rt.eprintln(fault);

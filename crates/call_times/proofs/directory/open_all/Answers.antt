@@ -3,9 +3,17 @@ use Rattle.std.specs.Prelude.{All}
 use Rattle.core_events.specs.Runs.{IsShape}
 use Rattle.directory_calls.specs.Directories.{area_of}
 use Rattle.directory_law.specs.Owned.{first_view}
+use Rattle.turn_loops.proofs.Placings.{opened_are}
 use Rattle.call_times.specs.Interning.{IsFreeToIntern}
 use Rattle.call_times.proofs.Opened.{all_free}
 use Rattle.call_times.proofs.directory.open_all.Goals as goal
+
+pub returns-clause-seats : goal.returns-clause-seats
+returns-clause-seats c =
+    let opened = c.in_ok-open_domain.ensures {u = tt} in
+    opened_are (first_view (area_of c.granted-law.result)) c.in_ok-open_domain.field-0.0
+    c.args.threads c.in_ok-open_domain.field-0.1.items opened.seats
+    (ap (λ x. x.shape.seats) opened.domain)
 
 pub returns-clause-free : goal.returns-clause-free
 returns-clause-free c =

@@ -1,13 +1,20 @@
-use Rattle.std.proofs.Common.{subst, sym}
-use Rattle.std.specs.Prelude.{All}
+use Rattle.std.proofs.Common.{arith}
+use Rattle.turn_loops.proofs.Placings.{all_of_threads, all_placed}
 use Rattle.call_times.specs.Interning.{IsFreeToIntern}
-use Rattle.call_times.proofs.Keeping.{all_but_first, all_within}
 use Rattle.call_times.proofs.directory.open_directory.Goals as goal
+
+pub take_placed-requires-clause-enough : goal.take_placed-requires-clause-enough
+take_placed-requires-clause-enough c = omega (arith, (c.in_ok-domain.ensures {u = tt}).seats.count)
 
 pub returns-clause-workers : goal.returns-clause-workers
 returns-clause-workers c =
-    let free = IsFreeToIntern c.in_ok-domain.domain in
-    all_within free c.remove-root.new.self.items c.in_ok-workers.workers.items
-    (subst (All free) (sym c.remove-root.ensures.items)
-    (all_but_first free c.in_ok-domain.others.items (c.in_ok-domain.ensures {u = tt}).free))
-    (c.in_ok-workers.ensures {u = tt})
+    let opened = c.in_ok-domain.ensures {u = tt} in
+    all_placed c.args.placing c.args.threads c.in_ok-domain.seats.items c.in_ok-root.workers.items
+    (c.in_ok-root.ensures {u = tt}).placed (omega (arith, opened.seats.count))
+    (IsFreeToIntern c.in_ok-domain.domain) opened.free
+
+pub returns-clause-placed : goal.returns-clause-placed
+returns-clause-placed c =
+    all_of_threads c.args.placing c.args.threads c.in_ok-domain.seats.items
+    c.in_ok-root.workers.items (c.in_ok-domain.ensures {u = tt}).seats
+    (c.in_ok-root.ensures {u = tt}).placed

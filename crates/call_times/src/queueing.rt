@@ -1,0 +1,37 @@
+//! The time of a turn that pushes and pops.
+ghost use Rattle.std.specs.Prelude.{◌≤◌};
+
+use crate::clock::Tenths;
+use crate::fault::Fault;
+use out_of_memory::OutOfMemory;
+use queue_turns::{OpenedQueue, TURNS, begin, make_turns, open_queue};
+use std::alloc::Global;
+use std::rt::Clock;
+use std::sync::Wait;
+use std::thread;
+use std::thread::Threads;
+use std::time::Instant;
+use turn_loops::Placing;
+
+/// The wall time of one turn, where so many threads push and pop at once.
+pub fn time_queue<R: Threads + Wait + Clock + Sync>(
+    rt: &R,
+    alloc: Global,
+    placing: Placing,
+    threads: u32,
+) -> Result<Tenths, Fault>
+    requires { (1 ≤ threads) × (threads ≤ 15) }
+{
+    let OpenedQueue {
+        domain,
+        mut root,
+        workers,
+    } = open_queue(alloc, placing, threads)?;
+    let queue = begin(rt, &domain, &mut root, threads)?;
+    let start = Instant::now(rt)?;
+    thread::map_vec(rt, workers, &|seat| make_turns(rt, &domain, seat, queue)).map_err(
+        OutOfMemory::from,
+    )?;
+    let elapsed = start.elapsed(rt)?;
+    Ok(Tenths::of_each(elapsed, TURNS))
+}

@@ -1,0 +1,9 @@
+use Rattle.core_events.specs.Steps.{HasRoom}
+use Rattle.control_word.specs.Resting.{IsAtRest}
+use Rattle.std.specs.Prelude.{◌<◌}
+use Rattle.plain_state.specs.Lists.{times}
+use Rattle.turn_loops.proofs.strong_turns.copies.Given as goal
+
+abbrev pub invariant-loop-turn : goal.invariant-loop-turn
+invariant-loop-turn g l = IsAtRest l.domain l.seat × HasRoom l.seat.view.core
+    × (0 < times l.strong.slot l.seat.view.core.owned)

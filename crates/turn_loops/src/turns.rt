@@ -1,0 +1,46 @@
+//! The turns of one thread, and what they begin with.
+ghost use Rattle.std.specs.Prelude.{◌<◌};
+ghost use Rattle.turn_loops.specs.Free.{IsFree};
+
+use crate::domain::Objects;
+use crate::operation::Operation;
+use crate::strong_turns::{CELL, announces, copies, loads, makes, snapshots, stores};
+use crate::weak_turns::upgrades;
+use acquire_retire::{Domain, Seat};
+use atomic_shared::store;
+use plain_protocol::AnyStep;
+use slot_store::make;
+use std::sync::Wait;
+
+/// Puts an object into the cell that all threads share.
+pub fn begin(domain: &Domain<Objects>, root: &mut Seat<Objects>)
+    requires root { IsFree domain.now root.old }
+    requires cell { 0 < domain.now.shape.cells }
+{
+    if let Ok(strong) = make(domain, root, &[0; 16], AnyStep) {
+        store(domain, root, CELL, Some(strong), AnyStep);
+    }
+}
+
+/// Makes the turns of an operation.
+pub fn make_turns<R: Wait>(
+    rt: &R,
+    domain: &Domain<Objects>,
+    mut seat: Seat<Objects>,
+    operation: Operation,
+)
+    requires free { IsFree domain.now seat }
+    requires cell { 0 < domain.now.shape.cells }
+    requires slot { 0 < domain.now.shape.slots }
+{
+    let turns = operation.turns();
+    match operation {
+        Operation::Announce => announces(domain, &mut seat, turns),
+        Operation::Load => loads(rt, domain, &mut seat, turns),
+        Operation::Snapshot => snapshots(rt, domain, &mut seat, turns),
+        Operation::Store => stores(domain, &mut seat, turns),
+        Operation::Copy => copies(rt, domain, &mut seat, turns),
+        Operation::Upgrade => upgrades(rt, domain, &mut seat, turns),
+        Operation::MakeDrop => makes(domain, &mut seat, turns),
+    }
+}
