@@ -1,6 +1,6 @@
 //! `call_times THREADS` times single calls of the library: for each operation it opens a domain, lets so many threads
-//! make the calls in a loop on what all of them share, and prints a line `cdrc OP THREADS NS`, where NS is the wall time
-//! of one turn in one thread.
+//! make the calls in a loop on what all of them share, and prints a line `cdrc OP THREADS NS`, where NS is the wall
+//! time of one turn in one thread.
 //!
 //! Thread i, from 1 on, has seat 2i of 2(THREADS + 1), so that no two threads write one cache line: two seats'
 //! announcement words share one, and the last seat's the first cells'. With `--neighbours` before THREADS it has seat
