@@ -1,13 +1,15 @@
-ghost use Rattle.std.specs.Prelude.{◌≡◌, ◌^◌, ◌<◌, ◌≤◌, ◌+◌, IfOk, length};
+ghost use Rattle.std.specs.Prelude.{◌≡◌, ◌≤◌, ℕ, [], ◌∷◌, IfOk, length};
 ghost use Rattle.core_events.specs.Steps.{HasRoom};
 ghost use Rattle.control_word.specs.Resting.{IsAtRest};
 ghost use Rattle.part_calls.specs.Parts.{as_part};
-ghost use Rattle.directory_calls.specs.Directories.{IsOver};
+ghost use Rattle.directory_calls.specs.Directories.{HasQuota, IsOver, area_of};
 ghost use Rattle.linked_queue.specs.Queues.{CanLay, IsQueueOf};
 ghost use Rattle.text_reading.specs.Reading.{HasTwoFree};
 ghost use Rattle.word_lanes.specs.Ready.{IsReady};
+ghost use Rattle.lane_files.specs.Files.{HasPieces, pieces_in};
+ghost use Rattle.lane_files.specs.Work.{IsWork, all_tickets, words_of};
 
-use crate::{FileText, Lane, count_file};
+use crate::{FileText, Lane, Work, run_lane};
 use acquire_retire::{Domain, Quota, Seat, Shape, open_domain};
 use crossbeam_utils::atomic::AtomicCell;
 use deleter::Deleter;
@@ -19,6 +21,7 @@ use plain_state::PayloadKind;
 use protocol_pairs::PairKind;
 use queue_protocol::{NodeKind, QueueLaw};
 use slot_store::MakeError;
+use std::alloc::Global;
 use std::sync::Wait;
 use std::test::Fail;
 use word_lanes::Shared;
@@ -46,24 +49,25 @@ impl Gate for Noted {
     }
 }
 
-/// A domain of one seat that may intern three texts, with a queue over cells 0 and 1 and a directory of ten cells, and
-/// that seat.
-fn open_for_three(rt: &HostRuntime) -> Result<(Domain<WordsLaw>, Seat<WordsLaw>), Fail>
+/// A domain of one seat, with a queue over cells 0 and 1 and a directory of ten cells, and that seat. Each of the first
+/// two tickets grants three interns.
+fn open_for_two_tickets(rt: &HostRuntime) -> Result<(Domain<WordsLaw>, Seat<WordsLaw>), Fail>
     ensures rest { IfOk result (λ r. IsAtRest r.0 r.1 × HasRoom r.1.view.core) }
     ensures queue { IfOk result (λ r.
         IsQueueOf 0 1 (as_part (λ (it : WordsLaw). it.pair.left) r.0)) }
     ensures over { IfOk result (λ r. IsOver r.0 r.0.protocol.pair.right
         (record { first = 0; cells = 10 })) }
+    ensures grants { IfOk result (λ r.
+        (area_of r.0.protocol.pair.right).grants ≡ 3 ∷ 3 ∷ []) }
     ensures unlaid { IfOk result (λ r. CanLay r.1.view.client.0) }
-    ensures quota { IfOk result (λ r. (r.1.view.client.1.used ≡ 0)
-        × (r.1.view.client.1.quota ≡ 3)) }
+    ensures quota { IfOk result (λ r. HasQuota r.1.view.client.1) }
     ensures free { IfOk result (λ r. HasTwoFree r.1.view.core) }
 {
     let quota = Quota {
         makes: 16,
-        adds: 200,
+        adds: 400,
     };
-    let directory = DirectoryLaw::new(0, 10, vec![in rt.alloc(); 3]?);
+    let directory = DirectoryLaw::granted(0, 10, vec![in rt.alloc(); 3, 3]?);
     let law = WordsLaw::new(QueueLaw::linked(0, 1), directory);
     let (domain, mut seats) = open_domain(rt.alloc(), SHAPE, &[quota], law)?;
     Ok((domain, seats.remove(0)))
@@ -77,12 +81,9 @@ fn lay(domain: &Domain<WordsLaw>, seat: &mut Seat<WordsLaw>) -> Result<Shared, M
     requires over { IsOver domain.now domain.now.protocol.pair.right
         (record { first = 0; cells = 10 }) }
     requires unlaid { CanLay seat.old.view.client.0 }
-    requires used { seat.old.view.client.1.used ≡ 0 }
-    requires quota { seat.old.view.client.1.quota ≡ 3 }
+    requires quota { HasQuota seat.old.view.client.1 }
     requires free { HasTwoFree seat.old.view.core }
     ensures ready { IfOk result (λ shared. IsReady domain.now shared seat.new) }
-    ensures used { seat.new.view.client.1.used ≡ 0 }
-    ensures quota { seat.new.view.client.1.quota ≡ 3 }
 {
     let queue = LinkedQueue::lay(domain, seat, 0, 1)?;
     Ok(Shared {
@@ -91,9 +92,23 @@ fn lay(domain: &Domain<WordsLaw>, seat: &mut Seat<WordsLaw>) -> Result<Shared, M
     })
 }
 
+/// Two rounds over one file of at most three pieces.
+fn twice(alloc: Global, file: FileText) -> Result<Work, Fail>
+    requires lies { HasPieces file }
+    requires few { length (pieces_in file) ≤ 3 }
+    ensures work { IfOk result IsWork }
+    ensures tickets { IfOk result (λ work. all_tickets work ≡ 2) }
+    ensures words { IfOk result (λ work. (ticket : ℕ) → length (words_of work ticket) ≤ 3) }
+{
+    Ok(Work {
+        files: vec![in alloc; file]?,
+        rounds: 2,
+    })
+}
+
 #[test]
-fn a_file_of_b_a_b_keeps_two_records(rt: HostRuntime) -> Result<(), Fail> {
-    let (domain, mut seat) = open_for_three(&rt)?;
+fn two_rounds_of_b_a_b_keep_two_records(rt: HostRuntime) -> Result<(), Fail> {
+    let (domain, mut seat) = open_for_two_tickets(&rt)?;
     let Ok(shared) = lay(&domain, &mut seat) else {
         panic!(rt; "a queue")
     };
@@ -103,18 +118,19 @@ fn a_file_of_b_a_b_keeps_two_records(rt: HostRuntime) -> Result<(), Fail> {
     let Ok(file) = FileText::cut(rt.alloc(), Vec::from_slice(rt.alloc(), b"b a b")?, 3) else {
         panic!(rt; "three pieces")
     };
+    let work = twice(rt.alloc(), file)?;
     let mut lane = Lane::new(rt.alloc(), 3);
     let gate = Noted {
         next: AtomicCell::new(0),
     };
-    let Ok(()) = count_file(
-        &rt, &domain, &mut seat, &shared, &gate, &weigh, &mut lane, &file,
+    let Ok(()) = run_lane(
+        &rt, &domain, &mut seat, &shared, &gate, &weigh, &mut lane, &work,
     ) else {
-        panic!(rt; "a file")
+        panic!(rt; "two tickets")
     };
-    assert_eq!(rt; gate.next.load(), 3);
+    assert_eq!(rt; gate.next.load(), 6);
     assert_eq!(rt; lane.keeper.kept.len(), 2);
-    assert_eq!(rt; lane.tally.get(b"b"), 2);
-    assert_eq!(rt; lane.tally.get(b"a"), 1);
+    assert_eq!(rt; lane.tally.get(b"b"), 4);
+    assert_eq!(rt; lane.tally.get(b"a"), 2);
     Ok(())
 }

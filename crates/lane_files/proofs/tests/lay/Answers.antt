@@ -3,29 +3,31 @@ use Rattle.words_law.specs.Views.{View}
 use Rattle.word_lanes.proofs.Kept.{free_still, owns_queue}
 use Rattle.lane_files.proofs.tests.lay.Goals as goal
 
-pub returns-clause-ready : goal.returns-clause-ready
-returns-clause-ready c =
+pub returns : goal.returns
+returns c =
     let ends = c.in_ok-queue.ensures.queue in let cells = c.over.ensures.over in
     let used = ap (λ (v : View). v.1.used) c.lay.ensures.beside in
     let quota = ap (λ (v : View). v.1.quota) c.lay.ensures.beside in
     record {
-      rest = c.lay.ensures.rest;
-      room = c.lay.ensures.room;
-      queue = record {
-        form = c.requires.queue.form;
-        head = c.requires.queue.head ∙ sym ends.0;
-        tail = c.requires.queue.tail ∙ sym ends.1;
-        head_there = omega (arith, ends.0, c.requires.queue.head_there);
-        tail_there = omega (arith, ends.1, c.requires.queue.tail_there);
+      ready = record {
+        rest = c.lay.ensures.rest;
+        room = c.lay.ensures.room;
+        queue = record {
+          form = c.requires.queue.form;
+          head = c.requires.queue.head ∙ sym ends.0;
+          tail = c.requires.queue.tail ∙ sym ends.1;
+          head_there = omega (arith, ends.0, c.requires.queue.head_there);
+          tail_there = omega (arith, ends.1, c.requires.queue.tail_there);
+        };
+        over = record {
+          first = cells.0 ∙ c.requires.over.first;
+          cells = cells.1 ∙ c.requires.over.cells;
+          some_cells = omega (arith, cells.1);
+          there = omega (arith, cells.0, cells.1, c.requires.over.there);
+        };
+        attached = c.in_ok-queue.ensures.attached;
+        quota = omega (arith, used, quota, c.requires.quota);
+        free = free_still c.args.seat.now c.lay.new.seat
+            (owns_queue c.args.seat.now c.lay.new.seat c.lay.ensures.leaves) c.requires.free;
       };
-      over = record {
-        first = cells.0 ∙ c.requires.over.first;
-        cells = cells.1 ∙ c.requires.over.cells;
-        some_cells = omega (arith, cells.1);
-        there = omega (arith, cells.0, cells.1, c.requires.over.there);
-      };
-      attached = c.in_ok-queue.ensures.attached;
-      quota = omega (arith, used, quota, c.requires.used, c.requires.quota);
-      free = free_still c.args.seat.now c.lay.new.seat
-          (owns_queue c.args.seat.now c.lay.new.seat c.lay.ensures.leaves) c.requires.free;
     }
