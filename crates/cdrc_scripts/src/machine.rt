@@ -2,7 +2,9 @@
 ghost use Rattle.std.specs.Prelude.{◌≡◌, ◌++◌, ℕ, Bool, List, [], Ok, None, Some, IfOk, IfErr};
 ghost use Rattle.line_words.specs.declared.reason.Reason.{Reason};
 ghost use Rattle.line_words.specs.Words.{texts_of};
+ghost use Rattle.deleter.specs.Weighing.{Weighs};
 ghost use Rattle.script_desk.specs.Desks.{scope_of};
+ghost use Rattle.script_desk.specs.Kinds.{IsScriptPayload, script_weight};
 ghost use Rattle.script_desk.specs.Faults.{IsFault};
 ghost use Rattle.domain_desk.specs.Desks.{desk_of};
 ghost use Rattle.cdrc_scripts.specs.Domains.{EndsOn, IsSettledDesk, RefusesOn, RunsOn, TakesOn};
@@ -20,12 +22,14 @@ use script_lines::{Command, CommandRefused};
 use std::alloc::Global;
 
 /// Runs the command, where it has no fault, and appends its line.
-fn run_command(
+fn run_command<F: Fn(&[u64; 16]) -> u64>(
     desk: &mut DomainDesk,
+    weigh: &Deleter<ScriptKind, F>,
     command: &Command,
     text: &mut Vec<u8>,
 ) -> Result<Option<Reason>, OutOfMemory>
-    requires { IsSettledDesk (Some desk.old) }
+    requires settled_before { IsSettledDesk (Some desk.old) }
+    requires weighs { Weighs IsScriptPayload script_weight F.Fn weigh.now }
     ensures taken { result ≡ Ok None → (out : List ℕ) × (text.new.items ≡ text.old.items ++ out)
         × RunsOn desk.old command.now out desk.new }
     ensures settled { result ≡ Ok None → IsSettledDesk (Some desk.new) }
@@ -36,21 +40,21 @@ fn run_command(
     if let Some(reason) = desk.fault(command) {
         return Ok(Some(reason));
     }
-    // It captures nothing, so one that is made for each line is as good as one for all.
-    let weigh: Deleter<ScriptKind, _> = Deleter::keep(|payload: &[u64; 16]| payload[0]);
-    let said = desk.run(command, &weigh)?;
+    let said = desk.run(command, weigh)?;
     push_said(text, command, &said)?;
     Ok(None)
 }
 
 /// Runs the command that the words spell.
-fn take_command(
+fn take_command<F: Fn(&[u64; 16]) -> u64>(
     desk: &mut DomainDesk,
+    weigh: &Deleter<ScriptKind, F>,
     alloc: Global,
     words: &[&[u8]],
     text: &mut Vec<u8>,
 ) -> Result<Option<Reason>, OutOfMemory>
-    requires { IsSettledDesk (Some desk.old) }
+    requires settled_before { IsSettledDesk (Some desk.old) }
+    requires weighs { Weighs IsScriptPayload script_weight F.Fn weigh.now }
     ensures taken { result ≡ Ok None → (out : List ℕ) × (text.new.items ≡ text.old.items ++ out)
         × TakesOn (Some desk.old) (texts_of words.now) out (Some desk.new) }
     ensures settled { result ≡ Ok None → IsSettledDesk (Some desk.new) }
@@ -63,7 +67,7 @@ fn take_command(
         Err(CommandRefused::Syntax) => return Ok(Some(Reason::Syntax)),
         Err(CommandRefused::OutOfMemory) => return Err(OutOfMemory),
     };
-    run_command(desk, &command, text)
+    run_command(desk, weigh, &command, text)
 }
 
 /// The desk of the heap that the words give its numbers, or why they are refused.
@@ -84,7 +88,10 @@ fn begin(alloc: Global, words: &[&[u8]]) -> Result<Result<DomainDesk, Reason>, O
     }
 }
 
-impl LineMachine for ScriptMachine {
+/// The aid of a script is the one closure that weighs its objects.
+impl<F: Fn(&[u64; 16]) -> u64> LineMachine<Deleter<ScriptKind, F>> for ScriptMachine {
+    ghost serves = { Weighs IsScriptPayload script_weight F.Fn };
+
     ghost takes = { TakesOn };
 
     ghost refuses = { RefusesOn };
@@ -93,13 +100,14 @@ impl LineMachine for ScriptMachine {
 
     fn take(
         &mut self,
+        weigh: &Deleter<ScriptKind, F>,
         alloc: Global,
         words: &[&[u8]],
         text: &mut Vec<u8>,
     ) -> Result<Option<Reason>, OutOfMemory> {
         // A desk on which an allocation failed is kept no longer.
         if let Some(mut desk) = self.desk.take() {
-            let refused = take_command(&mut desk, alloc, words, text)?;
+            let refused = take_command(&mut desk, weigh, alloc, words, text)?;
             self.desk = Some(desk);
             return Ok(refused);
         }

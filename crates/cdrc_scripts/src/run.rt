@@ -1,5 +1,7 @@
 //! The meaning of a script.
 ghost use Rattle.std.specs.Prelude.{◌≡◌, IfOk, None, IsSome, IfSome};
+ghost use Rattle.deleter.specs.Weighing.{Weighs};
+ghost use Rattle.script_desk.specs.Kinds.{IsScriptPayload, script_weight};
 ghost use Rattle.cdrc_scripts.specs.Domains.{IsClosed, IsScriptOn, IsSettledDesk};
 ghost use Rattle.cdrc_scripts.specs.Meaning.{IsScript};
 
@@ -30,21 +32,25 @@ pub fn script(alloc: Global, text: &[u8]) -> Result<Scripted, OutOfMemory>
     ensures on { IfOk result (λ s.
         IsScriptOn text.now s.written.text.items s.written.refused s.seat) }
 {
+    let weigh: Deleter<ScriptKind, _> = Deleter::keep(|payload: &[u64; 16]| payload[0]);
     let mut machine = ScriptMachine { desk: None };
-    let written = run_lines(alloc, &mut machine, text)?;
+    let written = run_lines(alloc, &mut machine, &weigh, text)?;
     Ok(Scripted {
         written,
-        seat: close(machine.desk),
+        seat: close(machine.desk, &weigh),
     })
 }
 
 /// Gives up all that names are bound to, and answers the seat.
-fn close(desk: Option<DomainDesk>) -> Option<Seat<NoLaw<ScriptKind>>>
-    requires { IsSettledDesk desk }
+fn close<F: Fn(&[u64; 16]) -> u64>(
+    desk: Option<DomainDesk>,
+    weigh: &Deleter<ScriptKind, F>,
+) -> Option<Seat<NoLaw<ScriptKind>>>
+    requires settled { IsSettledDesk desk }
+    requires weighs { Weighs IsScriptPayload script_weight F.Fn weigh.now }
     ensures { IsClosed desk result }
 {
     let desk = desk?;
-    let weigh: Deleter<ScriptKind, _> = Deleter::keep(|payload: &[u64; 16]| payload[0]);
-    let (_domain, seat) = desk.close(&weigh);
+    let (_domain, seat) = desk.close(weigh);
     Some(seat)
 }

@@ -70,7 +70,9 @@ impl StepMachine {
     }
 }
 
-impl LineMachine for StepMachine {
+impl LineMachine<()> for StepMachine {
+    ghost serves = { λ aid. Unit {0} };
+
     ghost takes = { Takes };
 
     ghost refuses = { Refuses };
@@ -79,6 +81,7 @@ impl LineMachine for StepMachine {
 
     fn take(
         &mut self,
+        _aid: &(),
         alloc: Global,
         words: &[&[u8]],
         text: &mut Vec<u8>,

@@ -14,5 +14,5 @@ pub fn steps(alloc: Global, text: &[u8]) -> Result<Written, OutOfMemory>
     ensures { IfOk result (λ written. IsSteps text.now written.text.items written.refused) }
 {
     let mut machine = StepMachine { running: None };
-    run_lines(alloc, &mut machine, text)
+    run_lines(alloc, &mut machine, &(), text)
 }

@@ -6,7 +6,7 @@
 //! promised of what a line means: that is the machine's.
 //!
 //! ```text
-//! let written = run_lines(alloc, &mut machine, text)?;
+//! let written = run_lines(alloc, &mut machine, &aid, text)?;
 //! if written.refused {
 //!     // the last line of written.text tells which line, and why
 //! }

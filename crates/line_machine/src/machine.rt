@@ -7,8 +7,12 @@ use line_words::Reason;
 use out_of_memory::OutOfMemory;
 use std::alloc::Global;
 
-/// What takes the lines of a text one by one. Its ghost members say what a line's words do in each of its states.
-pub trait LineMachine {
+/// What takes the lines of a text one by one, with an aid that is one for all of them. Its ghost members say what a
+/// line's words do in each of its states.
+pub trait LineMachine<A> {
+    /// What an aid must be.
+    ghost serves: { A → Type 0 };
+
     /// In this state the words write these bytes, and lead to that state.
     ghost takes: { Self → List (List ℕ) → List ℕ → Self → Type 0 };
 
@@ -22,10 +26,12 @@ pub trait LineMachine {
     /// nothing is appended then, and the state stays.
     fn take(
         &mut self,
+        aid: &A,
         alloc: Global,
         words: &[&[u8]],
         text: &mut Vec<u8>,
     ) -> Result<Option<Reason>, OutOfMemory>
+        requires { serves aid.now }
         ensures taken { result ≡ Ok None → (out : List ℕ) × (text.new.items ≡ text.old.items ++ out)
             × takes self.old (texts_of words.now) out self.new }
         ensures refused { (reason : Reason) → result ≡ Ok (Some reason) →

@@ -16,11 +16,13 @@ pub struct Written {
 
 /// Runs the lines of the text in order, up to the first that is refused, which leaves the machine as it was. Linear in
 /// the text, beside what the machine takes for each line.
-pub fn run_lines<M: LineMachine>(
+pub fn run_lines<A, M: LineMachine<A>>(
     alloc: Global,
     machine: &mut M,
+    aid: &A,
     text: &[u8],
 ) -> Result<Written, OutOfMemory>
+    requires { M.serves aid.now }
     ensures { IfOk result (λ written.
         IsRun M.takes M.refuses M.ends machine.old text.now written.text.items written.refused
         machine.new) }
@@ -31,7 +33,7 @@ pub fn run_lines<M: LineMachine>(
         if is_blank(&words) {
             continue;
         }
-        if let Some(reason) = machine.take(alloc, &words, &mut written)? {
+        if let Some(reason) = machine.take(aid, alloc, &words, &mut written)? {
             push_refused(&mut written, line.number, reason)?;
             return Ok(Written {
                 text: written,

@@ -12,7 +12,9 @@ use std::test::Fail;
 #[derive(Drop)]
 struct Dots;
 
-impl LineMachine for Dots {
+impl LineMachine<()> for Dots {
+    ghost serves = { λ aid. Unit {0} };
+
     ghost takes = { λ s words out t. Unit {0} };
 
     ghost refuses = { λ s words reason. Unit {0} };
@@ -21,6 +23,7 @@ impl LineMachine for Dots {
 
     fn take(
         &mut self,
+        _aid: &(),
         _alloc: Global,
         words: &[&[u8]],
         text: &mut Vec<u8>,
@@ -48,7 +51,7 @@ fn lines_in_order(rt: HostRuntime) -> Result<(), Fail> {
         ("a\n\n# no\nb c\nd\n", ".\nline 4 refused: range\n", true),
         ("b c", "line 1 refused: range\n", true),
     ] {
-        let found = run_lines(rt.alloc(), &mut Dots, text.as_bytes())?;
+        let found = run_lines(rt.alloc(), &mut Dots, &(), text.as_bytes())?;
         assert!(rt; found.text.as_slice() == written.as_bytes(), "{text}");
         assert!(rt; found.refused == refused, "{text}");
     }

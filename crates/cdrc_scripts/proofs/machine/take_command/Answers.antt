@@ -6,13 +6,13 @@ use Rattle.cdrc_scripts.proofs.Taking.{command_taken, command_refused}
 use Rattle.cdrc_scripts.proofs.machine.take_command.Goals as goal
 
 pub returns-clause-taken : goal.returns-clause-taken
-returns-clause-taken c told =
+returns-clause-taken g c told =
     let spells : SpellsCommand c.in-Ok.command (texts_of c.args.words.now) = search rules in
     command_taken c.args.desk.now c.run_command.new.desk (texts_of c.args.words.now) c.args.text.now.items
     c.run_command.new.text.items c.in-Ok.command spells (c.run_command.ensures.taken told)
 
 pub returns-clause-refused : goal.returns-clause-refused
-returns-clause-refused c reason told =
+returns-clause-refused g c reason told =
     let spells : SpellsCommand c.in-Ok.command (texts_of c.args.words.now) = search rules in
     let why = c.run_command.ensures.refused reason told in (
       why.0,

@@ -1,5 +1,5 @@
 use Rattle.std.proofs.Common.{◌≡◌, sym, ◌∙◌, Some}
-use Rattle.cdrc_steps.proofs.machine.StepMachineLineMachine.take.Goals as goal
+use Rattle.cdrc_steps.proofs.machine.StepMachineLineMachineUnit.take.Goals as goal
 
 pub returns-in-Some-clause-refused : goal.returns-in-Some-clause-refused
 returns-in-Some-clause-refused c reason told =
