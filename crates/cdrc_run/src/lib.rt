@@ -1,0 +1,44 @@
+//! The program `cdrc_words` as a library: it counts the words of a file, with an audit of the heap of its records
+//! before and after all handles are dropped; runs a script of pointer commands; makes a list of atomic steps; and draws
+//! words to be counted.
+//!
+//! The work is `run`, a call over any source, sink and gate, which answers a status. The rule that it keeps: with
+//! status 0 or 8 the bytes taken are the output that the words and the file's content mean, and every other status but
+//! that of no memory comes only where its cause is there. `start` is `run` for a process: it hands on the words after
+//! the program's name, the host's files and standard output, writes the line for the status to standard error, and
+//! answers the exit code.
+//!
+//! It doesn't promise that a run ends, since the gate may wait, nor when memory is enough. No clause says what the host
+//! gives and takes.
+//!
+//! ```text
+//! fn main(rt: HostRuntime) -> ExitCode {
+//!     start(&rt)
+//! }
+//! ```
+#![tactic(auto)]
+
+mod command;
+mod counting;
+mod drawing;
+mod explaining;
+mod limits;
+mod outcome;
+mod output;
+mod records;
+mod report;
+mod running;
+mod starting;
+mod work;
+
+pub use explaining::{exit_status, explain};
+pub use outcome::{End, Why};
+pub use running::run;
+pub use starting::start;
+
+#[cfg(test)]
+mod tests;
+#[cfg(test)]
+mod tests_drawing;
+#[cfg(test)]
+mod tests_gate;

@@ -1,0 +1,56 @@
+//! A run for a process.
+ghost use Rattle.std.specs.Prelude.{IfOk};
+ghost use Rattle.std.specs.Process.{exit_status as status_of_process};
+ghost use Rattle.cdrc_run.specs.Statuses.{IsStatus};
+
+use crate::explaining::{exit_status, explain};
+use crate::running::run;
+use lane_gate::{HostFiles, HostSink, Open};
+use std::env;
+use std::io::{Eprint, ErrorKind, Print};
+use std::process::ExitCode;
+use std::rt::{Env, Files};
+use std::sync::Wait;
+use std::thread::Threads;
+
+/// Runs the program for a process: the words are those of the command line after the program's name, the source is the
+/// host's files, the sink is standard output, and the gate holds nobody. It writes the line for a status other than 0
+/// to standard error. The exit code is the status of the run; where the words can't be had, it is 9 for an allocation
+/// failure, and else 2.
+///
+/// Its steps are those of the run.
+pub fn start<R: Env + Files + Print + Eprint + AllocGlobal + Threads + Wait + Sync>(
+    rt: &R,
+) -> ExitCode
+    ensures { IsStatus (status_of_process result) }
+{
+    let status = exit_status(host_run(rt));
+    if status != 0 {
+        let _ = rt.eprintln(explain(status));
+    }
+    ExitCode::from(status)
+}
+
+/// The status of a run of the command line's words over the host's files and standard output. Err where there are no
+/// words to run.
+fn host_run<R: Env + Files + Print + AllocGlobal + Threads + Wait + Sync>(
+    rt: &R,
+) -> Result<u8, ErrorKind>
+    ensures { IfOk result IsStatus }
+{
+    let words = command_line(rt)?;
+    let mut files = HostFiles::new(rt);
+    let mut sink = HostSink::new(rt);
+    Ok(run(rt, rt.alloc(), &words, &mut files, &mut sink, &Open).status)
+}
+
+/// The words after the program's name.
+fn command_line<R: Env + AllocGlobal>(rt: &R) -> Result<Vec<String>, ErrorKind> {
+    match env::args(rt) {
+        Ok(arguments) => arguments
+            .skip(1)
+            .collect(rt.alloc())
+            .map_err(|_| ErrorKind::OutOfMemory),
+        Err(error) => Err(error.kind()),
+    }
+}

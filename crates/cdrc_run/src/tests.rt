@@ -1,0 +1,276 @@
+//! What no clause says: the worked reports byte for byte, the texts, and that a run succeeds with ample memory.
+
+use crate::explaining::explain;
+use crate::running::run;
+use lane_gate::{Files, HonestFiles, HonestSink, MemFiles, MemSink, Open, Sink};
+use std::alloc::{AllocError, Global};
+use std::sync::Wait;
+use std::test::Fail;
+use std::thread::Threads;
+
+/// The three lines of a file of no words.
+const NO_WORDS: &str = "files 1 pieces 0 distinct 0\n\
+                        held live 0 deferred 0 cyclic 0 bytes 0\n\
+                        freed live 0 deferred 0 cyclic 0 bytes 0\n";
+
+/// The report of `a b a`.
+const A_B_A: &str = "2 1 a\n\
+                     1 1 b\n\
+                     files 1 pieces 3 distinct 2\n\
+                     held live 2 deferred 0 cyclic 0 bytes 2\n\
+                     freed live 0 deferred 0 cyclic 0 bytes 0\n";
+
+/// The words of a line, which stand between single spaces.
+pub fn words_of(alloc: Global, line: &str) -> Result<Vec<String>, AllocError> {
+    let mut words = Vec::new(alloc);
+    for word in line.split(' ') {
+        words.push(String::from_str(alloc, word)?)?;
+    }
+    Ok(words)
+}
+
+/// The one file `f`.
+pub fn file_of_bytes(alloc: Global, content: &[u8]) -> Result<Vec<(String, Vec<u8>)>, AllocError> {
+    let mut entries = Vec::new(alloc);
+    let name = String::from_str(alloc, "f")?;
+    entries.push((name, Vec::from_slice(alloc, content)?))?;
+    Ok(entries)
+}
+
+/// The status of a run of these words, at the gate that holds nobody.
+pub fn status_of<R: Threads + Wait + Sync, F: Files, K: Sink>(
+    rt: &R,
+    alloc: Global,
+    line: &str,
+    files: &mut F,
+    sink: &mut K,
+) -> Result<u8, AllocError> {
+    let words = words_of(alloc, line)?;
+    Ok(run(rt, alloc, &words, files, sink, &Open).status)
+}
+
+#[test]
+fn words_that_are_not_understood(rt: HostRuntime) -> Result<(), Fail> {
+    let mut files = HonestFiles::new(file_of_bytes(rt.alloc(), b"a b a")?);
+    let mut sink = HonestSink::new(rt.alloc());
+    let none = Vec::new(rt.alloc());
+    let end = run(&rt, rt.alloc(), &none, &mut files, &mut sink, &Open);
+    assert_eq!(rt; end.status, 2);
+    for line in [
+        "",
+        "words",
+        "word f",
+        "Words f",
+        "words f g",
+        "words --lanes 2 f",
+        "words -- f",
+        "words -x",
+        "words --slots= f",
+        "words f --",
+        "gen 1 2",
+        "script",
+        "script f g",
+        "script --",
+        "script -x",
+        "script --lanes=2 f",
+        "script -x --",
+        "script -- f g",
+        "scripts f",
+        "steps",
+        "steps f g",
+        "steps -- -- f",
+        "steps --batch f",
+    ] {
+        let status = status_of(&rt, rt.alloc(), line, &mut files, &mut sink)?;
+        assert!(rt; status == 2, "{line}");
+    }
+    assert!(rt; sink.taken().is_empty());
+    Ok(())
+}
+
+#[test]
+fn operands_are_names(rt: HostRuntime) -> Result<(), Fail> {
+    for line in ["words -", "words g", "words words", "words "] {
+        let mut files = HonestFiles::new(file_of_bytes(rt.alloc(), b"a b a")?);
+        let mut sink = HonestSink::new(rt.alloc());
+        let status = status_of(&rt, rt.alloc(), line, &mut files, &mut sink)?;
+        assert!(rt; status == 0, "{line}");
+        assert!(rt; sink.taken() == NO_WORDS.as_bytes(), "{line}");
+    }
+    Ok(())
+}
+
+#[test]
+fn dashes_end_the_options(rt: HostRuntime) -> Result<(), Fail> {
+    for line in [
+        "script f",
+        "script -",
+        "script -- -x",
+        "script -- --",
+        "script f --",
+        "steps f",
+        "steps -- f",
+        "steps - --",
+    ] {
+        let mut files = HonestFiles::new(Vec::new(rt.alloc()));
+        let mut sink = HonestSink::new(rt.alloc());
+        let status = status_of(&rt, rt.alloc(), line, &mut files, &mut sink)?;
+        assert!(rt; status == 8, "{line}");
+        assert!(rt;
+            sink.taken() == b"line 1 refused: syntax\n".as_slice(),
+            "{line}"
+        );
+    }
+    Ok(())
+}
+
+#[test]
+fn scripts_and_steps(rt: HostRuntime) -> Result<(), Fail> {
+    for (line, content, status, output) in [
+        ("script f", "heap 1 0 0\nmake a 1\n", 0, "make a ok\n"),
+        (
+            "script f",
+            "heap 1 0 0\nmake a 1\ndrop z",
+            8,
+            "make a ok\nline 3 refused: name\n",
+        ),
+        (
+            "steps f",
+            "shape 1 1 0 0 4\n0 claim 0\n0 arm\n0 start",
+            0,
+            "claim claimed\narm ok\nstart ok\nslot 0 strong 1 weak 1\nevents 3\n",
+        ),
+        (
+            "steps f",
+            "shape 1 1 0 0 4\n0 finish",
+            8,
+            "line 2 refused: not enabled\n",
+        ),
+    ] {
+        let mut files = HonestFiles::new(file_of_bytes(rt.alloc(), content.as_bytes())?);
+        let mut sink = HonestSink::new(rt.alloc());
+        let found = status_of(&rt, rt.alloc(), line, &mut files, &mut sink)?;
+        assert!(rt; found == status, "{line} of {content}");
+        assert!(rt; sink.taken() == output.as_bytes(), "{line} of {content}");
+        let mut failing = MemSink::new(rt.alloc(), 3, vec![in rt.alloc(); 1u64]?);
+        let failed = status_of(&rt, rt.alloc(), line, &mut files, &mut failing)?;
+        assert!(rt; failed == 4, "{line} of {content}");
+        assert!(rt;
+            failing.taken() == &output.as_bytes()[..3],
+            "{line} of {content}"
+        );
+    }
+    Ok(())
+}
+
+#[test]
+fn reports_byte_for_byte(rt: HostRuntime) -> Result<(), Fail> {
+    for (content, report) in [
+        (b"".as_slice(), NO_WORDS.as_bytes()),
+        (b"a b a", A_B_A.as_bytes()),
+        (
+            b"xxxxxxxxxxxxxxxxxxxxxxxxxxxxxxxxxxxxxxxxxxxxxxxxxxxxxxxxxxxx\
+              xxxxxxxxxxxxxxxxxxxxxxxxxxxxxxxxxxxxxxxxxxxxxxxxxxxxxxxxxxxx",
+            b"1 1 xxxxxxxxxxxxxxxxxxxxxxxxxxxxxxxxxxxxxxxxxxxxxxxxxxxxxxxxxxxx\
+              xxxxxxxxxxxxxxxxxxxxxxxxxxxxxxxxxxxxxxxxxxxxxxxxxxxxxxxxxxxx\n\
+              files 1 pieces 1 distinct 1\n\
+              held live 1 deferred 0 cyclic 0 bytes 120\n\
+              freed live 0 deferred 0 cyclic 0 bytes 0\n",
+        ),
+        (
+            b"xxxxxxxxxxxxxxxxxxxxxxxxxxxxxxxxxxxxxxxxxxxxxxxxxxxxxxxxxxxx\
+              xxxxxxxxxxxxxxxxxxxxxxxxxxxxxxxxxxxxxxxxxxxxxxxxxxxxxxxxxxxxx",
+            b"1 1 x\n\
+              1 1 xxxxxxxxxxxxxxxxxxxxxxxxxxxxxxxxxxxxxxxxxxxxxxxxxxxxxxxxxxxx\
+              xxxxxxxxxxxxxxxxxxxxxxxxxxxxxxxxxxxxxxxxxxxxxxxxxxxxxxxxxxxx\n\
+              files 1 pieces 2 distinct 2\n\
+              held live 2 deferred 0 cyclic 0 bytes 121\n\
+              freed live 0 deferred 0 cyclic 0 bytes 0\n",
+        ),
+        // C2 85 is U+0085, which is white space; FF and FE are no UTF-8.
+        (
+            b"\xFF\xFE\xC2\x85a",
+            b"1 1 a\n\
+              1 1 \xFF\xFE\n\
+              files 1 pieces 2 distinct 2\n\
+              held live 2 deferred 0 cyclic 0 bytes 3\n\
+              freed live 0 deferred 0 cyclic 0 bytes 0\n",
+        ),
+    ] {
+        let mut files = HonestFiles::new(file_of_bytes(rt.alloc(), content)?);
+        let mut sink = HonestSink::new(rt.alloc());
+        let length = content.len();
+        let status = status_of(&rt, rt.alloc(), "words f", &mut files, &mut sink)?;
+        assert!(rt; status == 0, "of {length} bytes");
+        assert!(rt; sink.taken() == report, "of {length} bytes");
+    }
+    Ok(())
+}
+
+#[test]
+fn a_source_that_fails(rt: HostRuntime) -> Result<(), Fail> {
+    let failing = vec![in rt.alloc(); 0u64]?;
+    let mut files = MemFiles::new(file_of_bytes(rt.alloc(), b"a b a")?, failing);
+    let mut sink = HonestSink::new(rt.alloc());
+    for (line, want) in [("words f", 3), ("words g", 3)] {
+        let status = status_of(&rt, rt.alloc(), line, &mut files, &mut sink)?;
+        assert!(rt; status == want, "{line}");
+    }
+    assert!(rt; sink.taken().is_empty());
+    Ok(())
+}
+
+#[test]
+fn a_sink_that_fails(rt: HostRuntime) -> Result<(), Fail> {
+    let mut files = HonestFiles::new(file_of_bytes(rt.alloc(), b"a b a")?);
+    let mut sink = MemSink::new(rt.alloc(), 4, vec![in rt.alloc(); 1u64]?);
+    assert_eq!(rt;
+        status_of(&rt, rt.alloc(), "words f", &mut files, &mut sink)?,
+        4
+    );
+    assert_eq!(rt; sink.taken(), b"2 1 ".as_slice());
+
+    let mut slow = MemSink::new(rt.alloc(), 4, Vec::new(rt.alloc()));
+    assert_eq!(rt;
+        status_of(&rt, rt.alloc(), "words f", &mut files, &mut slow)?,
+        0
+    );
+    assert_eq!(rt; slow.taken(), A_B_A.as_bytes());
+    Ok(())
+}
+
+#[test]
+fn contents_past_a_limit(rt: HostRuntime) -> Result<(), Fail> {
+    let mut pieces = Vec::new(rt.alloc());
+    for _ in 0..1_000_001 {
+        pieces.extend_from_slice(b"a ")?;
+    }
+    let long = vec![in rt.alloc(); b'a'; 67_108_865]?;
+    for content in [pieces, long] {
+        let mut files = HonestFiles::new(file_of_bytes(rt.alloc(), &content)?);
+        let mut sink = HonestSink::new(rt.alloc());
+        let length = content.len();
+        let status = status_of(&rt, rt.alloc(), "words f", &mut files, &mut sink)?;
+        assert!(rt; status == 5, "of {length} bytes");
+        assert!(rt; sink.taken().is_empty(), "of {length} bytes");
+    }
+    Ok(())
+}
+
+#[test]
+fn what_the_statuses_are_told_as(rt: HostRuntime) -> Result<(), Fail> {
+    for (status, text) in [
+        (0, ""),
+        (2, "cdrc_words: usage"),
+        (3, "cdrc_words: read fault"),
+        (4, "cdrc_words: write fault"),
+        (5, "cdrc_words: input too large"),
+        (6, "cdrc_words: slots full"),
+        (7, "cdrc_words: counts spent"),
+        (8, "cdrc_words: line refused"),
+        (9, "cdrc_words: out of memory"),
+    ] {
+        assert!(rt; explain(status) == text, "{status}");
+    }
+    Ok(())
+}
