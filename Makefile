@@ -4,7 +4,7 @@ PROGRAM := crates/cdrc_words/out/cdrc_words
 SOURCES := crates.txt $(shell find crates -name out -prune -o \( -name '*.rt' -o -name '*.antt' \) -print)
 TRY := cd crates/cdrc_words && echo 'nothing is proved here: make test proves everything' >&2 && rt try --
 
-.PHONY: help run script steps examples picture docs test install clean
+.PHONY: help run script steps examples picture docs test allocations install clean
 
 help: ## says what each target does
 	@sed -n 's/^\([a-z]*\):.*## /make \1\t/p' Makefile | expand -t 16
@@ -30,6 +30,11 @@ docs: ## checks the documents' links, names of proved functions, and printed out
 test: ## make docs, and then the merge gate, rt ci: every proof, must-fail edit, program and test
 	python3 tools/check_docs.py
 	rt ci
+
+allocations: $(PROGRAM) ## refuses each allocation of three runs of the program in turn: status 9, or the same end
+	tools/fail_allocations.py $(PROGRAM) words crates/cdrc_words/data/sample.txt
+	tools/fail_allocations.py $(PROGRAM) script crates/cdrc_words/data/sample.script
+	tools/fail_allocations.py $(PROGRAM) steps crates/cdrc_words/data/sample.steps
 
 install: $(PROGRAM) ## proves and builds the program, and copies it to PREFIX/bin, /usr/local/bin where PREFIX isn't given
 	install -d $(DESTDIR)$(PREFIX)/bin
