@@ -1,6 +1,8 @@
-ghost use Rattle.std.specs.Prelude.{◌≡◌, ℕ, ◌≤◌, List, false};
+ghost use Rattle.std.specs.Prelude.{◌≡◌, ◌≢◌, ℕ, ◌≤◌, List, false};
 ghost use Rattle.std.specs.declared.option.Option.{Option};
 ghost use Rattle.std.specs.Io.{ReadsAtMost};
+ghost use Rattle.std_io.specs.IoError.{error_kind};
+ghost use Rattle.std_io.specs.declared.io.kind.ErrorKind.TheVariants as kinds;
 ghost use Rattle.std.specs.Io.KnownBytes.{ReadConsumes};
 ghost use Rattle.lane_gate.specs.Causes.{Rose};
 ghost use Rattle.lane_gate.specs.Reads.{is_too_long};
@@ -67,13 +69,13 @@ fn read_some<R: Read>(source: &mut R, block: &mut [u8]) -> Result<usize, FileFau
     Err(FileFault::Failed)
 }
 
-/// What an error of the host means for a read.
+/// What an error of the host means for a read: that there was no memory, or that the read failed.
 pub(crate) fn fault_of(error: &Error) -> FileFault
-    ensures { is_too_long {T = ℕ} (Err result) ≡ false }
+    ensures memory { error_kind error.now ≡ kinds.OutOfMemory → result ≡ FileFault.OutOfMemory }
+    ensures other { error_kind error.now ≢ kinds.OutOfMemory → result ≡ FileFault.Failed }
 {
-    if error.kind() == ErrorKind::OutOfMemory {
-        FileFault::OutOfMemory
-    } else {
-        FileFault::Failed
+    match error.kind() {
+        ErrorKind::OutOfMemory => FileFault::OutOfMemory,
+        _ => FileFault::Failed,
     }
 }
