@@ -54,6 +54,7 @@ impl Seen {
 
     /// Notes a word that a scan has read. Of the words noted since `clear` fewer than there is room for are not 0,
     /// as holds where fewer were noted at all.
+    #[inline(always)]
     pub fn note(&mut self, word: u64)
         requires { total self.old.rows < self.old.room }
         ensures { self.new ≡ record self.old { rows = with_word word self.old.rows } }
@@ -64,7 +65,9 @@ impl Seen {
     }
 }
 
-/// Notes a word that announces something in rows that are ascending.
+/// Notes a word that announces something in rows that are ascending. Most words that a scan reads are 0, so this stays
+/// out of its loop.
+#[inline(never)]
 fn note_in(rows: &mut Vec<Row>, word: u64)
     requires word { 0 < word }
     requires ascending { IsAscending 0 rows.old.items }
