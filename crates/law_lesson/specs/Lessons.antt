@@ -1,5 +1,5 @@
 -- What a seat learns of its protocol's law.
-use Rattle.std.specs.Prelude.{◌≡◌, ℕ, ◌+◌, ◌<◌, List, length, slice_index_or}
+use Rattle.std.specs.Prelude.{◌≡◌, ℕ, ◌<◌, List, length, slice_index_or}
 use Rattle.plain_state.specs.State.{Plain}
 use Rattle.plain_protocol.specs.Laws.{Meets}
 
