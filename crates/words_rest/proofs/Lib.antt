@@ -5,3 +5,4 @@ pub mod Heads
 pub mod NoNode
 pub mod Living
 pub mod Lengths
+pub mod Added

@@ -1,12 +1,15 @@
 -- Sums over seats, slots and cells of which one alone has anything, or none.
-use Rattle.std.proofs.Common.{◌≡◌, ⊎_elim, ℕ, suc, ◌+◌, ◌<◌, List, [], ◌∷◌, get_or, refl, ap, sym, ◌∙◌, arith, Option, Some, None}
+use Rattle.std.proofs.Common.{◌≡◌, ◌≢◌, ⊎_elim, ℕ, suc, ◌+◌, ◌<◌, List, [], ◌∷◌, get_or, refl, ap, sym, ◌∙◌, arith, Option, Some, None}
 use Rattle.std.specs.Prelude.{if◌then◌else◌}
 use Rattle.std.proofs.lemmas.List.Sums.{sum_by-cons}
 use Rattle.plain_state.specs.declared.slot.PlainSlot.{PlainSlot}
 use Rattle.plain_state.specs.declared.slot.SlotId.{SlotId}
+use Rattle.plain_state.specs.declared.slot.Stage.{Stage}
+use Rattle.plain_state.specs.declared.slot.Stage.TheVariants.{Free, Blank, Live, Ended, Husk}
 use Rattle.plain_state.specs.Lists.{cell_times, holds}
 use Rattle.plain_state.specs.References.{held_in, over_seats, over_slots}
-use Rattle.plain_state.specs.State.{PlainSeat, new_seat, new_slot}
+use Rattle.plain_state.specs.State.{Plain, PlainSeat, new_seat, new_slot, stage_at}
+use Rattle.plain_audit.specs.Audits.{if_live, live_bytes, live_slots}
 use Rattle.plain_state.proofs.Kit.{cells_none, held_is, held_none, none_or_some}
 
 -- a number of which no seat has any
@@ -58,3 +61,30 @@ null_cells s (c ∷ cs) null =
 pub held_some : (s : SlotId) (place : Option SlotId) → 0 < held_in s place → place ≡ Some s
 held_some s None some = absurd (omega (arith, some, held_none s))
 held_some s (Some x) some = ap (λ (y : SlotId). Some y) (held_is s x some)
+
+-- a number of which no slot has any
+slots_none : (f : PlainSlot → ℕ) (xs : List PlainSlot)
+    → ((k : ℕ) → f (get_or xs k new_slot) ≡ 0) → over_slots f xs ≡ 0
+unfolding over_slots
+slots_none f [] none = refl
+slots_none f (x ∷ xs) none =
+    let first : f x ≡ 0 = none 0 in
+    let rest : over_slots f xs ≡ 0 = slots_none f xs (λ n. none (suc n)) in
+    let all = sum_by-cons f x xs in omega arith
+
+pub if_not_live : (n : ℕ) (g : Stage) → g ≢ Live → if_live n g ≡ 0
+if_not_live n Free not = refl
+if_not_live n Blank not = refl
+if_not_live n Live not = absurd (not refl)
+if_not_live n Ended not = refl
+if_not_live n Husk not = refl
+
+pub no_slots : (p : Plain) → ((s : SlotId) → stage_at p s ≢ Live) → live_slots p ≡ 0
+no_slots p none = slots_none (λ x. if_live 1 x.stage) p.slots
+    (λ k. if_not_live 1 (get_or p.slots k new_slot).stage (none (record { 0 = k })))
+
+pub no_bytes : (p : Plain) (weight : List ℕ → ℕ) → ((s : SlotId) → stage_at p s ≢ Live)
+    → live_bytes weight p ≡ 0
+no_bytes p weight none = slots_none (λ x. if_live (weight x.payload) x.stage) p.slots
+    (λ k. if_not_live (weight (get_or p.slots k new_slot).payload) (get_or p.slots k new_slot).stage
+    (none (record { 0 = k })))

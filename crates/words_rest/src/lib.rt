@@ -16,5 +16,7 @@
 #![tactic(auto)]
 
 mod nodes;
+mod records;
 
 pub use nodes::{no_node_is_left, nothing_is_unreached};
+pub use records::{heads_are_counted, nothing_is_left, records_are_left};
