@@ -6,3 +6,6 @@ pub mod NoNode
 pub mod Living
 pub mod Lengths
 pub mod Added
+pub mod Chains
+pub mod Summed
+pub mod Full

@@ -1,5 +1,5 @@
 -- Sums over seats, slots and cells of which one alone has anything, or none.
-use Rattle.std.proofs.Common.{◌≡◌, ◌≢◌, ⊎_elim, ℕ, suc, ◌+◌, ◌<◌, List, [], ◌∷◌, get_or, refl, ap, sym, ◌∙◌, arith, Option, Some, None}
+use Rattle.std.proofs.Common.{◌≡◌, ◌≢◌, ◌⊎◌, inl, inr, ⊎_elim, ℕ, suc, ◌+◌, ◌<◌, List, [], ◌∷◌, get_or, refl, ap, sym, ◌∙◌, arith, Option, Some, None}
 use Rattle.std.specs.Prelude.{if◌then◌else◌}
 use Rattle.std.proofs.lemmas.List.Sums.{sum_by-cons}
 use Rattle.plain_state.specs.declared.slot.PlainSlot.{PlainSlot}
@@ -88,3 +88,10 @@ pub no_bytes : (p : Plain) (weight : List ℕ → ℕ) → ((s : SlotId) → sta
 no_bytes p weight none = slots_none (λ x. if_live (weight x.payload) x.stage) p.slots
     (λ k. if_not_live (weight (get_or p.slots k new_slot).payload) (get_or p.slots k new_slot).stage
     (none (record { 0 = k })))
+
+pub stage_live : (g : Stage) → (g ≡ Live) ⊎ (g ≢ Live)
+stage_live Free = inr (λ (e : Free ≡ Live). cc)
+stage_live Blank = inr (λ (e : Blank ≡ Live). cc)
+stage_live Live = inl refl
+stage_live Ended = inr (λ (e : Ended ≡ Live). cc)
+stage_live Husk = inr (λ (e : Husk ≡ Live). cc)
