@@ -1,5 +1,5 @@
 -- What lives is a node or a slot of the directory; what seat 0 owns is a head, the live record of its text.
-use Rattle.std.proofs.Common.{◌≡◌, ◌⊎◌, inl, inr, ⊎_elim, ℕ, ◌<◌, List, [], get_or, arith}
+use Rattle.std.proofs.Common.{◌≡◌, ◌⊎◌, inl, inr, ⊎_elim, ℕ, ◌<◌, List, [], get_or, ap, arith}
 use Rattle.std.proofs.lemmas.Bool.{cases_eq}
 use Rattle.plain_state.specs.declared.slot.SlotId.{SlotId}
 use Rattle.plain_state.specs.declared.slot.Stage.TheVariants.{Free, Live}
@@ -9,6 +9,7 @@ use Rattle.plain_state.specs.References.{strong_refs}
 use Rattle.plain_state.specs.State.{Plain, seat_at, slot_at, stage_at}
 use Rattle.queue_law.specs.declared.view.Item.{Item}
 use Rattle.directory_law.specs.declared.view.View.{View as DirectoryView}
+use Rattle.directory_law.specs.Bytes.{text_bytes}
 use Rattle.directory_law.specs.Cells.{Area}
 use Rattle.directory_law.specs.Chains.{OwnSlot, Reads}
 use Rattle.directory_law.specs.Law.{DirectoryLaw, IsBound}
@@ -18,10 +19,12 @@ use Rattle.directory_law.proofs.Bytes.{piece_own}
 use Rattle.directory_law.proofs.Chains.{live_own}
 use Rattle.directory_law.proofs.Gives.{kept_reads, kept_stands, set_cell}
 use Rattle.directory_law.proofs.Kept.{kept_counts}
-use Rattle.words_law.specs.Texts.{AllPieces, HasOneText, all_kept, text_in}
+use Rattle.words_law.specs.Law.{head_of}
+use Rattle.words_law.specs.Texts.{AllPieces, HasOneText, IsAlive, all_kept, text_in, word_of_item}
 use Rattle.words_law.specs.Views.{View, directories}
 use Rattle.words_law.proofs.Texts.{has_one}
 use Rattle.words_rest.specs.Nodes.{IsLiveNode}
+use Rattle.words_rest.specs.Records.{word_at}
 use Rattle.words_rest.specs.Rest.{IsLeft}
 use Rattle.words_rest.proofs.Left.{refs_are}
 
@@ -32,6 +35,12 @@ live_kind p fit s live = ⊎_elim
     (λ some. inr (live_own p s live
     (piece_own (slot_at p s).payload ((fit s (inl live)).1 some))))
     (cases_eq (get_or (slot_at p s).payload 0 0) 0)
+
+-- a slot is in one life
+pub slot_word : (p : Plain) (views : List View) (x : Item) → IsAlive p x
+    → word_at p views (head_of x) ≡ word_of_item (all_kept (directories views)) x
+slot_word p views x alive =
+    ap (λ (l : ℕ). text_bytes (text_in (all_kept (directories views)) (head_of x) l)) alive.life
 
 module _ (z : Area) (p : Plain) (views : List View) (lawful : Lawful p)
     (law : DirectoryLaw z p (directories views)) (left : IsLeft p views)

@@ -64,9 +64,12 @@ module _ (p : Plain) (views : List View) (left : IsLeft p views) where
       × (((slot_at p t).first ≡ Some s) ⊎ ((slot_at p t).second ≡ Some s))
   referrer s lawful some =
       let r = some_slot (strong_fields s) p.slots some in
-      let t : SlotId = record { 0 = r.0 } in
-      (t, field_lives t s lawful r.1, ⊎_elim
-      (λ (none : held_in s (slot_at p t).first ≡ 0).
-      let has = r.1 in inr (held_some s (slot_at p t).second (omega arith)))
-      (λ (has : 0 < held_in s (slot_at p t).first). inl (held_some s (slot_at p t).first has))
-      (none_or_some (held_in s (slot_at p t).first)))
+      let t : SlotId = record { 0 = r.0 } in (
+        t,
+        field_lives t s lawful r.1,
+        ⊎_elim
+            (λ (none : held_in s (slot_at p t).first ≡ 0).
+            let has = r.1 in inr (held_some s (slot_at p t).second (omega arith)))
+            (λ (has : 0 < held_in s (slot_at p t).first). inl (held_some s (slot_at p t).first has))
+            (none_or_some (held_in s (slot_at p t).first)),
+      )

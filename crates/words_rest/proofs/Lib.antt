@@ -9,3 +9,4 @@ pub mod Added
 pub mod Chains
 pub mod Summed
 pub mod Full
+pub mod Settled

@@ -28,9 +28,11 @@ use Rattle.directory_law.specs.Payloads.{IsOwn}
 use Rattle.directory_law.proofs.Bytes.{zeros_not_own}
 use Rattle.directory_law.proofs.Chains.{pointed_own}
 use Rattle.directory_law.proofs.Kit.{none_some}
+use Rattle.heap_audit.specs.declared.finding.Audit.{Audit}
 use Rattle.heap_audit.specs.Heaps.{slot}
 use Rattle.heap_audit.specs.Paths.{LeadsTo, Path}
 use Rattle.heap_audit.specs.Reached.{HowMany}
+use Rattle.plain_audit.specs.Audits.{IsAudit}
 use Rattle.plain_audit.specs.Reached.{HasField, IsReached, IsUnreached}
 use Rattle.words_law.specs.Law.{WordsLaw}
 use Rattle.words_law.specs.Texts.{AllPieces}
@@ -43,15 +45,16 @@ use Rattle.words_rest.proofs.Left.{no_cell, no_deferral, owned_all, referrer, re
 use Rattle.words_rest.proofs.Sums.{held_some}
 
 -- where just none of the first numbers has a property
-many_zero : (P : ℕ → Type 0) (n : ℕ) → HowMany P n 0 → (k : ℕ) → k < n → P k → ⊥
-many_zero P zero many k lt has = omega (arith, lt)
-many_zero P (suc n) many k lt has = ⊎_elim
+many_zero : (P : ℕ → Type 0) (n many : ℕ) → many ≡ 0 → HowMany P n many → (k : ℕ) → k < n
+    → P k → ⊥
+many_zero P zero many none is k lt has = omega (arith, lt)
+many_zero P (suc n) many none is k lt has = ⊎_elim
     (λ one. let wrong = one.3 in omega arith)
     (λ other. ⊎_elim
     (λ (last : k ≡ n). other.0 (subst P last has))
-    (λ ne. many_zero P n other.1 k (omega arith) has)
+    (λ ne. many_zero P n many none other.1 k (omega arith) has)
     (cases_eq k n))
-    many
+    is
 
 -- what lives is one of the slots
 pub live_low : (p : Plain) (s : SlotId) → stage_at p s ≡ Live → s.0 < length p.slots
@@ -153,9 +156,11 @@ module _ (u : Ends) (z : Area) (p : Plain) (views : List View)
   no_node_reached all s node =
       all s (node.0, λ reached. node_not_own p s (reached_own s reached) node.1)
 
-  pub no_node_audited : HowMany (λ n. IsUnreached p (slot n)) (length p.slots) 0 → HasNoNode p
-  no_node_audited many = no_node_reached (λ s un.
-      many_zero (λ n. IsUnreached p (slot n)) (length p.slots) many s.0 (live_low p s un.0) un)
+  pub no_node_audited : (weight : List ℕ → ℕ) (ranks : List ℕ) (found : Audit)
+      → IsAudit weight ranks p found → found.cyclic ≡ 0 → HasNoNode p
+  no_node_audited weight ranks found is none = no_node_reached (λ s un.
+      many_zero (λ n. IsUnreached p (slot n)) (length p.slots) found.cyclic none is.cyclic s.0
+      (live_low p s un.0) un)
 
 -- the head cell of a queue that was shut is null
 pub shut_null : (u : Ends) (p : Plain) (views : List QueueView) → QueueLaw u p views

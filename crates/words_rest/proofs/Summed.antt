@@ -12,13 +12,15 @@ use Rattle.plain_state.specs.Lists.{times}
 use Rattle.plain_state.specs.References.{held_in, over_slots}
 use Rattle.plain_state.specs.State.{Plain, new_slot, seat_at, slot_at, stage_at}
 use Rattle.plain_state.proofs.Kit.{held_other, held_self, times_append, times_cons, times_none}
+use Rattle.protocol_pairs.specs.Shares.{weight_in_part}
 use Rattle.directory_law.specs.Cells.{Area}
 use Rattle.directory_law.specs.Chains.{Along, OwnSlot, Reads}
 use Rattle.directory_law.specs.Law.{DirectoryLaw}
-use Rattle.directory_law.specs.Bytes.{text_bytes}
+use Rattle.directory_law.specs.Bytes.{piece_weight, text_bytes}
 use Rattle.directory_law.specs.Payloads.{IsHead, IsPart, IsText, Text}
 use Rattle.directory_law.specs.Views.{Each}
-use Rattle.plain_audit.specs.Audits.{if_live}
+use Rattle.plain_audit.specs.Audits.{if_live, live_bytes, live_slots}
+use Rattle.words_law.specs.Fold.{slots_of_word}
 use Rattle.words_law.specs.Texts.{AllPieces, all_kept, text_in}
 use Rattle.words_law.specs.Views.{View, directories}
 use Rattle.words_rest.specs.Nodes.{HasNoNode}
@@ -193,3 +195,12 @@ module _ (z : Area) (p : Plain) (views : List View) (lawful : Lawful p)
         (owned_reads z p views lawful law left h (listed h some)).1
         (record_full h (listed h some) fit))
         ∙ sum_mapped f (word_at p views) heads)
+
+    pub slots_told : live_slots p ≡ sum_by slots_of_word (words_at p views heads)
+    slots_told = records_tell (λ t. 1) slots_of_word text_slots
+
+    pub bytes_told : (weight : List ℕ → ℕ)
+        → live_bytes (weight_in_part weight piece_weight) p
+        ≡ sum_by (λ (w : List ℕ). length w) (words_at p views heads)
+    bytes_told weight = records_tell (weight_in_part weight piece_weight)
+        (λ (w : List ℕ). length w) (text_weighs weight)

@@ -12,17 +12,17 @@ use Rattle.directory_law.specs.Payloads.{Text}
 use Rattle.directory_law.specs.Views.{KeptIn}
 use Rattle.words_law.specs.Views.{View, directories}
 
--- the seat has nothing deferred, is under no snapshot, has nothing dying, fills no slot and owns nothing weakly
-pub record IsCalmSeat (v : PlainSeat) : Type 0 where
+-- the seat has nothing deferred, is under no snapshot, has nothing dying, fills no slot, and owns nothing weakly
+pub record IsQuiet (v : PlainSeat) : Type 0 where
   pub deferred : v.deferred ≡ []
   pub snapshots : v.snapshots ≡ []
   pub dying : v.dying ≡ []
   pub filling : v.filling ≡ None
   pub weaks : v.weaks ≡ []
 
--- so each seat, and each object that lives has a strong reference
+-- each seat is so, and each object that lives has a strong reference
 pub record Rests (p : Plain) : Type 0 where
-  pub seats : (n : ℕ) → IsCalmSeat (seat_at p n)
+  pub seats : (n : ℕ) → IsQuiet (seat_at p n)
   pub live : (s : SlotId) → stage_at p s ≡ Live → 0 < strong_refs p s
 
 -- all strong cells are null

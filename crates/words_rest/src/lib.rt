@@ -17,6 +17,8 @@
 
 mod nodes;
 mod records;
+mod rest;
 
 pub use nodes::{no_node_is_left, nothing_is_unreached};
-pub use records::{heads_are_counted, nothing_is_left, records_are_left};
+pub use records::{audits_find_records, heads_are_counted, nothing_is_left, records_are_left};
+pub use rest::settled_states_rest;

@@ -1,5 +1,5 @@
 //! That no node of the queue is left, and nothing that only a cycle keeps.
-ghost use Rattle.std.specs.Prelude.{◌≡◌, ◌≤◌, ℕ, List, None, length};
+ghost use Rattle.std.specs.Prelude.{◌≡◌, ◌≤◌, ℕ, List, None};
 ghost use Rattle.plain_state.specs.declared.act.EventPlace.TheVariants.{Cell};
 ghost use Rattle.plain_state.specs.Places.{content};
 ghost use Rattle.plain_state.specs.State.{Plain};
@@ -9,15 +9,14 @@ ghost use Rattle.queue_law.specs.Views as queue;
 ghost use Rattle.queue_law.specs.Chain.{Ends};
 ghost use Rattle.queue_law.specs.Law.{QueueLaw};
 ghost use Rattle.directory_law.specs.Cells.{Area};
-ghost use Rattle.heap_audit.specs.Heaps.{slot};
-ghost use Rattle.heap_audit.specs.Reached.{HowMany};
-ghost use Rattle.plain_audit.specs.Audits.{deferred_entries};
-ghost use Rattle.plain_audit.specs.Reached.{IsUnreached};
+ghost use Rattle.plain_audit.specs.Audits.{IsAudit, deferred_entries};
 ghost use Rattle.words_law.specs.Law.{WordsLaw};
 ghost use Rattle.words_law.specs.Texts.{AllPieces};
 ghost use Rattle.words_law.specs.Views.{View};
 ghost use Rattle.words_rest.specs.Nodes.{HasNoNode, HasNoNodeAsItem, IsAllReached};
 ghost use Rattle.words_rest.specs.Rest.{IsLeft, Rests};
+
+use heap_audit::Audit;
 
 /// No node of the queue is left where none is another one's item: it would be referred to from field 0 of a node, and
 /// that one too, without end. None is left either where nothing is unreached, as where an audit counts no such slot.
@@ -31,18 +30,16 @@ pub fn no_node_is_left()
         → HasNoNode p }
     ensures audited { (u : Ends) (z : Area) (p : Plain) (views : List View)
         → Meets (WordsLaw u z) p views → AllPieces p → IsLeft p views
-        → HowMany (λ n. IsUnreached p (slot n)) (length p.slots) 0 → HasNoNode p }
+        → (weight : List ℕ → ℕ) (ranks : List ℕ) (found : Audit) → IsAudit weight ranks p found
+        → found.cyclic ≡ 0 → HasNoNode p }
     ensures shut { (u : Ends) (p : Plain) (views : List QueueView) → QueueLaw u p views
         → 3 ≤ (queue.view_at views 0).stand.laid → content p (Cell u.head) ≡ None }
 {}
 
-/// Where no node is left nothing is unreached, and an audit counts no such slot. In a state at rest nothing is deferred.
+/// Where no node is left nothing is unreached. In a state at rest nothing is deferred.
 pub fn nothing_is_unreached()
     ensures all { (u : Ends) (z : Area) (p : Plain) (views : List View)
         → Meets (WordsLaw u z) p views → AllPieces p → IsLeft p views → HasNoNode p
         → IsAllReached p }
-    ensures cyclic { (u : Ends) (z : Area) (p : Plain) (views : List View) (many : ℕ)
-        → Meets (WordsLaw u z) p views → AllPieces p → IsLeft p views → HasNoNode p
-        → HowMany (λ n. IsUnreached p (slot n)) (length p.slots) many → many ≡ 0 }
     ensures deferred { (p : Plain) → Rests p → deferred_entries p ≡ 0 }
 {}

@@ -1,12 +1,10 @@
 use Rattle.words_law.specs.Views.{directories}
-use Rattle.words_rest.proofs.Living.{all_reached, none_cyclic, none_deferred}
+use Rattle.words_rest.proofs.Living.{all_reached, none_deferred}
 use Rattle.words_rest.proofs.nodes.nothing_is_unreached.Goals as goal
 
 pub returns : goal.returns
 returns c = record {
   all = λ u z p views meets fit left none.
       all_reached z p views meets.lawful meets.law.both.1 fit left none;
-  cyclic = λ u z p views many meets fit left none.
-      none_cyclic z p views meets.lawful meets.law.both.1 fit left none many;
   deferred = none_deferred;
 }

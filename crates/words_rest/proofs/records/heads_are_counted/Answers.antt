@@ -1,5 +1,5 @@
 use Rattle.words_law.specs.Views.{directories}
-use Rattle.words_rest.proofs.Heads.{owned_bound}
+use Rattle.words_rest.proofs.Heads.{owned_bound, slot_word}
 use Rattle.words_rest.proofs.Living.{head_counted}
 use Rattle.words_rest.proofs.records.heads_are_counted.Goals as goal
 
@@ -9,4 +9,5 @@ returns c = record {
       owned_bound z p views meets.lawful meets.law.both.1 left;
   counts = λ u z p views meets fit left none.
       head_counted z p views meets.lawful meets.law.both.1 fit left none;
+  words = slot_word;
 }
