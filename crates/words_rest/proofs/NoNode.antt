@@ -3,17 +3,21 @@ use Rattle.std.proofs.Common.{◌≡◌, ◌⊎◌, inl, inr, ⊎_elim, ℕ, zer
 use Rattle.std.proofs.lemmas.Bool.{cases_eq, cases_lt}
 use Rattle.std.proofs.lemmas.List.{get_or_past}
 use Rattle.plain_state.specs.declared.act.EventPlace.TheVariants.{Cell}
+use Rattle.plain_state.specs.declared.act.PlainAct.{PlainAct}
 use Rattle.plain_state.specs.declared.slot.Kind.TheVariants.{Strong}
 use Rattle.plain_state.specs.declared.slot.PlainSlot.{PlainSlot}
 use Rattle.plain_state.specs.declared.slot.SlotId.{SlotId}
 use Rattle.plain_state.specs.declared.slot.Stage.TheVariants.{Free, Live}
+use Rattle.plain_state.specs.Lawful.{Lawful}
 use Rattle.plain_state.specs.Lists.{times}
 use Rattle.plain_state.specs.Places.{content}
 use Rattle.plain_state.specs.References.{held_in, over_slots, strong_fields}
 use Rattle.plain_state.specs.State.{Plain, new_slot, no_payload, seat_at, slot_at, stage_at}
-use Rattle.plain_state.specs.Steps.{word_of}
+use Rattle.plain_state.specs.Steps.{Does, word_of}
 use Rattle.plain_state.proofs.Kit.{none_or_some}
+use Rattle.plain_protocol.specs.Acts.{IsCalm}
 use Rattle.plain_protocol.specs.Laws.{Meets}
+use Rattle.plain_protocol.proofs.Calm.{calm_leaves}
 use Rattle.queue_law.specs.declared.view.View.{View as QueueView}
 use Rattle.queue_law.specs.Views as queue
 use Rattle.queue_law.specs.Chain.{Ends}
@@ -161,6 +165,14 @@ module _ (u : Ends) (z : Area) (p : Plain) (views : List View)
   no_node_audited weight ranks found is none = no_node_reached (λ s un.
       many_zero (λ n. IsUnreached p (slot n)) (length p.slots) found.cyclic none is.cyclic s.0
       (live_low p s un.0) un)
+
+-- and none comes by a calm step
+pub no_node_comes : (p q : Plain) (n : ℕ) (step : PlainAct) (found : ℕ) → Lawful p → IsCalm step
+    → Does p n step found q → HasNoNode p → HasNoNode q
+no_node_comes p q n step found lawful calm does none s node =
+    let kept = (calm_leaves p q n step found lawful calm does).slots s in
+    let live = kept.live node.0 in
+    none s (live, sym (kept.payload live) ∙ node.1)
 
 -- the head cell of a queue that was shut is null
 pub shut_null : (u : Ends) (p : Plain) (views : List QueueView) → QueueLaw u p views

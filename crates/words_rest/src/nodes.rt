@@ -1,8 +1,12 @@
 //! That no node of the queue is left, and nothing that only a cycle keeps.
 ghost use Rattle.std.specs.Prelude.{◌≡◌, ◌≤◌, ℕ, List, None};
 ghost use Rattle.plain_state.specs.declared.act.EventPlace.TheVariants.{Cell};
+ghost use Rattle.plain_state.specs.declared.act.PlainAct.{PlainAct};
+ghost use Rattle.plain_state.specs.Lawful.{Lawful};
 ghost use Rattle.plain_state.specs.Places.{content};
 ghost use Rattle.plain_state.specs.State.{Plain};
+ghost use Rattle.plain_state.specs.Steps.{Does};
+ghost use Rattle.plain_protocol.specs.Acts.{IsCalm};
 ghost use Rattle.plain_protocol.specs.Laws.{Meets};
 ghost use Rattle.queue_law.specs.declared.view.View.{View as QueueView};
 ghost use Rattle.queue_law.specs.Views as queue;
@@ -20,7 +24,8 @@ use heap_audit::Audit;
 
 /// No node of the queue is left where none is another one's item: it would be referred to from field 0 of a node, and
 /// that one too, without end. None is left either where nothing is unreached, as where an audit counts no such slot.
-/// The head cell of a queue that was shut is null.
+/// Where none is left, none comes by calm steps, as seat 0 makes them that gives up what it owns and settles. The head
+/// cell of a queue that was shut is null.
 pub fn no_node_is_left()
     ensures items { (u : Ends) (z : Area) (p : Plain) (views : List View)
         → Meets (WordsLaw u z) p views → AllPieces p → IsLeft p views → HasNoNodeAsItem p
@@ -32,6 +37,8 @@ pub fn no_node_is_left()
         → Meets (WordsLaw u z) p views → AllPieces p → IsLeft p views
         → (weight : List ℕ → ℕ) (ranks : List ℕ) (found : Audit) → IsAudit weight ranks p found
         → found.cyclic ≡ 0 → HasNoNode p }
+    ensures stays { (p q : Plain) (n : ℕ) (step : PlainAct) (found : ℕ) → Lawful p → IsCalm step
+        → Does p n step found q → HasNoNode p → HasNoNode q }
     ensures shut { (u : Ends) (p : Plain) (views : List QueueView) → QueueLaw u p views
         → 3 ≤ (queue.view_at views 0).stand.laid → content p (Cell u.head) ≡ None }
 {}
