@@ -1,6 +1,6 @@
 -- The slots of a record, along field 1: what they weigh, and how often a slot stands among them.
 use Rattle.std.specs.Prelude.{sum_by, Option, Some, None}
-use Rattle.std.proofs.Common.{◌≡◌, ◌≢◌, ⊎_elim, ℕ, ◌+◌, ◌<◌, List, [], ◌∷◌, refl, ap, sym, subst, ◌∙◌, arith}
+use Rattle.std.proofs.Common.{◌≡◌, ◌≢◌, ⊎_elim, ℕ, List, [], ◌∷◌, refl, ap, sym, subst, ◌∙◌, arith}
 use Rattle.std.proofs.lemmas.List.Sums.{sum_by-cons}
 use Rattle.plain_state.specs.declared.slot.SlotId.{SlotId}
 use Rattle.plain_state.specs.declared.slot.Stage.{Stage}
@@ -75,8 +75,10 @@ module _ (z : Area) (p : Plain) (views : List DirectoryView) (lawful : Lawful p)
       → held_in k (Some y) ≡ held_in t (Some x)
   same_steps x y own_x at = ⊎_elim
       (λ (e : x ≡ t).
-      let to : y ≡ k = some_same y k (sym at ∙ (ap (λ (s : SlotId). (slot_at p s).second) e ∙ leads)) in
-      held_same k y (ap (λ (s : SlotId). s.0) to) ∙ sym (held_same t x (ap (λ (s : SlotId). s.0) e)))
+      let to : y ≡ k = some_same y k
+      (sym at ∙ (ap (λ (s : SlotId). (slot_at p s).second) e ∙ leads)) in
+      held_same k y (ap (λ (s : SlotId). s.0) to)
+      ∙ sym (held_same t x (ap (λ (s : SlotId). s.0) e)))
       (λ (ne : x.0 ≢ t.0). held_other k y (λ to. ne (ap (λ (s : SlotId). s.0)
       (law.single x t k own_x own (at ∙ ap (λ (s : SlotId). Some s) (slot_is y k to)) leads)))
       ∙ sym (held_other t x ne))

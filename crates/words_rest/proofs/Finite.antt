@@ -3,7 +3,7 @@
 use Rattle.std.specs.Prelude.{map}
 use Rattle.std.specs.List.{AllByRecursion, IsDistinct, list_any}
 use Rattle.std.proofs.Common.{◌≡◌, ◌⊎◌, ⊎_elim, ℕ, zero, suc, ◌+◌, ◌<◌, ◌≤◌, true, false, List, [], ◌∷◌, length, sym, subst, ◌∙◌, ap, arith, eqb, Bool, ◌||◌}
-use Rattle.std.proofs.lemmas.Bool.{cases_eq, eq-eqb, ne_eqb}
+use Rattle.std.proofs.lemmas.Bool.{cases_eq, ne_eqb}
 use Rattle.std.proofs.lemmas.List.{length-map}
 use Rattle.std.proofs.lemmas.Map.Keys.{IsDistinct-cons}
 use Rattle.std.proofs.lemmas.Map.Steps.{length-le_from_distinct_below}
@@ -50,7 +50,8 @@ module _ (n : ℕ) (P : SlotId → Type 0) (R : SlotId → SlotId → Type 0) (Q
   few : (xs : List SlotId) → Each P xs → IsDistinct eqb (numbers xs) → length xs ≤ n
   few xs all distinct =
       let many = length-le_from_distinct_below (numbers xs) n distinct (below xs all) in
-      let same : length (numbers xs) ≡ length xs = length-map xs (λ (x : SlotId). x.0) in omega arith
+      let same : length (numbers xs) ≡ length xs = length-map xs (λ (x : SlotId). x.0) in
+      omega arith
 
   back : (fuel : ℕ) (s : SlotId) (seen : List SlotId) → P s → Each P seen → LeadsToEach s seen
       → IsDistinct eqb (numbers seen) → n ≤ fuel + length seen → Q s

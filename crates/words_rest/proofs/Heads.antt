@@ -2,7 +2,7 @@
 use Rattle.std.proofs.Common.{◌≡◌, ◌⊎◌, inl, inr, ⊎_elim, ℕ, ◌<◌, List, [], get_or, ap, arith}
 use Rattle.std.proofs.lemmas.Bool.{cases_eq}
 use Rattle.plain_state.specs.declared.slot.SlotId.{SlotId}
-use Rattle.plain_state.specs.declared.slot.Stage.TheVariants.{Free, Live}
+use Rattle.plain_state.specs.declared.slot.Stage.TheVariants.{Live}
 use Rattle.plain_state.specs.Lawful.{Lawful}
 use Rattle.plain_state.specs.Lists.{times}
 use Rattle.plain_state.specs.References.{strong_refs}
@@ -13,8 +13,8 @@ use Rattle.directory_law.specs.Bytes.{text_bytes}
 use Rattle.directory_law.specs.Cells.{Area}
 use Rattle.directory_law.specs.Chains.{OwnSlot, Reads}
 use Rattle.directory_law.specs.Law.{DirectoryLaw, IsBound}
-use Rattle.directory_law.specs.Payloads.{IsHead, IsText, Text}
-use Rattle.directory_law.specs.Views.{KeptIn, keeps}
+use Rattle.directory_law.specs.Payloads.{IsHead, IsText}
+use Rattle.directory_law.specs.Views.{keeps}
 use Rattle.directory_law.proofs.Bytes.{piece_own}
 use Rattle.directory_law.proofs.Chains.{live_own}
 use Rattle.directory_law.proofs.Gives.{kept_reads, kept_stands, set_cell}

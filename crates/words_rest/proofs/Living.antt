@@ -1,7 +1,6 @@
 -- Where no node is left, what lives is owned, or a slot of the directory that lives leads to it: so it is reached, and
 -- there is nothing of it where nothing is owned.
-use Rattle.std.proofs.Common.{◌≡◌, ◌≢◌, ◌⊎◌, inl, inr, ⊎_elim, ℕ, zero, suc, ◌+◌, ◌<◌, List, [], ◌∷◌, length, refl, ap, sym, subst, ◌∙◌, arith, Some, None}
-use Rattle.plain_state.specs.declared.slot.Kind.TheVariants.{Strong}
+use Rattle.std.proofs.Common.{◌≡◌, ◌≢◌, ◌⊎◌, inl, inr, ⊎_elim, ℕ, suc, ◌<◌, List, [], ◌∷◌, length, refl, ap, sym, ◌∙◌, arith, Some}
 use Rattle.plain_state.specs.declared.slot.SlotId.{SlotId}
 use Rattle.plain_state.specs.declared.slot.Stage.TheVariants.{Live}
 use Rattle.plain_state.specs.Lawful.{Lawful}
@@ -30,7 +29,7 @@ use Rattle.words_rest.specs.Nodes.{HasNoNode, IsAllReached, IsLiveNode}
 use Rattle.words_rest.specs.Rest.{IsLeft, Rests}
 use Rattle.words_rest.proofs.Finite.{going_back}
 use Rattle.words_rest.proofs.Heads.{live_kind}
-use Rattle.words_rest.proofs.Left.{no_cell, no_deferral, owned_all, referrer, refs_are}
+use Rattle.words_rest.proofs.Left.{owned_all, referrer, refs_are}
 use Rattle.words_rest.proofs.NoNode.{live_low}
 use Rattle.words_rest.proofs.Sums.{seats_none}
 
@@ -126,7 +125,8 @@ module _ (z : Area) (p : Plain) (views : List View) (lawful : Lawful p)
 
   pub none_lives : ((s : SlotId) → times s (seat_at p 0).owned ≡ 0) → (s : SlotId)
       → stage_at p s ≢ Live
-  none_lives nothing = living (λ s. ⊥) (λ s own. omega (arith, own, nothing s)) (λ t s live leads no. no)
+  none_lives nothing = living (λ s. ⊥) (λ s own. omega (arith, own, nothing s))
+      (λ t s live leads no. no)
 
 pub none_deferred : (p : Plain) → Rests p → deferred_entries p ≡ 0
 none_deferred p rests = seats_none (λ v. length v.deferred) p.seats

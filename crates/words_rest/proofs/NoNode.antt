@@ -1,5 +1,5 @@
 -- No node is left: it would be referred to from field 0 of a node, and that one too, without end.
-use Rattle.std.proofs.Common.{◌≡◌, ◌⊎◌, inl, inr, ⊎_elim, ℕ, zero, suc, ◌<◌, ◌≤◌, List, [], ◌∷◌, length, refl, ap, sym, subst, ◌∙◌, arith, Some, None}
+use Rattle.std.proofs.Common.{◌≡◌, ◌⊎◌, inr, ⊎_elim, ℕ, zero, suc, ◌<◌, ◌≤◌, List, [], ◌∷◌, length, refl, ap, sym, subst, ◌∙◌, arith, Some, None}
 use Rattle.std.proofs.lemmas.Bool.{cases_eq, cases_lt}
 use Rattle.std.proofs.lemmas.List.{get_or_past}
 use Rattle.plain_state.specs.declared.act.EventPlace.TheVariants.{Cell}
@@ -11,7 +11,7 @@ use Rattle.plain_state.specs.declared.slot.Stage.TheVariants.{Free, Live}
 use Rattle.plain_state.specs.Lawful.{Lawful}
 use Rattle.plain_state.specs.Lists.{times}
 use Rattle.plain_state.specs.Places.{content}
-use Rattle.plain_state.specs.References.{held_in, over_slots, strong_fields}
+use Rattle.plain_state.specs.References.{held_in, strong_fields}
 use Rattle.plain_state.specs.State.{Plain, new_slot, no_payload, seat_at, slot_at, stage_at}
 use Rattle.plain_state.specs.Steps.{Does, word_of}
 use Rattle.plain_state.proofs.Kit.{none_or_some}
@@ -34,7 +34,7 @@ use Rattle.directory_law.proofs.Chains.{pointed_own}
 use Rattle.directory_law.proofs.Kit.{none_some}
 use Rattle.heap_audit.specs.declared.finding.Audit.{Audit}
 use Rattle.heap_audit.specs.Heaps.{slot}
-use Rattle.heap_audit.specs.Paths.{LeadsTo, Path}
+use Rattle.heap_audit.specs.Paths.{Path}
 use Rattle.heap_audit.specs.Reached.{HowMany}
 use Rattle.plain_audit.specs.Audits.{IsAudit}
 use Rattle.plain_audit.specs.Reached.{HasField, IsReached, IsUnreached}
@@ -131,7 +131,8 @@ module _ (u : Ends) (z : Area) (p : Plain) (views : List View)
       node.1))
       r.2)
       (live_kind p fit r.0 r.1))
-      (λ (own : 0 < times s (seat_at p 0).owned). absurd (node_not_own p s (owned_own s own) node.1))
+      (λ (own : 0 < times s (seat_at p 0).owned).
+      absurd (node_not_own p s (owned_own s own) node.1))
       (none_or_some (times s (seat_at p 0).owned))
 
   pub no_node : HasNoNodeAsItem p → HasNoNode p

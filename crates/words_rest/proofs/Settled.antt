@@ -1,5 +1,5 @@
 -- A state that has settled rests.
-use Rattle.std.proofs.Common.{◌≡◌, ℕ, zero, suc, ◌+◌, ◌<◌, ◌≤◌, List, [], ◌∷◌, refl, ap, arith, None}
+use Rattle.std.proofs.Common.{◌≡◌, ℕ, zero, suc, ◌<◌, List, [], ◌∷◌, refl, ap, arith, None}
 use Rattle.plain_state.specs.declared.slot.Kind.{Kind}
 use Rattle.plain_state.specs.declared.slot.SlotId.{SlotId}
 use Rattle.plain_state.specs.Lists.{Entry, entry_times}
@@ -19,7 +19,8 @@ no_entries (e ∷ es) none =
 pub settled_rests : (p : Plain) → IsSettled p → (seat_at p 0).snapshots ≡ []
     → (seat_at p 0).filling ≡ None → (seat_at p 0).weaks ≡ []
     → ((n : ℕ) → 0 < n → IsQuiet (seat_at p n)) → Rests p
-settled_rests p settled snapshots filling weaks others = record { seats = each; live = settled.ended }
+settled_rests p settled snapshots filling weaks others =
+    record { seats = each; live = settled.ended }
   where
     root : IsQuiet (seat_at p 0)
     root = record {

@@ -1,23 +1,21 @@
 -- What lives are the slots of the records that seat 0 owns, each once.
-use Rattle.std.specs.Prelude.{map, sum_by, Some, None}
+use Rattle.std.specs.Prelude.{map, sum_by, Some}
 use Rattle.std.specs.List.{flat_map}
-use Rattle.std.proofs.Common.{◌≡◌, ◌≢◌, ◌⊎◌, inl, inr, ⊎_elim, ℕ, ◌+◌, ◌<◌, List, [], ◌∷◌, ◌++◌, length, get_or, refl, ap, sym, subst, ◌∙◌, arith}
+use Rattle.std.proofs.Common.{◌≡◌, inl, inr, ⊎_elim, ℕ, ◌<◌, List, [], ◌∷◌, length, refl, ap, sym, subst, ◌∙◌, arith}
 use Rattle.std.proofs.lemmas.List.Sums.{sum_by-append, sum_by-cons}
-use Rattle.plain_state.specs.declared.slot.PlainSlot.{PlainSlot}
 use Rattle.plain_state.specs.declared.slot.SlotId.{SlotId}
-use Rattle.plain_state.specs.declared.slot.Stage.{Stage}
 use Rattle.plain_state.specs.declared.slot.Stage.TheVariants.{Live}
 use Rattle.plain_state.specs.Lawful.{Lawful}
 use Rattle.plain_state.specs.Lists.{times}
 use Rattle.plain_state.specs.References.{held_in, over_slots}
-use Rattle.plain_state.specs.State.{Plain, new_slot, seat_at, slot_at, stage_at}
+use Rattle.plain_state.specs.State.{Plain, seat_at, slot_at, stage_at}
 use Rattle.plain_state.proofs.Kit.{held_other, held_self, times_append, times_cons, times_none}
 use Rattle.protocol_pairs.specs.Shares.{weight_in_part}
 use Rattle.directory_law.specs.Cells.{Area}
-use Rattle.directory_law.specs.Chains.{Along, OwnSlot, Reads}
+use Rattle.directory_law.specs.Chains.{Reads}
 use Rattle.directory_law.specs.Law.{DirectoryLaw}
 use Rattle.directory_law.specs.Bytes.{piece_weight, text_bytes}
-use Rattle.directory_law.specs.Payloads.{IsHead, IsPart, IsText, Text}
+use Rattle.directory_law.specs.Payloads.{IsPart, IsText, Text}
 use Rattle.directory_law.specs.Views.{Each}
 use Rattle.plain_audit.specs.Audits.{if_live, live_bytes, live_slots}
 use Rattle.words_law.specs.Fold.{slots_of_word}
@@ -58,7 +56,8 @@ members_same f g (x ∷ xs) same =
     let all = sum_by-cons f x xs in
     let all_too = sum_by-cons g x xs in omega arith
 
-times_summed : (s : SlotId) (xs : List SlotId) → times s xs ≡ sum_by (λ (x : SlotId). held_in s (Some x)) xs
+times_summed : (s : SlotId) (xs : List SlotId)
+    → times s xs ≡ sum_by (λ (x : SlotId). held_in s (Some x)) xs
 times_summed s [] = times_none s
 times_summed s (x ∷ xs) =
     let all = times_cons s x xs in
@@ -146,7 +145,8 @@ module _ (z : Area) (p : Plain) (views : List View) (lawful : Lawful p)
         (payload_full p fit h live head.0, along_full p lawful fit h reads.0 reads.2)
 
   -- ALL RECORDS: each slot that lives stands in one of them, once
-  module _ (fit : AllPieces p) (none : HasNoNode p) (heads : List SlotId) (are : AreOwned p heads) where
+  module _ (fit : AllPieces p) (none : HasNoNode p) (heads : List SlotId)
+      (are : AreOwned p heads) where
     abbrev all : List SlotId
     all = flat_map (record_at p views) heads
 
@@ -166,8 +166,8 @@ module _ (z : Area) (p : Plain) (views : List View) (lawful : Lawful p)
         (λ t k live leads one.
         let flat = times_flat k (record_at p views) heads in
         let flat_too = times_flat t (record_at p views) heads in
-        let same = members_same (λ h. times k (record_at p views h)) (λ h. times t (record_at p views h))
-        heads (λ h some. record_passes h (listed h some) fit none t k live leads) in omega arith)
+        let same = members_same (λ h. times k (record_at p views h))
+        (λ h. times t (record_at p views h)) heads (λ h some. record_passes h (listed h some) fit none t k live leads) in omega arith)
 
     pub records_weigh : (weight : List ℕ → ℕ)
         → over_slots (λ x. if_live (weight x.payload) x.stage) p.slots
@@ -185,7 +185,8 @@ module _ (z : Area) (p : Plain) (views : List View) (lawful : Lawful p)
 
     -- what a number of each record's word adds up to, where the payloads of its text make this number
     pub records_tell : (weight : List ℕ → ℕ) (f : List ℕ → ℕ)
-        → ((text : Text) → IsText text → Each IsFull text → sum_by weight text ≡ f (text_bytes text))
+        → ((text : Text) → IsText text → Each IsFull text
+        → sum_by weight text ≡ f (text_bytes text))
         → over_slots (λ x. if_live (weight x.payload) x.stage) p.slots
         ≡ sum_by f (words_at p views heads)
     records_tell weight f tells =

@@ -1,4 +1,3 @@
-use Rattle.words_law.specs.Views.{directories}
 use Rattle.words_rest.proofs.Living.{all_reached, none_deferred}
 use Rattle.words_rest.proofs.nodes.nothing_is_unreached.Goals as goal
 

@@ -1,5 +1,4 @@
 use Rattle.std.proofs.Common.{◌∙◌}
-use Rattle.words_law.specs.Views.{directories}
 use Rattle.words_rest.proofs.Living.{none_cyclic, none_deferred, none_lives}
 use Rattle.words_rest.proofs.Sums.{no_bytes, no_slots}
 use Rattle.words_rest.proofs.Summed.{bytes_told, slots_told}

@@ -1,4 +1,3 @@
-use Rattle.words_law.specs.Views.{directories}
 use Rattle.words_rest.proofs.Heads.{owned_bound, slot_word}
 use Rattle.words_rest.proofs.Living.{head_counted}
 use Rattle.words_rest.proofs.records.heads_are_counted.Goals as goal

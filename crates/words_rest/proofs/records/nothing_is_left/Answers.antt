@@ -1,4 +1,3 @@
-use Rattle.words_law.specs.Views.{directories}
 use Rattle.words_rest.proofs.Living.{none_lives}
 use Rattle.words_rest.proofs.Sums.{no_bytes, no_slots}
 use Rattle.words_rest.proofs.records.nothing_is_left.Goals as goal

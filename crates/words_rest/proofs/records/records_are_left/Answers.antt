@@ -1,4 +1,3 @@
-use Rattle.words_law.specs.Views.{directories}
 use Rattle.words_rest.proofs.Summed.{bytes_told, slots_told}
 use Rattle.words_rest.proofs.records.records_are_left.Goals as goal
 
