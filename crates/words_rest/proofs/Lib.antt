@@ -10,3 +10,5 @@ pub mod Chains
 pub mod Summed
 pub mod Full
 pub mod Settled
+pub mod Ring
+pub mod RingLaw

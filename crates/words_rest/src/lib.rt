@@ -19,6 +19,6 @@ mod nodes;
 mod records;
 mod rest;
 
-pub use nodes::{no_node_is_left, nothing_is_unreached};
+pub use nodes::{a_node_may_hold_itself, no_node_is_left, nothing_is_unreached};
 pub use records::{audits_find_records, heads_are_counted, nothing_is_left, records_are_left};
 pub use rest::settled_states_rest;

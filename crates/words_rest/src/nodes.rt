@@ -17,6 +17,7 @@ ghost use Rattle.plain_audit.specs.Audits.{IsAudit, deferred_entries};
 ghost use Rattle.words_law.specs.Law.{WordsLaw};
 ghost use Rattle.words_law.specs.Texts.{AllPieces};
 ghost use Rattle.words_law.specs.Views.{View};
+ghost use Rattle.words_rest.specs.Needed.{HasNodeLeft};
 ghost use Rattle.words_rest.specs.Nodes.{HasNoNode, HasNoNodeAsItem, IsAllReached};
 ghost use Rattle.words_rest.specs.Rest.{IsLeft, Rests};
 
@@ -49,4 +50,10 @@ pub fn nothing_is_unreached()
         → Meets (WordsLaw u z) p views → AllPieces p → IsLeft p views → HasNoNode p
         → IsAllReached p }
     ensures deferred { (p : Plain) → Rests p → deferred_entries p ≡ 0 }
+{}
+
+/// The law doesn't tell that no node is left: there is a state that is as asked, in which the queue is shut and nothing
+/// was left, and whose one object is a node that its own field 1 holds.
+pub fn a_node_may_hold_itself()
+    ensures { (u : Ends) (z : Area) → (p : Plain) × (views : List View) × HasNodeLeft u z p views }
 {}
