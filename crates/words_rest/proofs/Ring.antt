@@ -90,7 +90,8 @@ ring_lawful = record {
     (λ ended. absurd (never_ended s ended)),
     (λ some. let none = ring_dying s in absurd (omega arith)),
   );
-  marks = each_slot (λ s x. x.stage ≢ Live → x.marked ≡ true) (λ not. absurd (not refl)) (λ s not. refl);
+  marks = each_slot (λ s x. x.stage ≢ Live → x.marked ≡ true) (λ not. absurd (not refl))
+      (λ s not. refl);
   nulls = each_slot (λ s x. (x.stage ≢ Live) × (x.stage ≢ Ended)
       → (x.first ≡ None) × (x.second ≡ None) × (x.weak_field ≡ None))
       (λ vacant. absurd (vacant.0 refl)) (λ s vacant. (refl, refl, refl));

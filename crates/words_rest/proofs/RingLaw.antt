@@ -106,8 +106,10 @@ module _ (u : Ends) where
             (λ z. absurd (z refl));
         emptied = each_view (Emptied (past ∷ []) 0) (λ z. absurd (z refl)) (λ z. absurd (z refl));
         carries = each_view (λ v. Carries ring (past ∷ []) v.load)
-            (carries_none ring (past ∷ []) no_load refl) (carries_none ring (past ∷ []) no_load refl);
-        flies = each_view (λ v. Flies (past ∷ []) v.flight) (λ z. absurd (z refl)) (λ z. absurd (z refl));
+            (carries_none ring (past ∷ []) no_load refl)
+            (carries_none ring (past ∷ []) no_load refl);
+        flies = each_view (λ v. Flies (past ∷ []) v.flight) (λ z. absurd (z refl))
+            (λ z. absurd (z refl));
         apart = λ n m some. absurd (some (each_view (λ v. v.load.node ≡ 0) refl refl n));
         number = number;
         attached = λ n is. absurd
@@ -127,11 +129,13 @@ module _ (u : Ends) where
       ordered = record {
         pushed = record {
           own = λ n. ap (tagged n) (each_view (λ v. v.pushed ≡ []) refl refl (home views n));
-          none = λ n m ne. ap (tagged n) (each_view (λ v. v.pushed ≡ []) refl refl m) ∙ tagged_none n;
+          none = λ n m ne. ap (tagged n) (each_view (λ v. v.pushed ≡ []) refl refl m)
+              ∙ tagged_none n;
         };
         popped = record {
           own = λ n. ap (tagged n) (each_view (λ v. v.popped ≡ []) refl refl (home views n));
-          none = λ n m ne. ap (tagged n) (each_view (λ v. v.popped ≡ []) refl refl m) ∙ tagged_none n;
+          none = λ n m ne. ap (tagged n) (each_view (λ v. v.popped ≡ []) refl refl m)
+              ∙ tagged_none n;
         };
       };
       phase = record {
@@ -200,7 +204,8 @@ module _ (z : Area) where
     lives = λ s l some. let a = no_fresh s l in let b = no_kept s l in absurd (omega arith);
     once = λ s l. let a = no_fresh s l in let b = no_kept s l in omega arith;
     stands = λ s l some. let b = no_kept s l in absurd (omega arith);
-    learnt = each_gone (λ v. Learnt z ring nothing v) (record { noted = tt; seen = tt; ended = tt; ran = tt; led = tt });
+    learnt = each_gone (λ v. Learnt z ring nothing v)
+        (record { noted = tt; seen = tt; ended = tt; ran = tt; led = tt });
   }
 
 -- BOTH, and what is asked besides

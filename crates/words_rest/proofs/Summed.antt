@@ -167,7 +167,8 @@ module _ (z : Area) (p : Plain) (views : List View) (lawful : Lawful p)
         let flat = times_flat k (record_at p views) heads in
         let flat_too = times_flat t (record_at p views) heads in
         let same = members_same (λ h. times k (record_at p views h))
-        (λ h. times t (record_at p views h)) heads (λ h some. record_passes h (listed h some) fit none t k live leads) in omega arith)
+        (λ h. times t (record_at p views h)) heads
+        (λ h some. record_passes h (listed h some) fit none t k live leads) in omega arith)
 
     pub records_weigh : (weight : List ℕ → ℕ)
         → over_slots (λ x. if_live (weight x.payload) x.stage) p.slots
