@@ -247,6 +247,7 @@ ring_left u z = record {
   nothing = refl;
   node = record { 0 = 0 };
   lives = (refl, refl);
+  itself = refl;
 }
   where
     no_pushes : (x : Item) (n : ℕ) → In x (taken_items (queue.view_at (root u.form ∷ []) n).pushed)

@@ -52,8 +52,8 @@ pub fn nothing_is_unreached()
     ensures deferred { (p : Plain) → Rests p → deferred_entries p ≡ 0 }
 {}
 
-/// The law doesn't tell that no node is left: there is a state that is as asked, in which the queue is shut and nothing
-/// was left, and whose one object is a node that its own field 1 holds.
+/// The law alone doesn't tell that no node is left: there is a state that is as asked, in which the queue is shut and
+/// nothing was left, and yet a node lives, which its own field 1 holds.
 pub fn a_node_may_hold_itself()
     ensures { (u : Ends) (z : Area) → (p : Plain) × (views : List View) × HasNodeLeft u z p views }
 {}
