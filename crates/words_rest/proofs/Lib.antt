@@ -1,0 +1,14 @@
+pub mod Sums
+pub mod Finite
+pub mod Left
+pub mod Heads
+pub mod NoNode
+pub mod Living
+pub mod Lengths
+pub mod Added
+pub mod Chains
+pub mod Summed
+pub mod Full
+pub mod Settled
+pub mod Ring
+pub mod RingLaw

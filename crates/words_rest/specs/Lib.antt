@@ -1,0 +1,4 @@
+pub mod Rest
+pub mod Nodes
+pub mod Records
+pub mod Needed
