@@ -1,0 +1,50 @@
+-- What a push leaves, on a queue of either form, and why nothing was pushed.
+use Rattle.std.specs.Prelude.{ℕ, ◌≡◌, List}
+use Rattle.plain_state.specs.declared.slot.SlotId.{SlotId}
+use Rattle.core_events.specs.Views.{without}
+use Rattle.acquire_retire.specs.Domains.{DomainState}
+use Rattle.acquire_retire.specs.Seats.{SeatState}
+use Rattle.queue_law.specs.declared.view.Form.{Form}
+use Rattle.queue_law.specs.declared.view.Form.TheVariants.{Linked, Double}
+use Rattle.queue_law.specs.declared.view.View.{View}
+use Rattle.queue_law.specs.Views.{no_flight}
+use Rattle.queue_protocol.specs.declared.law.QueueLaw.{QueueLaw}
+use Rattle.linked_queue.specs.declared.queue.PushError.{PushError}
+use Rattle.linked_queue.specs.declared.queue.PushError.TheVariants as unpushed
+use Rattle.linked_queue.specs.Pops.{item_in}
+use Rattle.linked_queue.specs.Pushes.{IsWhyRefused, pushed_too}
+use Rattle.linked_queue.specs.Pushes as linked
+use Rattle.linked_queue.specs.Queues.{deeds_in}
+use Rattle.double_link_queue.specs.Leaving.{LeavesBoth}
+use Rattle.double_link_queue.specs.Pushes.{landed_in}
+use Rattle.double_link_queue.specs.Pushes as double
+
+-- all of a view but its notes on single nodes, those of a push in flight too: what the seat pushed and popped, who it
+-- is, and how far it has laid the queue
+abbrev pub deeds_of : View → View
+deeds_of v = landed_in (deeds_in v)
+
+-- The seat has given its reference to the item, and has pushed it, as it knows it. It has no push in flight if it had
+-- none before.
+pub record Pushes (item : SlotId) (old new : SeatState View) : Type 0 where
+  pub leaves : LeavesBoth (without item old.view.core.owned) old.view.core.weaks old new
+  pub deeds :
+      deeds_of new.view.client ≡ pushed_too (item_in old item) (deeds_of old.view.client)
+  pub lands : old.view.client.flight ≡ no_flight → new.view.client.flight ≡ no_flight
+
+-- how many adds a push may lack: it uses no more on a queue of this form
+abbrev pub most_adds : Form → ℕ
+most_adds Linked = 5
+most_adds Double = 7
+
+module _ (fits : List ℕ → Type 0) (d : DomainState QueueLaw) where
+  -- a place of a queue of this form held `seen`, and then `now`, which is another content
+  abbrev pub DiffersIn : Form → ℕ → ℕ → Type 0
+  DiffersIn Linked = linked.PushDiffers fits d
+  DiffersIn Double = double.PushDiffers fits d
+
+  -- why nothing was pushed: another seat was quicker, or `make` has refused, or the adds that were left were too few
+  abbrev pub IsWhyUnpushed : PushError → SeatState View → Type 0
+  IsWhyUnpushed (unpushed.Again seen now back) old = DiffersIn d.protocol.form seen now
+  IsWhyUnpushed (unpushed.Refused r) old =
+      IsWhyRefused fits d (most_adds d.protocol.form) r.why old

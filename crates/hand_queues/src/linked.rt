@@ -1,0 +1,61 @@
+//! A linked queue as a queue by which seats hand references on. Each call is the queue's own.
+ghost use Rattle.linked_queue.specs.Queues.{IsQueueOf};
+
+use crate::hand_queue::HandQueue;
+use acquire_retire::{Domain, Seat};
+use counted_handles::{Spent, Strong};
+use linked_queue::{LinkedQueue, PopError, PushError, PushRefused};
+use queue_protocol::HasQueue;
+use std::sync::Wait;
+
+impl HandQueue for LinkedQueue {
+    ghost is_on = { λ it d. IsQueueOf it.head it.tail d };
+
+    fn try_attach<S, P: HasQueue<S>>(&self, domain: &Domain<P>, seat: &mut Seat<P>) -> bool {
+        LinkedQueue::try_attach::<S, P>(self, domain, seat)
+    }
+
+    fn attach<S, P: HasQueue<S>, R: Wait>(&self, rt: &R, domain: &Domain<P>, seat: &mut Seat<P>) {
+        LinkedQueue::attach::<S, P, R>(self, rt, domain, seat)
+    }
+
+    fn try_push<S, P: HasQueue<S>>(
+        &self,
+        domain: &Domain<P>,
+        seat: &mut Seat<P>,
+        item: Strong,
+    ) -> Result<(), PushError> {
+        LinkedQueue::try_push::<S, P>(self, domain, seat, item)
+    }
+
+    fn push<S, P: HasQueue<S>, R: Wait>(
+        &self,
+        rt: &R,
+        domain: &Domain<P>,
+        seat: &mut Seat<P>,
+        item: Strong,
+    ) -> Result<(), PushRefused> {
+        LinkedQueue::push::<S, P, R>(self, rt, domain, seat, item)
+    }
+
+    fn try_pop<S, P: HasQueue<S>>(
+        &self,
+        domain: &Domain<P>,
+        seat: &mut Seat<P>,
+    ) -> Result<Option<Strong>, PopError> {
+        LinkedQueue::try_pop::<S, P>(self, domain, seat)
+    }
+
+    fn pop<S, P: HasQueue<S>, R: Wait>(
+        &self,
+        rt: &R,
+        domain: &Domain<P>,
+        seat: &mut Seat<P>,
+    ) -> Result<Option<Strong>, Spent> {
+        LinkedQueue::pop::<S, P, R>(self, rt, domain, seat)
+    }
+
+    fn shut<S, P: HasQueue<S>>(&self, domain: &Domain<P>, root: &mut Seat<P>) {
+        LinkedQueue::shut::<S, P>(self, domain, root)
+    }
+}
