@@ -10,7 +10,8 @@ use Rattle.counted_handles.specs.Handles.{Handle}
 use Rattle.directory_law.specs.declared.view.View.{View as DirectoryView}
 use Rattle.directory_calls.specs.Directories.{CanCount, HasNoRecord, HasQuota}
 use Rattle.directory_calls.specs.Steps.{AtStep}
-use Rattle.linked_queue.specs.Queues.{IsAttached, deeds_in}
+use Rattle.hand_queues.specs.Pushes.{deeds_of}
+use Rattle.linked_queue.specs.Queues.{IsAttached}
 use Rattle.record_making.specs.Making.{MissesWithin}
 use Rattle.slot_store.specs.Calls.{HasNoMake}
 use Rattle.slot_store.specs.declared.making.MakeError.{MakeError}
@@ -33,7 +34,7 @@ module _ (n : ℕ) (v w : View) (grows : GrowsIn texts with_texts n v w) where
   grown_idle = record {
     pushes = [];
     pops = [];
-    deeds = ap (λ (x : View). deeds_in x.0) grows.rest ∙ sym (did_none (deeds_in v.0));
+    deeds = ap (λ (x : View). deeds_of x.0) grows.rest ∙ sym (did_none (deeds_of v.0));
     pushed_words = ([], tt, refl);
     popped_words = ([], tt, refl);
     more = record {

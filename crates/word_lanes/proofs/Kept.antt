@@ -19,6 +19,7 @@ use Rattle.directory_calls.specs.Steps.{Leaves}
 use Rattle.directory_calls.proofs.Going.{holds_by, leaves_less}
 use Rattle.text_reading.specs.Reading.{HasTwoFree}
 use Rattle.linked_queue.specs.Leaving as queue
+use Rattle.double_link_queue.specs.Leaving.{LeavesBoth}
 use Rattle.linked_queue.specs.Queues.{IsAttached}
 use Rattle.part_calls.specs.Parts.{seen_by}
 use Rattle.directory_law.specs.declared.view.View.{View as DirectoryView}
@@ -50,6 +51,16 @@ owns_queue a b left = record {
   strongly = left.owns;
   weakly = λ x. ap (λ (v : CoreView). times x v.weaks) left.same;
   same = ap (λ (v : CoreView). record v { weaks = [] }) left.same;
+  knows = left.knows;
+}
+
+pub owns_both : {os : List SlotId} (a b : SeatState View)
+    → LeavesBoth os a.view.core.weaks (seen_by (λ (v : View). v.0) a) (seen_by (λ (v : View). v.0) b)
+    → Owns os a b
+owns_both a b left = record {
+  strongly = left.owns;
+  weakly = left.weakly;
+  same = left.same;
   knows = left.knows;
 }
 

@@ -11,8 +11,10 @@ use Rattle.directory_law.specs.declared.view.View.{View as DirectoryView}
 use Rattle.directory_law.specs.Bytes.{text_bytes}
 use Rattle.directory_law.specs.Payloads.{Text}
 use Rattle.linked_queue.specs.Pops.{item_in}
-use Rattle.linked_queue.specs.Pushes.{Pushes, PushesNothing, pushed_too}
+use Rattle.linked_queue.specs.Pushes.{pushed_too}
 use Rattle.linked_queue.specs.Queues.{deeds_in}
+use Rattle.double_link_queue.specs.Pushes.{PushesNothing, landed_in}
+use Rattle.hand_queues.specs.Pushes.{Pushes, deeds_of}
 use Rattle.weak_intern.specs.Knowing.{Knows}
 use Rattle.words_law.specs.Known.{ForgetsNothing, KnowsText}
 use Rattle.words_law.specs.Pushes.{MayPush}
@@ -25,7 +27,7 @@ use Rattle.linked_queue.specs.Queues.{IsAttached}
 use Rattle.words_protocol.specs.declared.law.WordsLaw.{WordsLaw}
 use Rattle.word_lanes.specs.Counting.{Counts, did}
 use Rattle.word_lanes.specs.Ready.{IsReady, Shared}
-use Rattle.word_lanes.proofs.Kept.{owns_queue, ready_by}
+use Rattle.word_lanes.proofs.Kept.{owns_both, ready_by}
 use Rattle.word_lanes.proofs.Counted.{by_one, did_none, more_none, none_more}
 
 -- what a seat has of the queue, and of the directory
@@ -77,13 +79,13 @@ popped_did x n v is = λ i. record v {
 -- IT WAS PUSHED
 module _ (s : SlotId) (text : Text) (old new : SeatState View) (known : Knows texts s text old)
     (same : new.view.client.1 ≡ old.view.client.1) where
-  pub offered : deeds_in new.view.client.0
-      ≡ pushed_too (item_of s old) (deeds_in old.view.client.0)
+  pub offered : deeds_of new.view.client.0
+      ≡ pushed_too (item_of s old) (deeds_of old.view.client.0)
       → Counts (text_bytes text ∷ []) [] old.view.client new.view.client
   offered deeds = record {
     pushes = item_of s old ∷ [];
     pops = [];
-    deeds = deeds ∙ pushed_did (item_of s old) (deeds_in old.view.client.0);
+    deeds = deeds ∙ pushed_did (item_of s old) (deeds_of old.view.client.0);
     pushed_words = (
       text ∷ [],
       (
@@ -114,7 +116,7 @@ module _ (old new : SeatState View) (same : new.view.client.1 ≡ old.view.clien
   idle deeds = record {
     pushes = [];
     pops = [];
-    deeds = deeds ∙ sym (did_none (deeds_in old.view.client.0));
+    deeds = ap landed_in deeds ∙ sym (did_none (deeds_of old.view.client.0));
     pushed_words = ([], tt, refl);
     popped_words = ([], tt, refl);
     more = subst (λ (v : DirectoryView). ForgetsNothing old.view.client.1 v) (sym same)
@@ -132,10 +134,10 @@ module _ (old new : SeatState View) (same : new.view.client.1 ≡ old.view.clien
       → HasRoom new.view.core → IsAtRest d new → IsAttached new.view.client.0
       → IsReady d on new
   offer_ready s (Ok done) pushed nothing ready room rest attached =
-      ready_by old new ready (owns_queue old new pushed.leaves) room rest attached
+      ready_by old new ready (owns_both old new pushed.leaves) room rest attached
       (subst HasQuota (sym same) ready.quota)
   offer_ready s (Err error) pushed nothing ready room rest attached =
-      ready_by old new ready (owns_queue old new nothing.leaves) room rest attached
+      ready_by old new ready (owns_both old new nothing.leaves) room rest attached
       (subst HasQuota (sym same) ready.quota)
 
 -- a push takes no add back

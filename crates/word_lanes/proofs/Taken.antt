@@ -8,7 +8,8 @@ use Rattle.queue_law.specs.declared.view.Taken.{Taken}
 use Rattle.queue_law.specs.declared.view.View.{View as QueueView}
 use Rattle.queue_law.specs.Lists.{taken_items}
 use Rattle.directory_law.specs.Views.{In}
-use Rattle.linked_queue.specs.Queues.{deeds_in}
+use Rattle.double_link_queue.specs.Pushes.{landed_in}
+use Rattle.hand_queues.specs.Pushes.{deeds_of}
 use Rattle.words_law.specs.Known.{ForgetsNothing}
 use Rattle.words_law.specs.Views.{View}
 use Rattle.std.specs.Prelude.{Err, IfErr, IsErrAnd, None, Ok, Option, Result, Some}
@@ -63,8 +64,8 @@ module _ (s : SlotId) (old mid : SeatState View)
     took word read = record {
       pushes = [];
       pops = item_of s mid ∷ [];
-      deeds = ap deeds_in only.queue ∙ (pops.deeds
-          ∙ popped_did (item_of s mid) old.view.client.0.number (deeds_in old.view.client.0) refl);
+      deeds = ap deeds_of only.queue ∙ (ap landed_in pops.deeds
+          ∙ popped_did (item_of s mid) old.view.client.0.number (deeds_of old.view.client.0) refl);
       pushed_words = ([], tt, refl);
       popped_words = (
         read.text ∷ [],

@@ -13,7 +13,7 @@ use Rattle.directory_law.specs.declared.view.View.{View as DirectoryView}
 use Rattle.directory_law.specs.Bytes.{text_bytes}
 use Rattle.directory_law.specs.Payloads.{IsText, Text}
 use Rattle.directory_law.specs.Views.{In}
-use Rattle.linked_queue.specs.Queues.{deeds_in}
+use Rattle.hand_queues.specs.Pushes.{deeds_of}
 use Rattle.words_law.specs.Known.{ForgetsNothing, KnowsTexts}
 use Rattle.words_law.specs.Views.{View}
 
@@ -47,7 +47,7 @@ begins e v = (v.0, record v.1 { ran = e ∷ v.1.ran })
 pub record Counts (pushed popped : List (List ℕ)) (v w : View) : Type 0 where
   pub pushes : List Item
   pub pops : List Item
-  pub deeds : deeds_in w.0 ≡ did pushes pops (deeds_in v.0)
+  pub deeds : deeds_of w.0 ≡ did pushes pops (deeds_of v.0)
   pub pushed_words : KnowsWords w.1 pushes pushed
   pub popped_words : KnowsWords w.1 pops popped
   pub more : ForgetsNothing v.1 w.1

@@ -14,7 +14,8 @@ use Rattle.part_calls.specs.Parts.{as_part}
 use Rattle.directory_calls.specs.Directories.{HasQuota, IsOver}
 use Rattle.directory_calls.specs.Steps.{aside}
 use Rattle.text_reading.specs.Reading.{HasTwoFree}
-use Rattle.linked_queue.specs.Queues.{IsAttached, IsQueueOf}
+use Rattle.hand_queues.specs.Queues.{IsAnyOf}
+use Rattle.linked_queue.specs.Queues.{IsAttached}
 use Rattle.words_law.specs.Views.{View}
 use Rattle.words_protocol.specs.declared.law.WordsLaw.{WordsLaw}
 pub use Rattle.word_lanes.specs.declared.shared.Shared.{Shared}
@@ -23,8 +24,7 @@ pub use Rattle.word_lanes.specs.declared.shared.Shared.{Shared}
 pub record IsReady (d : DomainState WordsLaw) (on : Shared) (seat : SeatState View) : Type 0 where
   pub rest : IsAtRest d seat
   pub room : HasRoom seat.view.core
-  pub queue :
-      IsQueueOf on.queue.head on.queue.tail (as_part (λ (it : WordsLaw). it.pair.left) d)
+  pub queue : IsAnyOf on.queue (as_part (λ (it : WordsLaw). it.pair.left) d)
   pub over : IsOver d d.protocol.pair.right on.directory
   pub attached : IsAttached seat.view.client.0
   pub quota : HasQuota seat.view.client.1

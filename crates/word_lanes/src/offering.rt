@@ -14,7 +14,7 @@ use crate::shared::Shared;
 use acquire_retire::{Domain, Seat};
 use counted_handles::Strong;
 use directory_protocol::RecordKind;
-use linked_queue::PushRefused;
+use hand_queues::{HandQueue, PushRefused};
 use plain_state::PayloadKind;
 use protocol_pairs::{Left, PairKind};
 use queue_protocol::NodeKind;

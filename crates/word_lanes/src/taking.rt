@@ -18,6 +18,7 @@ use cdrc_text::Tally;
 use control_word::drop_strong;
 use counted_handles::{Spent, Strong};
 use directory_protocol::RecordKind;
+use hand_queues::HandQueue;
 use out_of_memory::OutOfMemory;
 use plain_state::PayloadKind;
 use protocol_pairs::{Left, PairKind, Right};

@@ -3,7 +3,9 @@ ghost use Rattle.core_events.specs.Steps.{HasRoom};
 ghost use Rattle.control_word.specs.Resting.{IsAtRest};
 ghost use Rattle.part_calls.specs.Parts.{as_part};
 ghost use Rattle.directory_calls.specs.Directories.{IsOver};
-ghost use Rattle.linked_queue.specs.Queues.{CanLay, IsQueueOf};
+ghost use Rattle.hand_queues.specs.Queues.{IsAnyOf, queue_in};
+ghost use Rattle.linked_queue.specs.Queues.{CanLay};
+ghost use Rattle.queue_law.specs.declared.view.Form.TheVariants.{Linked};
 ghost use Rattle.text_reading.specs.Reading.{HasTwoFree};
 ghost use Rattle.word_lanes.specs.Ready.{IsReady};
 
@@ -12,7 +14,7 @@ use acquire_retire::{Domain, Quota, Seat, Shape, open_domain};
 use cdrc_text::Tally;
 use directory_calls::Directory;
 use directory_protocol::DirectoryLaw;
-use linked_queue::LinkedQueue;
+use hand_queues::{AnyQueue, Form};
 use queue_protocol::QueueLaw;
 use slot_store::MakeError;
 use std::test::Fail;
@@ -31,7 +33,7 @@ const SHAPE: Shape = Shape {
 fn open_for_three(rt: &HostRuntime) -> Result<(Domain<WordsLaw>, Seat<WordsLaw>), Fail>
     ensures rest { IfOk result (λ r. IsAtRest r.0 r.1 × HasRoom r.1.view.core) }
     ensures queue { IfOk result (λ r.
-        IsQueueOf 0 1 (as_part (λ (it : WordsLaw). it.pair.left) r.0)) }
+        IsAnyOf (queue_in Linked 0 1) (as_part (λ (it : WordsLaw). it.pair.left) r.0)) }
     ensures over { IfOk result (λ r. IsOver r.0 r.0.protocol.pair.right
         (record { first = 0; cells = 10 })) }
     ensures unlaid { IfOk result (λ r. CanLay r.1.view.client.0) }
@@ -53,7 +55,8 @@ fn open_for_three(rt: &HostRuntime) -> Result<(Domain<WordsLaw>, Seat<WordsLaw>)
 fn lay(domain: &Domain<WordsLaw>, seat: &mut Seat<WordsLaw>) -> Result<Shared, MakeError>
     requires rest { IsAtRest domain.now seat.old }
     requires room { HasRoom seat.old.view.core }
-    requires queue { IsQueueOf 0 1 (as_part (λ (it : WordsLaw). it.pair.left) domain.now) }
+    requires queue { IsAnyOf (queue_in Linked 0 1)
+        (as_part (λ (it : WordsLaw). it.pair.left) domain.now) }
     requires over { IsOver domain.now domain.now.protocol.pair.right
         (record { first = 0; cells = 10 }) }
     requires unlaid { CanLay seat.old.view.client.0 }
@@ -64,7 +67,7 @@ fn lay(domain: &Domain<WordsLaw>, seat: &mut Seat<WordsLaw>) -> Result<Shared, M
     ensures used { seat.new.view.client.1.used ≡ 0 }
     ensures quota { seat.new.view.client.1.quota ≡ 3 }
 {
-    let queue = LinkedQueue::lay(domain, seat, 0, 1)?;
+    let queue = AnyQueue::lay(domain, seat, Form::Linked, 0, 1)?;
     Ok(Shared {
         queue,
         directory: Directory::over(0, 10),
