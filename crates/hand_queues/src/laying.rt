@@ -18,9 +18,9 @@ use slot_store::MakeError;
 
 impl AnyQueue {
     /// Lays a queue of this form over two cells: makes the dummy, and puts it into the tail cell and then into the head
-    /// cell. It is for seat 0, once, and attaches it. A refusal has the cause of the `make`, or the seat had no add left
-    /// for the second reference; then nothing is laid, and a dummy that was made is given up. One make at most. At most
-    /// 21 steps more than there are slots, and two collects.
+    /// cell. It is for seat 0, once, and attaches it. A refusal has the cause of the `make`, or the seat had no add
+    /// left for the second reference; then nothing is laid, and a dummy that was made is given up. One make at most. At
+    /// most 21 steps more than there are slots, and two collects.
     pub fn lay<S, P: HasQueue<S>>(
         domain: &Domain<P>,
         seat: &mut Seat<P>,

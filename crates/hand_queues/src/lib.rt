@@ -1,9 +1,9 @@
 //! One trait for both forms of a queue: by its bound a caller pushes and pops without knowing how the nodes are linked.
 //!
 //! `HandQueue` has the calls of a queue that was laid, `try_attach`, `attach`, `try_push`, `push`, `try_pop`, `pop` and
-//! `shut`, with the contracts that `LinkedQueue` and `DoubleQueue` have in common. `AnyQueue` is one of the two, so that
-//! a program picks the form when it runs. The rule that is kept is the law of `queue_law`: each item that was pushed was
-//! popped or waits, once, and pops come in the order of pushes.
+//! `shut`, with the contracts that `LinkedQueue` and `DoubleQueue` have in common. `AnyQueue` is one of the two, so
+//! that a program picks the form when it runs. The rule that is kept is the law of `queue_law`: each item that was
+//! pushed was popped or waits, once, and pops come in the order of pushes.
 //!
 //! A call asks that the domain's law is that of this queue, in its form. No step is promised to come, nor that a call
 //! which may wait returns.
