@@ -1,0 +1,5 @@
+pub mod Opened
+pub mod Begun
+pub mod Ended
+pub mod Jobs
+pub mod Threads
