@@ -11,7 +11,7 @@ use Rattle.core_events.specs.Views.{Terms, granted}
 use Rattle.core_invariant.proofs.Each.{get_each, length_each}
 use Rattle.domain_rule.specs.Views.{quota_at}
 use Rattle.acquire_retire.specs.Domains.{DomainState}
-use Rattle.acquire_retire.specs.Openings.{opened_seats}
+use Rattle.acquire_retire.specs.Openings.{begun_seat, opened_seats}
 use Rattle.acquire_retire.specs.Seats.{SeatState}
 use Rattle.control_word.proofs.Beginning.{all_at_rest}
 use Rattle.control_word.specs.Resting.{IsAtRest, IsSpent}
@@ -37,7 +37,8 @@ use Rattle.words_law.specs.Owned.{first_view}
 use Rattle.words_law.specs.Views.{View}
 use Rattle.words_protocol.specs.Sides.{area_of, ends_of}
 use Rattle.words_protocol.specs.declared.law.WordsLaw.{WordsLaw}
-use Rattle.word_lanes.specs.Ready.{IsReady, Shared}
+use Rattle.word_lanes.specs.declared.shared.Shared.{Shared}
+use Rattle.word_lanes.specs.Ready.{IsReady}
 use Rattle.word_lanes.specs.Whys.{of_queue, queue_of}
 use Rattle.word_lanes.proofs.Kept.{free_still, owns_queue}
 use Rattle.lane_files.specs.declared.work.Work.{Work}
@@ -58,7 +59,7 @@ grants_there work lanes slots d is ticket less =
     omega (arith, to, interns, at)
 
 module _ (d : DomainState WordsLaw) (is : IsDomainForSome d) where
-  first : ℕ → View
+  abbrev first : ℕ → View
   first = first_view (ends_of d.protocol.pair.left) (area_of d.protocol.pair.right)
 
   pub shape_there : IsShape d.shape
@@ -71,7 +72,7 @@ module _ (d : DomainState WordsLaw) (is : IsDomainForSome d) where
   pub rests : (n : ℕ) → n < d.shape.seats
       → IsAtRest d (fresh_seat d n) × HasRoom (fresh_seat d n).view.core
   rests n less =
-      let count = length_each 0 d.shape.seats (fresh_seat d) in
+      let count = length_each 0 d.shape.seats (begun_seat first d) in
       let e : 0 + n ≡ n = omega arith in
       subst (λ (s : SeatState View). IsAtRest d s × HasRoom s.view.core)
       (get_each 0 d.shape.seats n (fresh_seat d) (fresh_seat d n) less ∙ ap (fresh_seat d) e)
@@ -98,21 +99,29 @@ module _ (d : DomainState WordsLaw) (is : IsDomainForSome d) where
   some_cells : 0 < d.shape.weak_cells
   some_cells = let cells = ap (λ (z : Shape). z.weak_cells) is.is.shape in omega arith
 
-  no_intern : (n : ℕ) → directory.gone
+  pub no_intern : (n : ℕ) → directory.gone
       ≡ (fresh_seat d n).view.client.1
   no_intern n =
       ap (λ (to : GivenTo). record directory.gone {
         quota = slice_index_or (seat_interns d.protocol.pair.right.interns.items to) n 0;
       }) (sym is.is.directory.to)
 
-  module _ (root : SeatState View) (on : Shared)
-      (beside : StaysBeside (λ (v : View). v.0) (λ (v : View) w. (w, v.1)) (fresh_seat d 0) root)
-      (leaves : Leaves [] (of_queue (fresh_seat d 0)) (of_queue root)) where
-    pub laid_ready : IsAtRest d root → HasRoom root.view.core → IsAttached root.view.client.0
+  module _ (old root : SeatState View) (was : old ≡ fresh_seat d 0)
+      (stays : StaysBeside (λ (v : View). v.0) (λ (v : View) w. (w, v.1)) old root)
+      (left : Leaves old.view.core.owned (of_queue old) (of_queue root)) where
+    beside : StaysBeside (λ (v : View). v.0) (λ (v : View) w. (w, v.1)) (fresh_seat d 0) root
+    beside = subst (λ (s : SeatState View).
+        StaysBeside (λ (v : View). v.0) (λ (v : View) w. (w, v.1)) s root) was stays
+
+    leaves : Leaves [] (of_queue (fresh_seat d 0)) (of_queue root)
+    leaves = subst (λ (s : SeatState View). Leaves s.view.core.owned (of_queue s) (of_queue root))
+        was left
+
+    pub laid_ready : (on : Shared) → IsAtRest d root → HasRoom root.view.core → IsAttached root.view.client.0
         → (on.queue.head ≡ 0) × (on.queue.tail ≡ 1)
         → (on.directory.first ≡ 0) × (on.directory.cells ≡ d.shape.weak_cells)
         → IsReady d on root
-    laid_ready rest room attached ends cells =
+    laid_ready on rest room attached ends cells =
         let used = ap (λ (v : View). v.1.used) beside in
         let quota = ap (λ (v : View). v.1.quota) beside in
         let at = queue_there in let law = cells_there in let more = some_cells in record {
@@ -136,7 +145,7 @@ module _ (d : DomainState WordsLaw) (is : IsDomainForSome d) where
           free = free_still (fresh_seat d 0) root (owns_queue (fresh_seat d 0) root leaves) (two_free 0);
         }
 
-    pub only_laid : deeds_in root.view.client.0 ≡ laid_in (deeds_in (fresh_seat d 0).view.client.0)
+    pub only_laid : deeds_in root.view.client.0 ≡ laid_in (deeds_in old.view.client.0)
         → HasOnlyLaid root
     only_laid deeds = record {
       number = ap (λ (v : CoreView). v.seat) leaves.same;
@@ -145,7 +154,8 @@ module _ (d : DomainState WordsLaw) (is : IsDomainForSome d) where
       notes = ap (λ (v : CoreView). v.notes) leaves.same;
       tickets = ap (λ (v : CoreView). v.tickets) leaves.same;
       left_seats = ap (λ (v : CoreView). v.left_seats) leaves.same;
-      queue = deeds ∙ ap (λ (form : Form). laid_in (deeds_in (view_of form 0))) is.is.queue.form;
+      queue = deeds ∙ ap (λ (s : SeatState View). laid_in (deeds_in s.view.client.0)) was
+          ∙ ap (λ (form : Form). laid_in (deeds_in (view_of form 0))) is.is.queue.form;
       directory = ap (λ (v : View). v.1) beside ∙ sym (no_intern 0);
     }
 
@@ -192,3 +202,10 @@ module _ (d : DomainState WordsLaw) (is : IsDomainForSome d) where
           others = rest.others;
         })
         has_make finds
+
+    pub few_slots_by : (old : SeatState View) (error : MakeError) → old ≡ fresh_seat d 0
+        → IsWhyUnlaid fits (queue_of d) error (of_queue old) (of_queue root)
+        → d.shape.slots < makes_given d.terms
+    few_slots_by old error was why =
+        few_slots (missed error (subst (λ (s : SeatState View).
+        IsWhyUnlaid fits (queue_of d) error (of_queue s) (of_queue root)) was why))

@@ -13,19 +13,23 @@ use Rattle.core_functions.specs.Fields.{IsFirstBad, IsInRange}
 use Rattle.claim_law.specs.Claims.{makes_given}
 use Rattle.words_law.specs.Fold.{File}
 use Rattle.lane_files.specs.declared.work.Work.{Work}
+use Rattle.lane_files.specs.Work.{all_tickets}
 use Rattle.lane_domain.specs.Opened.{cells_for, lane_quota, root_quota, shape_for, terms_for}
 use Rattle.lane_domain.specs.Sizes.{IsWithinLimits, all_parts, all_pieces, by_ticket, interns_of, makes_of, most_slots, slots_of_words, texts_in}
-use Rattle.lane_domain.proofs.Sums.{of_rounds, sum_of_both}
+use Rattle.lane_domain.proofs.Sums.{is_sum, of_rounds, sum_of_both}
 
 -- all interns, and all makes that tickets grant
 pub interns_are : (work : Work) → sum (by_ticket (interns_of work) work)
     ≡ work.rounds * all_pieces work
-interns_are work = of_rounds (λ (f : File). length f) work work.rounds
+interns_are work =
+    is_sum (λ (f : File). length f) work (all_tickets work)
+    ∙ of_rounds (λ (f : File). length f) work work.rounds
 
 pub grants_are : (work : Work) → sum (by_ticket (makes_of work) work)
     ≡ work.rounds * (all_pieces work + all_parts work)
 grants_are work =
-    of_rounds (λ (f : File). length f + slots_of_words f) work work.rounds
+    is_sum (λ (f : File). length f + slots_of_words f) work (all_tickets work)
+    ∙ of_rounds (λ (f : File). length f + slots_of_words f) work work.rounds
     ∙ ap (λ n. work.rounds * n) (sum_of_both (λ (f : File). length f) slots_of_words (texts_in work))
 
 -- all makes

@@ -1,11 +1,12 @@
 -- Numbers of tickets, added up.
-use Rattle.std.proofs.Common.{◌≡◌, ℕ, zero, suc, ◌+◌, ◌*◌, ◌%◌, ◌<◌, ◌≤◌, List, [], ◌∷◌, refl, sym, ap, subst, ◌∙◌, arith}
+use Rattle.std.proofs.Common.{◌≡◌, ℕ, zero, suc, ◌+◌, ◌*◌, ◌%◌, ◌<◌, ◌≤◌, List, [], ◌∷◌, ◌++◌, refl, sym, ap, subst, ◌∙◌, arith}
 use Rattle.std.specs.Prelude.{length, map, slice_index_or, sum, sum_by, take}
 use Rattle.std.specs.List.{range_with_len}
 use Rattle.std.proofs.lemmas.List.{length-map, take_all}
-use Rattle.std.proofs.lemmas.List.FromFn.{sum_by-map-range_with_len_more}
+use Rattle.std.proofs.lemmas.List.FromFn.{map-range_with_len_more, sum_by-map-range_with_len_more}
 use Rattle.std.proofs.lemmas.List.Sums.{sum_by-cons, sum_by_more}
 use Rattle.std.proofs.lemmas.Nat.{mod-mul-add}
+use Rattle.std.proofs.Math.Nat.{suc-mul}
 use Rattle.words_law.specs.Fold.{File}
 use Rattle.lane_files.specs.declared.work.Work.{Work}
 use Rattle.lane_files.specs.Work.{files_in, words_of}
@@ -20,12 +21,29 @@ sum_of_both f g (x ∷ xs) =
     let both = sum_by-cons (λ y. f y + g y) x xs in let rest = sum_of_both f g xs in
     omega arith
 
+-- a list of numbers, and one number more
+pub listed_more : (f : ℕ → ℕ) (n x : ℕ) (xs ys : List ℕ) → ys ≡ xs ++ x ∷ []
+    → xs ≡ map f (range_with_len 0 n) → x ≡ f n → ys ≡ map f (range_with_len 0 (n + 1))
+listed_more f n x xs ys added before is =
+    added ∙ ap (λ zs. zs ++ x ∷ []) before
+    ∙ ap (λ y. map f (range_with_len 0 n) ++ y ∷ []) is
+    ∙ sym (map-range_with_len_more f 0 n n (omega arith))
+
 module _ (g : File → ℕ) (work : Work) where
   -- of the first n tickets
-  pub of_tickets : ℕ → ℕ
+  unfoldable pub of_tickets : ℕ → ℕ
   of_tickets n = sum_by (λ (x : ℕ). x) (map (λ t. g (words_of work t)) (range_with_len 0 n))
 
+  pub of_none : of_tickets 0 ≡ 0
+  unfolding of_tickets
+  of_none = refl
+
+  pub is_sum : (n : ℕ) → sum (map (λ t. g (words_of work t)) (range_with_len 0 n)) ≡ of_tickets n
+  unfolding of_tickets
+  is_sum n = refl
+
   pub one_more : (n : ℕ) → of_tickets (n + 1) ≡ of_tickets n + g (words_of work n)
+  unfolding of_tickets
   one_more n = sum_by-map-range_with_len_more (λ (x : ℕ). x) (λ t. g (words_of work t)) 0 n n
       (omega arith)
 
@@ -67,11 +85,13 @@ module _ (g : File → ℕ) (work : Work) where
 
   -- of so many rounds
   pub of_rounds : (r : ℕ) → of_tickets (r * files_in work) ≡ r * sum_by g (texts_in work)
-  of_rounds zero = refl
+  of_rounds zero =
+      let e : zero * files_in work ≡ 0 = omega arith in
+      ap of_tickets e ∙ of_none ∙ omega arith
   of_rounds (suc r) =
       let f = files_in work in let s = sum_by g (texts_in work) in
-      let e : suc r * f ≡ r * f + f = ring arith in
-      let h : r * s + s ≡ suc r * s = ring arith in
+      let e : suc r * f ≡ r * f + f = suc-mul r f in
+      let h : r * s + s ≡ suc r * s = sym (suc-mul r s) in
       ap of_tickets e ∙ all_files r (of_rounds r) ∙ h
 
   -- of the files, once each
@@ -83,9 +103,9 @@ module _ (g : File → ℕ) (work : Work) where
 
   -- each of n tickets has m at most
   pub at_most : (m : ℕ) → ((t : ℕ) → g (words_of work t) ≤ m) → (n : ℕ) → of_tickets n ≤ n * m
-  at_most m few zero = omega arith
+  at_most m few zero = let none = of_none in omega arith
   at_most m few (suc n) =
       let more = one_more n in let rest = at_most m few n in let last = few n in
       let s : suc n ≡ n + 1 = omega arith in let e = ap of_tickets s in
-      let h : suc n * m ≡ n * m + m = ring arith in
+      let h : suc n * m ≡ n * m + m = suc-mul n m in
       omega arith

@@ -61,9 +61,9 @@ pub record IsQueueHere (queue : QueueLaw) : Type 0 where
   pub tail : queue.tail ≡ 1
 
 -- a directory over so many weak cells, whose interns come with tickets
-pub record IsDirectoryFor (work : Work) (cells : ℕ) (directory : DirectoryLaw) : Type 0 where
+pub record IsDirectoryFor (work : Work) (n : ℕ) (directory : DirectoryLaw) : Type 0 where
   pub first : directory.first ≡ 0
-  pub cells : directory.cells ≡ cells
+  pub cells : directory.cells ≡ n
   pub interns : directory.interns.items ≡ by_ticket (interns_of work) work
   pub to : directory.to ≡ Tickets
 
