@@ -2,6 +2,8 @@
 use Rattle.std.proofs.Common.{◌≡◌, ◌≢◌, ⊎_elim, ℕ, ◌+◌, ◌<◌, ◌≤◌, ◌^◌, List, [], refl, sym, ap, subst, ◌∙◌, arith}
 use Rattle.std.specs.Prelude.{length, slice_index_or}
 use Rattle.std.proofs.lemmas.List.FromFn.{get_or-map-range_with_len}
+use Rattle.plain_state.specs.declared.slot.SlotId.{SlotId}
+use Rattle.plain_state.specs.Lists.{times}
 use Rattle.core_events.specs.declared.shape.Quota.{Quota}
 use Rattle.core_events.specs.declared.shape.Shape.{Shape}
 use Rattle.core_events.specs.declared.view.CoreView.{CoreView}
@@ -46,6 +48,10 @@ use Rattle.lane_files.specs.Lanes.{HasGrants}
 use Rattle.lane_domain.specs.Opened.{FindsNoSlot, HasOnlyLaid, IsDomainFor, IsDomainForSome, fresh_seat, root_quota, shape_for, terms_for}
 use Rattle.lane_domain.specs.Sizes.{interns_of}
 use Rattle.lane_domain.proofs.Shapes.{in_shape}
+
+pub times_none : (x : SlotId) → times x [] ≡ 0
+unfolding times
+times_none x = refl
 
 -- who draws a ticket has an intern for each piece of its file
 pub grants_there : (work : Work) (lanes slots : ℕ) (d : DomainState WordsLaw)
@@ -149,7 +155,7 @@ module _ (d : DomainState WordsLaw) (is : IsDomainForSome d) where
         → HasOnlyLaid root
     only_laid deeds = record {
       number = ap (λ (v : CoreView). v.seat) leaves.same;
-      owned = λ x. leaves.owns x;
+      owned = λ x. leaves.owns x ∙ times_none x;
       weaks = ap (λ (v : CoreView). v.weaks) leaves.same;
       notes = ap (λ (v : CoreView). v.notes) leaves.same;
       tickets = ap (λ (v : CoreView). v.tickets) leaves.same;

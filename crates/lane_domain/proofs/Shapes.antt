@@ -6,15 +6,18 @@ use Rattle.std.proofs.lemmas.List.Elements.{All-cons, All-replicate}
 use Rattle.std.proofs.lemmas.List.Folds.{sum_by-replicate}
 use Rattle.std.proofs.lemmas.List.Sums.{sum_by-cons}
 use Rattle.core_events.specs.declared.shape.Quota.{Quota}
+use Rattle.core_events.specs.declared.shape.Shape.{Shape}
 use Rattle.core_events.specs.declared.shape.ShapeField.{ShapeField}
 use Rattle.core_events.specs.declared.shape.ShapeField.TheVariants.{Seats, Slots, Cells, WeakCells, Batch, Quotas}
 use Rattle.core_events.specs.Runs.{AreTerms, IsQuota, IsShape}
 use Rattle.core_functions.specs.Fields.{IsFirstBad, IsInRange}
+use Rattle.acquire_retire.specs.Domains.{DomainState}
+use Rattle.words_protocol.specs.declared.law.WordsLaw.{WordsLaw}
 use Rattle.claim_law.specs.Claims.{makes_given}
 use Rattle.words_law.specs.Fold.{File}
 use Rattle.lane_files.specs.declared.work.Work.{Work}
 use Rattle.lane_files.specs.Work.{all_tickets}
-use Rattle.lane_domain.specs.Opened.{cells_for, lane_quota, root_quota, shape_for, terms_for}
+use Rattle.lane_domain.specs.Opened.{IsDomainFor, cells_for, lane_quota, root_quota, shape_for, terms_for}
 use Rattle.lane_domain.specs.Sizes.{IsWithinLimits, all_parts, all_pieces, by_ticket, interns_of, makes_of, most_slots, slots_of_words, texts_in}
 use Rattle.lane_domain.proofs.Sums.{is_sum, of_rounds, sum_of_both}
 
@@ -68,3 +71,26 @@ module _ (work : Work) (within : IsWithinLimits work) (lanes slots : ℕ) (few :
   pub none_bad : (f : ShapeField)
       → IsFirstBad (shape_for work lanes slots) (terms_for work lanes) f → ⊥
   none_bad f bad = bad.1 (in_range f)
+
+  pub none_bad_by : (cells : ℕ) (quotas : List Quota) (grants : List ℕ) → cells ≡ cells_for work
+      → quotas ≡ root_quota ∷ replicate lanes lane_quota → grants ≡ by_ticket (makes_of work) work
+      → (f : ShapeField)
+      → IsFirstBad (record (shape_for work lanes slots) { weak_cells = cells })
+      (record { quotas = quotas; grants = grants }) f → ⊥
+  none_bad_by cells quotas grants weak all granted f bad =
+      none_bad f
+      (subst (λ gs. IsFirstBad (shape_for work lanes slots)
+      (record { quotas = root_quota ∷ replicate lanes lane_quota; grants = gs }) f) granted
+      (subst (λ qs. IsFirstBad (shape_for work lanes slots)
+      (record { quotas = qs; grants = grants }) f) all
+      (subst (λ n. IsFirstBad (record (shape_for work lanes slots) { weak_cells = n })
+      (record { quotas = quotas; grants = grants }) f) weak bad)))
+
+-- a domain with fewer slots than makes
+pub few_slots_in : (work : Work) (lanes slots : ℕ) (d : DomainState WordsLaw)
+    → IsDomainFor work lanes slots d → d.shape.slots < makes_given d.terms
+    → slots < work.rounds * (all_pieces work + all_parts work) + 2
+few_slots_in work lanes slots d is few =
+    let shape = ap (λ (z : Shape). z.slots) is.shape in let terms = ap makes_given is.terms in
+    let all = makes_are work lanes in
+    omega arith
