@@ -48,7 +48,13 @@ module _ (work : Work) (within : IsWithinLimits work) (lanes slots : ℕ) (few :
     (some' : 1 ≤ slots) (most : slots ≤ most_slots) where
   pub in_shape : IsShape (shape_for work lanes slots)
   in_shape = let i = within.interns in (
-    omega arith, omega arith, omega arith, omega arith, omega arith, omega arith, omega arith,
+    omega arith,
+    omega arith,
+    omega arith,
+    omega arith,
+    omega arith,
+    omega arith,
+    omega arith,
     omega arith,
   )
 

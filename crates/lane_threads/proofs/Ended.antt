@@ -1,6 +1,6 @@
 -- What a lane leaves of its seat, whether it ran to its end or stopped.
 use Rattle.std.proofs.Common.{◌≡◌, ℕ, List, [], sym, ap, ◌∙◌}
-use Rattle.std.specs.Prelude.{Result, Ok, Err}
+use Rattle.std.specs.Prelude.{IfErr, OnOk, Result, Ok, Err}
 use Rattle.core_events.specs.declared.view.CoreView.{CoreView}
 use Rattle.acquire_retire.specs.Domains.{DomainState}
 use Rattle.acquire_retire.specs.Seats.{SeatState}
@@ -37,3 +37,10 @@ module _ (fits : List ℕ → Type 0) (d : DomainState WordsLaw) where
     runs_beside (Ok done) old new before after runs = runs.counts.owns.same
     runs_beside (Err stop) old new before after stops =
         why_beside stop stops.last new stops.lane after stops.why ∙ stops.counts.owns.same
+
+    pub runs_by : {T : Type 0} (end : Result T LaneStop) (old new : SeatState View)
+        (before after : Lane) → OnOk end (RunsLane work old new before after)
+        → IfErr end (λ stop. StopsLane fits d work stop old new before after)
+        → RunsOrStops fits d work end old new before after
+    runs_by (Ok done) old new before after runs stops = runs
+    runs_by (Err stop) old new before after runs stops = stops

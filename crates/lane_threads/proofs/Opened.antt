@@ -6,18 +6,19 @@ use Rattle.acquire_retire.specs.Domains.{DomainState}
 use Rattle.acquire_retire.specs.Seats.{SeatState}
 use Rattle.words_law.specs.Views.{View}
 use Rattle.words_protocol.specs.declared.law.WordsLaw.{WordsLaw}
-use Rattle.word_lanes.specs.Ready.{IsReady, Shared}
+use Rattle.word_lanes.specs.declared.shared.Shared.{Shared}
+use Rattle.word_lanes.specs.Ready.{IsReady}
 use Rattle.lane_files.specs.declared.work.Work.{Work}
 use Rattle.lane_domain.specs.Opened.{IsDomainFor, IsDomainForSome, fresh_lanes, fresh_seat}
 use Rattle.lane_domain.specs.Sizes.{IsWithinLimits, most_slots}
-use Rattle.lane_domain.proofs.Laid.{no_intern, rests, seats_there}
+use Rattle.lane_domain.proofs.Laid.{no_intern, rests, seats_there, times_none}
 use Rattle.lane_threads.specs.Beginning.{CanBegin, HasDoneNothing}
 
 module _ (d : DomainState WordsLaw) (is : IsDomainForSome d) (on : Shared) (root : SeatState View)
     (ready : IsReady d on root) where
   nothing : (n : ℕ) → HasDoneNothing (fresh_seat d n)
   nothing n = record {
-    owned = λ x. refl;
+    owned = times_none;
     weaks = refl;
     notes = refl;
     tickets = refl;

@@ -16,7 +16,7 @@ use Rattle.linked_queue.specs.Queues.{IsQueueOf}
 use Rattle.linked_queue.specs.Waits.{AttachesAtLast}
 use Rattle.words_law.specs.Views.{View}
 use Rattle.words_protocol.specs.declared.law.WordsLaw.{WordsLaw}
-use Rattle.word_lanes.specs.Ready.{Shared}
+use Rattle.word_lanes.specs.declared.shared.Shared.{Shared}
 use Rattle.word_lanes.specs.Whys.{of_queue, queue_of}
 use Rattle.lane_files.specs.declared.lane.Lane.{Lane}
 
@@ -53,8 +53,8 @@ pub record Attaches (fits : List ℕ → Type 0) (d : DomainState WordsLaw) (sea
   pub nothing : HasDoneNothing begun
 
 -- a lane of this number that has counted nothing and keeps nothing
-pub record IsNewLane (number : ℕ) (lane : Lane) : Type 0 where
-  pub number : lane.number ≡ number
+pub record IsNewLane (n : ℕ) (lane : Lane) : Type 0 where
+  pub number : lane.number ≡ n
   pub turn : lane.turn ≡ 0
   pub counts : (w : List ℕ) → count_of lane.tally w ≡ 0
   pub total : total_of lane.tally ≡ 0

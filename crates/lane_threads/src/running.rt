@@ -79,13 +79,10 @@ pub fn run_lanes<R: Threads + Wait + Sync, G: Gate + Sync, F: Fn(&[u64; 16]) -> 
         seats.items ends.items) }
 {
     let jobs = list_jobs(alloc, seats)?;
-    let run = |job: Job| -> LaneEnd
-        requires { CanBegin domain.now shared.now job.seat
-            × Weighs ⟦<PairKind<NodeKind, RecordKind> as PayloadKind>⟧.fits
-            ⟦<PairKind<NodeKind, RecordKind> as PayloadKind>⟧.weight F.Fn weigh.now
-            × IsWork work.now × HasGrants domain.now work.now }
-        ensures { EndsLane ⟦<PairKind<NodeKind, RecordKind> as PayloadKind>⟧.fits domain.entry.now
-            shared.entry.now work.entry.now job.number job.seat result }
-    { run_one(rt, alloc, domain, job, shared, gate, weigh, work) };
-    Ok(thread::map_vec(rt, jobs, &run)?)
+    let ends = thread::map_vec(
+        rt,
+        jobs,
+        &|job| run_one(rt, alloc, domain, job, shared, gate, weigh, work),
+    )?;
+    Ok(ends)
 }

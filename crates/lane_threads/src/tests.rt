@@ -1,4 +1,4 @@
-ghost use Rattle.std.specs.Prelude.{◌≡◌, ◌≤◌, ◌^◌, ◌<◌, All, IfOk, length};
+ghost use Rattle.std.specs.Prelude.{◌≡◌, ◌≤◌, ◌^◌, ◌<◌, All, IfOk, IfSome, length};
 ghost use Rattle.word_lanes.specs.Ready.{IsReady};
 ghost use Rattle.lane_files.specs.Files.{HasPieces, pieces_in};
 ghost use Rattle.lane_files.specs.Lanes.{HasGrants};
@@ -18,14 +18,12 @@ use std::alloc::Global;
 use std::test::Fail;
 
 /// A file of at most two pieces.
-fn file(alloc: Global, text: &[u8]) -> Result<FileText, Fail>
-    ensures lies { IfOk result HasPieces }
-    ensures few { IfOk result (λ file. length (pieces_in file) ≤ 2) }
+fn cut(alloc: Global, text: &[u8]) -> Option<FileText>
+    ensures lies { IfSome result HasPieces }
+    ensures few { IfSome result (λ file. length (pieces_in file) ≤ 2) }
 {
-    match FileText::cut(alloc, Vec::from_slice(alloc, text)?, 2) {
-        Ok(file) => Ok(file),
-        Err(_) => Err(Fail),
-    }
+    let bytes = Vec::from_slice(alloc, text).ok()?;
+    FileText::cut(alloc, bytes, 2).ok()
 }
 
 /// One round over two files of at most two pieces.
@@ -41,20 +39,17 @@ fn one_round(alloc: Global, first: FileText, second: FileText) -> Result<Work, F
 }
 
 /// A domain for two lanes over the work, if it is within limits.
-fn open(alloc: Global, work: &Work) -> Result<Opened, Fail>
+fn open(alloc: Global, work: &Work) -> Option<Opened>
     requires work { IsWork work.now }
-    ensures seats { IfOk result (λ opened.
+    ensures seats { IfSome result (λ opened.
         All (CanBegin opened.domain opened.shared) opened.seats.items) }
-    ensures few { IfOk result (λ opened. length opened.seats.items < 2 ^ 32) }
-    ensures grants { IfOk result (λ opened. HasGrants opened.domain work.now) }
+    ensures few { IfSome result (λ opened. length opened.seats.items < 2 ^ 32) }
+    ensures grants { IfSome result (λ opened. HasGrants opened.domain work.now) }
 {
     if !is_within_limits(work) {
-        return Err(Fail);
+        return None;
     }
-    match open_lanes(alloc, work, 2, 64) {
-        Ok(opened) => Ok(opened),
-        Err(_) => Err(Fail),
-    }
+    open_lanes(alloc, work, 2, 64).ok()
 }
 
 /// How many references a lane keeps, and how many pieces it counted; nothing where it stopped.
@@ -73,15 +68,21 @@ fn kept_and_counted(end: &LaneEnd) -> Option<(usize, u64)> {
 
 #[test]
 fn two_lanes_keep_three_references(rt: HostRuntime) -> Result<(), Fail> {
-    let first = file(rt.alloc(), b"b a")?;
-    let second = file(rt.alloc(), b"a a")?;
+    let (Some(first), Some(second)) = (cut(rt.alloc(), b"b a"), cut(rt.alloc(), b"a a")) else {
+        panic!(rt; "two pieces each")
+    };
     let work = one_round(rt.alloc(), first, second)?;
-    let Opened {
-        domain,
-        root: _root,
-        seats,
-        shared,
-    } = open(rt.alloc(), &work)?;
+    let Some(
+        Opened {
+            domain,
+            root: _root,
+            seats,
+            shared,
+        },
+    ) = open(rt.alloc(), &work)
+    else {
+        panic!(rt; "a domain")
+    };
     let weigh: Deleter<PairKind<NodeKind, RecordKind>, _> = Deleter::keep(|payload: &[u64; 16]| {
         <PairKind<NodeKind, RecordKind> as PayloadKind>::weigh(payload)
     });

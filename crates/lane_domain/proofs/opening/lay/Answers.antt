@@ -17,9 +17,10 @@ pub returns-clause-ready : goal.returns-clause-ready
 returns-clause-ready c =
     laid_ready c.args.domain.now c.requires.domain c.args.root.now c.lay.new.seat c.requires.root
     c.lay.ensures.beside c.lay.ensures.leaves _ c.lay.ensures.rest c.lay.ensures.room
-    c.in_ok-queue.ensures.attached c.in_ok-queue.ensures.queue
-    (c.over.ensures.over.0,
-    c.over.ensures.over.1 ∙ ap (λ (z : Shape). z.weak_cells) c.shape.ensures)
+    c.in_ok-queue.ensures.attached c.in_ok-queue.ensures.queue (
+      c.over.ensures.over.0,
+      c.over.ensures.over.1 ∙ ap (λ (z : Shape). z.weak_cells) c.shape.ensures,
+    )
 
 pub returns-clause-laid : goal.returns-clause-laid
 returns-clause-laid c =
