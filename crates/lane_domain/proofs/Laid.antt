@@ -1,0 +1,217 @@
+-- Seat 0 of a domain that was just opened lays the queue.
+use Rattle.std.proofs.Common.{◌≡◌, ◌≢◌, ⊎_elim, ℕ, ◌+◌, ◌<◌, ◌≤◌, ◌^◌, List, [], refl, sym, ap, subst, ◌∙◌, arith}
+use Rattle.std.specs.Prelude.{length, slice_index_or}
+use Rattle.std.proofs.lemmas.List.FromFn.{get_or-map-range_with_len}
+use Rattle.plain_state.specs.declared.slot.SlotId.{SlotId}
+use Rattle.plain_state.specs.Lists.{times}
+use Rattle.core_events.specs.declared.shape.Quota.{Quota}
+use Rattle.core_events.specs.declared.shape.Shape.{Shape}
+use Rattle.core_events.specs.declared.view.CoreView.{CoreView}
+use Rattle.core_events.specs.Runs.{IsShape}
+use Rattle.core_events.specs.Steps.{HasMake, HasRoom}
+use Rattle.core_events.specs.Views.{Terms, granted}
+use Rattle.core_invariant.proofs.Each.{get_each, length_each}
+use Rattle.domain_rule.specs.Views.{quota_at}
+use Rattle.acquire_retire.specs.Domains.{DomainState}
+use Rattle.acquire_retire.specs.Openings.{begun_seat, opened_seats}
+use Rattle.acquire_retire.specs.Seats.{SeatState}
+use Rattle.control_word.proofs.Beginning.{all_at_rest}
+use Rattle.control_word.specs.Resting.{IsAtRest, IsSpent}
+use Rattle.claim_law.specs.Claims.{makes_given}
+use Rattle.slot_store.specs.Calls.{HasNoMake}
+use Rattle.slot_store.specs.declared.making.MakeError.{MakeError}
+use Rattle.slot_store.specs.declared.making.MakeError.TheVariants as unmade
+use Rattle.slot_store.proofs.Exhausting.{more_makes}
+use Rattle.part_calls.specs.Parts.{StaysBeside, as_part}
+use Rattle.queue_law.specs.declared.view.Form.{Form}
+use Rattle.queue_law.specs.declared.view.View.{View as QueueView}
+use Rattle.queue_law.specs.Views.{view_of}
+use Rattle.directory_law.specs.declared.view.GivenTo.{GivenTo}
+use Rattle.directory_law.specs.Cells.{seat_interns, ticket_interns}
+use Rattle.directory_law.specs.Views as directory
+use Rattle.directory_calls.specs.declared.directory.Directory.{Directory}
+use Rattle.text_reading.specs.Reading.{HasTwoFree}
+use Rattle.linked_queue.specs.declared.queue.LinkedQueue.{LinkedQueue}
+use Rattle.linked_queue.specs.Leaving.{Leaves}
+use Rattle.linked_queue.specs.Nodes.{IsWhyUnlaid, laid_in}
+use Rattle.linked_queue.specs.Queues.{CanLay, IsAttached, IsQueueOf, deeds_in}
+use Rattle.words_law.specs.Owned.{first_view}
+use Rattle.words_law.specs.Views.{View}
+use Rattle.words_protocol.specs.Sides.{area_of, ends_of}
+use Rattle.words_protocol.specs.declared.law.WordsLaw.{WordsLaw}
+use Rattle.word_lanes.specs.declared.shared.Shared.{Shared}
+use Rattle.word_lanes.specs.Ready.{IsReady}
+use Rattle.word_lanes.specs.Whys.{of_queue, queue_of}
+use Rattle.word_lanes.proofs.Kept.{free_still, owns_queue}
+use Rattle.lane_files.specs.declared.work.Work.{Work}
+use Rattle.lane_files.specs.Lanes.{HasGrants}
+use Rattle.lane_domain.specs.Opened.{FindsNoSlot, HasOnlyLaid, IsDomainFor, IsDomainForSome, fresh_seat, root_quota, shape_for, terms_for}
+use Rattle.lane_domain.specs.Sizes.{interns_of}
+use Rattle.lane_domain.proofs.Shapes.{in_shape}
+
+pub times_none : (x : SlotId) → times x [] ≡ 0
+unfolding times
+times_none x = refl
+
+-- who draws a ticket has an intern for each piece of its file
+pub grants_there : (work : Work) (lanes slots : ℕ) (d : DomainState WordsLaw)
+    → IsDomainFor work lanes slots d → HasGrants d work
+grants_there work lanes slots d is ticket less =
+    let law = d.protocol.pair.right in
+    let to = ap (λ (to : GivenTo). slice_index_or (ticket_interns law.interns.items to) ticket 0)
+    is.directory.to in
+    let interns = ap (λ (ns : List ℕ). slice_index_or ns ticket 0) is.directory.interns in
+    let at = get_or-map-range_with_len (interns_of work) 0 _ ticket ticket 0 less (omega arith) in
+    omega (arith, to, interns, at)
+
+module _ (d : DomainState WordsLaw) (is : IsDomainForSome d) where
+  abbrev first : ℕ → View
+  first = first_view (ends_of d.protocol.pair.left) (area_of d.protocol.pair.right)
+
+  pub shape_there : IsShape d.shape
+  shape_there = subst IsShape (sym is.is.shape)
+      (in_shape is.work is.within is.lanes is.slots is.few.0 is.few.1 is.few.2)
+
+  pub seats_there : d.shape.seats ≡ is.lanes + 1
+  seats_there = ap (λ (z : Shape). z.seats) is.is.shape
+
+  pub rests : (n : ℕ) → n < d.shape.seats
+      → IsAtRest d (fresh_seat d n) × HasRoom (fresh_seat d n).view.core
+  rests n less =
+      let count = length_each 0 d.shape.seats (begun_seat first d) in
+      let e : 0 + n ≡ n = omega arith in
+      subst (λ (s : SeatState View). IsAtRest d s × HasRoom s.view.core)
+      (get_each 0 d.shape.seats n (fresh_seat d) (fresh_seat d n) less ∙ ap (fresh_seat d) e)
+      (all_at_rest first d shape_there n (fresh_seat d n) (omega (arith, count, less)))
+
+  pub queue_there : IsQueueOf 0 1 (queue_of d)
+  queue_there = let cells = ap (λ (z : Shape). z.cells) is.is.shape in record {
+    form = is.is.queue.form;
+    head = is.is.queue.head;
+    tail = is.is.queue.tail;
+    head_there = omega arith;
+    tail_there = omega arith;
+  }
+
+  pub two_free : (n : ℕ) → HasTwoFree (fresh_seat d n).view.core
+  two_free n = (1, 2, omega arith, omega arith, omega arith, refl, refl)
+
+  pub root_lays : CanLay (fresh_seat d 0).view.client.0
+  root_lays = record { root = refl; here = refl; unlaid = refl }
+
+  cells_there : d.protocol.pair.right.cells ≡ d.shape.weak_cells
+  cells_there = is.is.directory.cells ∙ sym (ap (λ (z : Shape). z.weak_cells) is.is.shape)
+
+  some_cells : 0 < d.shape.weak_cells
+  some_cells = let cells = ap (λ (z : Shape). z.weak_cells) is.is.shape in omega arith
+
+  pub no_intern : (n : ℕ) → directory.gone
+      ≡ (fresh_seat d n).view.client.1
+  no_intern n =
+      ap (λ (to : GivenTo). record directory.gone {
+        quota = slice_index_or (seat_interns d.protocol.pair.right.interns.items to) n 0;
+      }) (sym is.is.directory.to)
+
+  module _ (old root : SeatState View) (was : old ≡ fresh_seat d 0)
+      (stays : StaysBeside (λ (v : View). v.0) (λ (v : View) w. (w, v.1)) old root)
+      (left : Leaves old.view.core.owned (of_queue old) (of_queue root)) where
+    beside : StaysBeside (λ (v : View). v.0) (λ (v : View) w. (w, v.1)) (fresh_seat d 0) root
+    beside = subst (λ (s : SeatState View).
+        StaysBeside (λ (v : View). v.0) (λ (v : View) w. (w, v.1)) s root) was stays
+
+    leaves : Leaves [] (of_queue (fresh_seat d 0)) (of_queue root)
+    leaves = subst (λ (s : SeatState View). Leaves s.view.core.owned (of_queue s) (of_queue root))
+        was left
+
+    pub laid_ready : (on : Shared) → IsAtRest d root → HasRoom root.view.core → IsAttached root.view.client.0
+        → (on.queue.head ≡ 0) × (on.queue.tail ≡ 1)
+        → (on.directory.first ≡ 0) × (on.directory.cells ≡ d.shape.weak_cells)
+        → IsReady d on root
+    laid_ready on rest room attached ends cells =
+        let used = ap (λ (v : View). v.1.used) beside in
+        let quota = ap (λ (v : View). v.1.quota) beside in
+        let at = queue_there in let law = cells_there in let more = some_cells in record {
+          rest = rest;
+          room = room;
+          queue = record {
+            form = at.form;
+            head = at.head ∙ sym ends.0;
+            tail = at.tail ∙ sym ends.1;
+            head_there = let h = at.head_there in omega (arith, ends.0, h);
+            tail_there = let t = at.tail_there in omega (arith, ends.1, t);
+          };
+          over = record {
+            first = cells.0 ∙ sym is.is.directory.first;
+            cells = cells.1 ∙ sym law;
+            some_cells = omega (arith, cells.1, more);
+            there = omega (arith, cells.0, cells.1);
+          };
+          attached = attached;
+          quota = omega (arith, used, quota);
+          free = free_still (fresh_seat d 0) root (owns_queue (fresh_seat d 0) root leaves) (two_free 0);
+        }
+
+    pub only_laid : deeds_in root.view.client.0 ≡ laid_in (deeds_in old.view.client.0)
+        → HasOnlyLaid root
+    only_laid deeds = record {
+      number = ap (λ (v : CoreView). v.seat) leaves.same;
+      owned = λ x. leaves.owns x ∙ times_none x;
+      weaks = ap (λ (v : CoreView). v.weaks) leaves.same;
+      notes = ap (λ (v : CoreView). v.notes) leaves.same;
+      tickets = ap (λ (v : CoreView). v.tickets) leaves.same;
+      left_seats = ap (λ (v : CoreView). v.left_seats) leaves.same;
+      queue = deeds ∙ ap (λ (s : SeatState View). laid_in (deeds_in s.view.client.0)) was
+          ∙ ap (λ (form : Form). laid_in (deeds_in (view_of form 0))) is.is.queue.form;
+      directory = ap (λ (v : View). v.1) beside ∙ sym (no_intern 0);
+    }
+
+  -- WHY NOTHING IS LAID
+  quota_there : quota_at d.terms.quotas 0 ≡ root_quota
+  quota_there = ap (λ (ts : Terms). quota_at ts.quotas 0) is.is.terms
+
+  has_make : HasMake (fresh_seat d 0).view.core
+  has_make = let q = ap (λ (q : Quota). q.makes) quota_there in omega arith
+
+  no_make_left : HasNoMake (fresh_seat d 0).view.core → ⊥
+  no_make_left none = let m = has_make in omega arith
+
+  few_adds : (quota_at d.terms.quotas 0).adds ≤ 1 → ⊥
+  few_adds few = let q = ap (λ (q : Quota). q.adds) quota_there in omega arith
+
+  module _ (fits : List ℕ → Type 0) (root : SeatState View) where
+    pub missed : (error : MakeError)
+        → IsWhyUnlaid fits (queue_of d) error (of_queue (fresh_seat d 0)) (of_queue root)
+        → FindsNoSlot fits d root
+    missed unmade.MakesSpent why = ⊎_elim
+        (λ none. absurd (no_make_left none.0))
+        (λ given. absurd (few_adds (let f = given.1 in omega arith)))
+        why
+    missed unmade.AddsSpent why = ⊎_elim
+        (λ none. absurd (few_adds (let f = none.0 in omega arith)))
+        (λ given. absurd (few_adds (let f = given.1 in omega arith)))
+        why
+    missed unmade.Full why = ⊎_elim
+        (λ misses. misses)
+        (λ given. absurd (few_adds (let f = given.1 in omega arith)))
+        why
+
+    pub few_slots : FindsNoSlot fits d root → d.shape.slots < makes_given d.terms
+    few_slots finds =
+        let some' = shape_there.2 in let seats = seats_there in
+        let rest = (rests 0 (omega arith)).0 in
+        more_makes (queue_of d) (of_queue (fresh_seat d 0)) (of_queue root) (omega arith)
+        (record {
+          of_domain = rest.of_domain;
+          idle = rest.idle;
+          owes_nothing = rest.owes_nothing;
+          first = rest.first;
+          others = rest.others;
+        })
+        has_make finds
+
+    pub few_slots_by : (old : SeatState View) (error : MakeError) → old ≡ fresh_seat d 0
+        → IsWhyUnlaid fits (queue_of d) error (of_queue old) (of_queue root)
+        → d.shape.slots < makes_given d.terms
+    few_slots_by old error was why =
+        few_slots (missed error (subst (λ (s : SeatState View).
+        IsWhyUnlaid fits (queue_of d) error (of_queue s) (of_queue root)) was why))

@@ -1,0 +1,4 @@
+pub mod Sums
+pub mod Limits
+pub mod Shapes
+pub mod Laid

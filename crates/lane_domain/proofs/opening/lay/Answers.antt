@@ -1,0 +1,28 @@
+use Rattle.std.proofs.Common.{◌<◌, OnErr, ap, subst, sym, ◌∙◌}
+use Rattle.std.proofs.lemmas.Result.{err_from_is_err_and}
+use Rattle.core_events.specs.declared.shape.Shape.{Shape}
+use Rattle.claim_law.specs.Claims.{makes_given}
+use Rattle.lane_domain.proofs.Laid.{few_slots_by, laid_ready, only_laid}
+use Rattle.lane_domain.proofs.opening.lay.Goals as goal
+
+pub returns-in_err-queue-clause-slots : goal.returns-in_err-queue-clause-slots
+returns-in_err-queue-clause-slots c =
+    let d = c.args.domain.now in
+    let p = err_from_is_err_and c.from_residual.result c.from_residual.ensures.1 in
+    subst (λ r. OnErr r (d.shape.slots < makes_given d.terms)) (sym p.1)
+    (few_slots_by d c.requires.domain _ c.lay.new.seat c.args.root.now
+    c.in_err-queue.field-0.0 c.requires.root c.in_err-queue.ensures.why)
+
+pub returns-clause-ready : goal.returns-clause-ready
+returns-clause-ready c =
+    laid_ready c.args.domain.now c.requires.domain c.args.root.now c.lay.new.seat c.requires.root
+    c.lay.ensures.beside c.lay.ensures.leaves _ c.lay.ensures.rest c.lay.ensures.room
+    c.in_ok-queue.ensures.attached c.in_ok-queue.ensures.queue (
+      c.over.ensures.over.0,
+      c.over.ensures.over.1 ∙ ap (λ (z : Shape). z.weak_cells) c.shape.ensures,
+    )
+
+pub returns-clause-laid : goal.returns-clause-laid
+returns-clause-laid c =
+    only_laid c.args.domain.now c.requires.domain c.args.root.now c.lay.new.seat c.requires.root
+    c.lay.ensures.beside c.lay.ensures.leaves c.in_ok-queue.ensures.laid

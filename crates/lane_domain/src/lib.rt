@@ -1,0 +1,25 @@
+//! A domain for lanes that count the words of some files: its queue and its directory, with a seat for each lane, and as
+//! many cells and makes as the files need.
+//!
+//! The rule that is kept is the law of `words_law`, between any two steps of all seats. Here stands what the domain is
+//! opened with: each ticket of a file grants an intern for each piece, and a make for each slot that the piece may take.
+//!
+//! It isn't promised that there is memory, nor, where there are fewer slots than makes, that the queue is laid.
+//!
+//! ```text
+//! if is_within_limits(&work) {
+//!     let Opened { domain, root, seats, shared } = open_lanes(alloc, &work, 2, 4096)?;    // two lanes
+//! }
+//! ```
+#![tactic(auto)]
+
+mod opened;
+mod opening;
+mod sizes;
+#[cfg(test)]
+mod tests;
+mod tickets;
+
+pub use opened::{OpenLanesError, Opened, Unlaid};
+pub use opening::open_lanes;
+pub use sizes::{count_parts, count_pieces, count_slots, is_within_limits};

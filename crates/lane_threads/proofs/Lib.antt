@@ -1,0 +1,5 @@
+pub mod Opened
+pub mod Begun
+pub mod Ended
+pub mod Listed
+pub mod Threads

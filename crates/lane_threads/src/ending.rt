@@ -1,0 +1,13 @@
+//! How a lane ends.
+use acquire_retire::Seat;
+use lane_files::{Lane, LaneStop};
+use words_protocol::WordsLaw;
+
+/// A lane that has ended, with its seat.
+#[derive(Drop)]
+pub struct LaneEnd {
+    pub seat: Seat<WordsLaw>,
+    pub lane: Lane,
+    /// Why it stopped, if it stopped before no ticket was left.
+    pub end: Result<(), LaneStop>,
+}
