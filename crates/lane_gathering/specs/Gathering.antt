@@ -117,15 +117,23 @@ pub record StaysBeside (done : List Done) (old new : SeatState View) : Type 0 wh
       new.view.left_makes
       ≡ old.view.left_makes + sum_by (λ (one : Done). one.seat.view.core.makes) done
 
+-- how often each word was counted
+abbrev pub Tally : Type 0
+Tally = List (List ℕ × ℕ)
+
 -- Seat 0 has taken over what the lanes had: their tickets, the items that they pushed and popped, and the references
--- that they kept, of whose slots it knows what they knew. The tallies are theirs, in order.
-pub record Gathers (work : Work) (done : List Done) (old new : SeatState View)
-    (gathered : Gathered) : Type 0 where
+-- that they kept, of which its view tells what they knew. The tallies are theirs, in order.
+pub record HasGathered (work : Work) (done : List Done) (old new : SeatState View)
+    (counted : List Tally) (handles : List Handle) : Type 0 where
   pub lanes : List LaneDeeds
-  pub tallies : AreTallies lanes gathered.tallies.items
+  pub tallies : AreTallies lanes counted
   pub drew : DrewTickets work lanes new.view.core.left_seats
   pub items : HasItems work lanes new.view.client
-  pub kept : gathered.kept.items ≡ flat_map kept_by done
+  pub kept : handles ≡ flat_map kept_by done
   pub tells : TellsLanes work lanes done new.view.client.1
-  pub owns : OwnsJust (slots_of gathered.kept.items) new
+  pub owns : OwnsJust (slots_of handles) new
   pub beside : StaysBeside done old new
+
+abbrev pub Gathers : Work → List Done → SeatState View → SeatState View → Gathered → Type 0
+Gathers work done old new gathered =
+    HasGathered work done old new gathered.tallies.items gathered.kept.items

@@ -17,7 +17,11 @@
 mod done;
 mod gathering;
 mod laws;
+mod shutting;
+mod taking;
 
 pub use done::{Done, Gathered};
-
+pub use gathering::gather;
 pub use laws::runs_tell_deeds;
+pub use shutting::shut_and_settle;
+pub use taking::take_all;
