@@ -1,12 +1,11 @@
 -- One seat leaves, and seat 0 takes over what its lane did.
-use Rattle.std.proofs.Common.{◌≡◌, ℕ, ◌+◌, ◌<◌, ◌≤◌, List, [], ◌∷◌, ◌++◌, refl, sym, ap, subst, ◌∙◌, arith}
+use Rattle.std.proofs.Common.{◌≡◌, ℕ, ◌+◌, List, [], ◌∷◌, ◌++◌, refl, sym, ap, subst, ◌∙◌, arith}
 use Rattle.std.specs.Prelude.{length, map}
 use Rattle.std.specs.List.{flat_map, range_with_len, sum_by}
 use Rattle.std.proofs.lemmas.List.{append-nil, length-append, length-map, map-append, map_push}
 use Rattle.std.proofs.lemmas.List.FromFn.{length-range_with_len}
 use Rattle.std.proofs.lemmas.List.Concat.{flat_map-append}
 use Rattle.std.proofs.lemmas.List.Sums.{sum_by-append}
-use Rattle.plain_state.specs.declared.slot.SlotId.{SlotId}
 use Rattle.plain_state.specs.Lists.{times}
 use Rattle.core_events.specs.declared.act.Act.TheVariants as act
 use Rattle.core_events.specs.declared.outcome.Outcome.TheVariants as outcome
@@ -17,7 +16,7 @@ use Rattle.core_events.specs.declared.view.Note.TheVariants as note
 use Rattle.core_events.specs.Runs.{taken_over}
 use Rattle.core_events.specs.Steps.{HasRoom, IsIdle, noted}
 use Rattle.core_events.specs.Views.{note_of, room_of}
-use Rattle.core_invariant.proofs.Kit.{times_append, times_none}
+use Rattle.core_invariant.proofs.Kit.{times_append}
 use Rattle.counted_handles.specs.Handles.{Handle}
 use Rattle.acquire_retire.specs.Domains.{DomainState}
 use Rattle.acquire_retire.specs.Leavings.{TookOver}
@@ -126,8 +125,10 @@ module _ (fits : List ℕ → Type 0) (d : DomainState WordsLaw) (root seat new 
       (did : LaneDid work d n seat lane) where
     rest_after : IsAtRest d new
     rest_after = record {
-      of_domain = (took.table ∙ ready.rest.of_domain.0,
-          ap (λ (v : CoreView). v.shape) core_beside ∙ ready.rest.of_domain.1);
+      of_domain = (
+        took.table ∙ ready.rest.of_domain.0,
+        ap (λ (v : CoreView). v.shape) core_beside ∙ ready.rest.of_domain.1,
+      );
       idle = subst IsIdle (sym core_beside) ready.rest.idle;
       owes_nothing = ap (λ (v : CoreView). v.owed) core_beside ∙ ready.rest.owes_nothing;
       first = subst (λ (v : CoreView). note_of v 0 ≡ note.Idle) (sym core_beside) ready.rest.first;
@@ -215,6 +216,7 @@ module _ (fits : List ℕ → Type 0) (d : DomainState WordsLaw) (root seat new 
             ∙ sym (numbers_push 1 (length lanes))
             ∙ ap (range_with_len 1) (sym (length-append lanes (did.deeds ∷ [])));
       }
+
       listed : (f : LaneDeeds → List Item) (ts us rs : List Taken) → rs ≡ ts ++ us
           → ts ≡ each_by f 1 lanes → us ≡ by_seat n (f did.deeds)
           → rs ≡ each_by f 1 (lanes ++ did.deeds ∷ [])

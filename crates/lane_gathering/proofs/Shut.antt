@@ -1,5 +1,5 @@
 -- A seat that is alone, under no snapshot, and has shut the queue and settled.
-use Rattle.std.proofs.Common.{◌≡◌, ℕ, zero, suc, ◌+◌, ◌<◌, ◌≤◌, List, [], ◌∷◌, refl, sym, ap, subst, ◌∙◌, arith}
+use Rattle.std.proofs.Common.{◌≡◌, ℕ, zero, suc, ◌+◌, ◌≤◌, List, [], ◌∷◌, refl, sym, ap, subst, ◌∙◌, arith}
 use Rattle.std.specs.Prelude.{length, slice_index_or}
 use Rattle.plain_state.specs.declared.slot.Kind.{Kind}
 use Rattle.plain_state.specs.declared.slot.Kind.TheVariants.{Strong, Weak, Disposal}
@@ -23,7 +23,6 @@ use Rattle.slot_store.specs.Reaping.{KnowsBoth}
 use Rattle.slot_store.proofs.Turning.{nothing_in}
 use Rattle.words_law.specs.Views.{View}
 use Rattle.words_protocol.specs.declared.law.WordsLaw.{WordsLaw}
-use Rattle.word_lanes.specs.Ready.{Owns}
 use Rattle.word_lanes.specs.Whys.{of_queue, queue_of}
 use Rattle.word_lanes.proofs.Kept.{owns_on, owns_queue}
 use Rattle.lane_files.proofs.Tidied.{owns_rest}

@@ -1,5 +1,5 @@
 -- A take that is refused, after others.
-use Rattle.std.proofs.Common.{◌≡◌, ℕ, ◌+◌, ◌<◌, ◌≤◌, List, [], arith}
+use Rattle.std.proofs.Common.{ℕ, ◌+◌, ◌<◌, List, [], arith}
 use Rattle.acquire_retire.specs.Seats.{SeatState}
 use Rattle.words_law.specs.Views.{View}
 use Rattle.word_lanes.specs.declared.refusal.LaneError.{LaneError}

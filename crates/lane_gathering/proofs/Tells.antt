@@ -1,7 +1,6 @@
 -- What a seat knows of the records that it keeps, told by views of the directory.
 use Rattle.std.proofs.Common.{◌≡◌, inl, inr, ⊎_elim, ℕ, List, [], ◌∷◌, ◌++◌, refl, arith, length}
 use Rattle.plain_state.specs.declared.slot.SlotId.{SlotId}
-use Rattle.plain_state.specs.Lists.{times}
 use Rattle.acquire_retire.specs.Seats.{SeatState}
 use Rattle.directory_law.specs.declared.view.View.{View as DirectoryView}
 use Rattle.directory_law.specs.Payloads.{Text}
@@ -18,7 +17,7 @@ use Rattle.lane_files.specs.Work.{kept_files}
 use Rattle.lane_gathering.specs.declared.done.Done.{Done}
 use Rattle.lane_gathering.specs.Deeds.{LaneDeeds}
 use Rattle.lane_gathering.specs.Gathering.{TellsLanes, kept_by}
-use Rattle.lane_gathering.specs.Kept.{TellsEach, TellsFiles, TellsRecords, TellsWord, lives_in}
+use Rattle.lane_gathering.specs.Kept.{TellsEach, TellsFiles, TellsRecords, lives_in}
 
 -- BY WHAT A SEAT KNOWS
 tells_text : (s : SlotId) (text : Text) (seat : SeatState View) → Knows texts s text seat
@@ -69,8 +68,11 @@ module _ (v w : DirectoryView) (more : KnowsMore v w) where
   each_more lives [] (s ∷ ss) tells = absurd tells
   each_more lives (x ∷ ws) [] tells = absurd tells
   each_more lives (x ∷ ws) (s ∷ ss) tells = (
-    (tells.0.0, tells.0.1,
-     knows_more v w more (record { slot = s.0; life = lives s; payload = [] }) tells.0.0 tells.0.2),
+    (
+      tells.0.0,
+      tells.0.1,
+      knows_more v w more (record { slot = s.0; life = lives s; payload = [] }) tells.0.0 tells.0.2,
+    ),
     each_more lives ws ss tells.1,
   )
 
