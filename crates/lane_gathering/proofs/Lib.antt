@@ -1,0 +1,6 @@
+pub mod Leaving
+pub mod Lists
+pub mod Shut
+pub mod TakenAll
+pub mod Tells
+pub mod Told

@@ -1,0 +1,21 @@
+-- A take that is refused, after others.
+use Rattle.std.proofs.Common.{ℕ, ◌+◌, ◌<◌, List, [], arith}
+use Rattle.acquire_retire.specs.Seats.{SeatState}
+use Rattle.words_law.specs.Views.{View}
+use Rattle.word_lanes.specs.declared.refusal.LaneError.{LaneError}
+use Rattle.word_lanes.specs.Counting.{Takes}
+use Rattle.word_lanes.specs.Draining.{IsWhyNotDrained}
+use Rattle.word_lanes.proofs.Counted.{takes_more}
+
+pub why_after : (k most : ℕ) (error : LaneError) (a b c : SeatState View)
+    (r s t : List (List ℕ × ℕ)) → Takes [] k a.view.client b.view.client r s → k < most
+    → IsWhyNotDrained 1 error b c s t → IsWhyNotDrained most error a c r t
+why_after k most error a b c r s t first less why = record {
+  taken = k + why.taken;
+  fewer = let f = why.fewer in omega (arith, f, less);
+  last = why.last;
+  tally = why.tally;
+  takes = takes_more k why.taken a.view.client b.view.client why.last.view.client r s why.tally
+      first why.takes;
+  why = why.why;
+}

@@ -1,0 +1,4 @@
+pub mod Deeds
+pub mod Gathering
+pub mod Kept
+pub mod Shutting

@@ -1,0 +1,20 @@
+//! A lane that has run, and what is gathered of all of them.
+use acquire_retire::Seat;
+use cdrc_text::Tally;
+use counted_handles::Strong;
+use lane_files::Lane;
+use words_protocol::WordsLaw;
+
+/// The seat of a lane that has run, and what the lane has beside it.
+#[derive(Drop)]
+pub struct Done {
+    pub seat: Seat<WordsLaw>,
+    pub lane: Lane,
+}
+
+/// What each lane counted, in order, and all references that the lanes kept.
+#[derive(Drop)]
+pub struct Gathered {
+    pub tallies: Vec<Tally>,
+    pub kept: Vec<Strong>,
+}
