@@ -1,10 +1,9 @@
 -- Where a word stands in the words of some tallies.
-use Rattle.std.proofs.Common.{◌≡◌, ℕ, ◌+◌, ◌<◌, ◌⊎◌, inl, inr, Bool, true, false, cond, List, [], ◌∷◌, ◌++◌, refl, sym, ap, subst, ◌∙◌, arith, add-one, get_or, length, take}
+use Rattle.std.proofs.Common.{◌≡◌, ℕ, ◌+◌, ◌<◌, ◌⊎◌, inl, inr, Bool, true, false, cond, List, [], ◌∷◌, ◌++◌, refl, sym, ap, subst, ◌∙◌, arith}
 use Rattle.std.specs.Prelude.{◌↔◌}
 use Rattle.std.proofs.lemmas.Bool.{cases_lt, cond-true, cond-false}
 use Rattle.std.proofs.lemmas.List.Elements.{All-head, All-tail, Contains-append_cases, Contains-append_left, Contains-append_right}
 use Rattle.std.proofs.lemmas.List.Sums.{sum_by_push}
-use Rattle.std.proofs.Math.Seq.{take-suc}
 use Rattle.std.specs.Cmp.Lexicographic.{bytes_decides}
 use Rattle.std.specs.List.{All, Contains}
 use Rattle.std.specs.Map.{keys_of, values_of}
@@ -83,9 +82,3 @@ counted_more front all t before after more so adds w = (there, back)
               Contains-append_right before (keys_of adds.rows) w
               (counts_listed adds.rows w (omega (arith, sum, above, none, adds.lists.counts w)))
         ])
-
--- the first tallies, and one more
-pub one_more : (ts : Tallies) (i : ℕ) (t : List (List ℕ × ℕ)) → i < length ts → get_or ts i t ≡ t
-    → take (i + 1) ts ≡ take i ts ++ t ∷ []
-one_more ts i t below is =
-    ap (λ n. take n ts) (add-one i) ∙ take-suc ts i t below ∙ ap (λ u. take i ts ++ u ∷ []) is

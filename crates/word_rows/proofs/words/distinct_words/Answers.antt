@@ -3,8 +3,9 @@ use Rattle.std.specs.Prelude.{◌↔◌}
 use Rattle.std.proofs.lemmas.List.{take_all}
 use Rattle.std.specs.List.{Contains}
 use Rattle.word_rows.specs.Words.{Tallies, counted_in, texts_of}
-use Rattle.word_rows.proofs.Counted.{counted_more, one_more}
+use Rattle.word_rows.proofs.Counted.{counted_more}
 use Rattle.word_rows.proofs.Distinct.{are_counted}
+use Rattle.word_rows.proofs.Slots.{one_more}
 use Rattle.word_rows.proofs.words.distinct_words.Goals as goal
 
 pub loop-tally-preserved : goal.loop-tally-preserved
