@@ -1,0 +1,5 @@
+pub mod Counted
+pub mod Counting
+pub mod Distinct
+pub mod Finding
+pub mod Slots

@@ -1,0 +1,17 @@
+use Rattle.word_rows.proofs.Counting.{count_root, is_counted}
+use Rattle.word_rows.proofs.holders.count_strong.Goals as goal
+
+pub returns-clause-counted : goal.returns-clause-counted
+returns-clause-counted c =
+    is_counted _ c.args.domain.now c.args.shared.now c.args.slot c.strong_count.result
+    c.args.root.now c.requires.ready (c.alone-alone.ensures.knows c.requires.ready.alone)
+    c.requires.owned c.strong_count.new.seat c.strong_count.ensures.rest
+    c.strong_count.ensures.counted
+
+pub returns-clause-ready : goal.returns-clause-ready
+returns-clause-ready c =
+    count_root _ c.args.domain.now c.args.shared.now c.args.slot c.strong_count.result
+    c.args.root.now c.requires.ready (c.alone-alone.ensures.knows c.requires.ready.alone)
+    c.requires.owned c.strong_count.new.seat c.strong_count.ensures.rest
+    c.strong_count.ensures.counted (c.strong_count.ensures.room c.requires.ready.room)
+    c.strong_count.ensures.objects
