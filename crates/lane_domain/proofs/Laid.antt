@@ -24,6 +24,7 @@ use Rattle.slot_store.specs.declared.making.MakeError.TheVariants as unmade
 use Rattle.slot_store.proofs.Exhausting.{more_makes}
 use Rattle.part_calls.specs.Parts.{StaysBeside, as_part}
 use Rattle.queue_law.specs.declared.view.Form.{Form}
+use Rattle.queue_law.specs.declared.view.Form.TheVariants.{Linked, Double}
 use Rattle.queue_law.specs.declared.view.View.{View as QueueView}
 use Rattle.queue_law.specs.Views.{view_of}
 use Rattle.directory_law.specs.declared.view.GivenTo.{GivenTo}
@@ -31,10 +32,10 @@ use Rattle.directory_law.specs.Cells.{seat_interns, ticket_interns}
 use Rattle.directory_law.specs.Views as directory
 use Rattle.directory_calls.specs.declared.directory.Directory.{Directory}
 use Rattle.text_reading.specs.Reading.{HasTwoFree}
-use Rattle.linked_queue.specs.declared.queue.LinkedQueue.{LinkedQueue}
 use Rattle.linked_queue.specs.Leaving.{Leaves}
 use Rattle.linked_queue.specs.Nodes.{IsWhyUnlaid, laid_in}
-use Rattle.linked_queue.specs.Queues.{CanLay, IsAttached, IsQueueOf, deeds_in}
+use Rattle.linked_queue.specs.Queues.{CanLay, IsAttached, deeds_in}
+use Rattle.hand_queues.specs.Queues.{IsAnyOf, queue_in}
 use Rattle.words_law.specs.Owned.{first_view}
 use Rattle.words_law.specs.Views.{View}
 use Rattle.words_protocol.specs.Sides.{area_of, ends_of}
@@ -45,7 +46,7 @@ use Rattle.word_lanes.specs.Whys.{of_queue, queue_of}
 use Rattle.word_lanes.proofs.Kept.{free_still, owns_queue}
 use Rattle.lane_files.specs.declared.work.Work.{Work}
 use Rattle.lane_files.specs.Lanes.{HasGrants}
-use Rattle.lane_domain.specs.Opened.{FindsNoSlot, HasOnlyLaid, IsDomainFor, IsDomainForSome, fresh_seat, root_quota, shape_for, terms_for}
+use Rattle.lane_domain.specs.Opened.{FindsNoSlot, HasOnlyLaid, IsDomainFor, IsDomainForSome, IsQueueHere, fresh_seat, root_quota, shape_for, terms_for}
 use Rattle.lane_domain.specs.Sizes.{interns_of}
 use Rattle.lane_domain.proofs.Shapes.{in_shape}
 
@@ -54,15 +55,33 @@ unfolding times
 times_none x = refl
 
 -- who draws a ticket has an intern for each piece of its file
-pub grants_there : (work : Work) (lanes slots : ℕ) (d : DomainState WordsLaw)
-    → IsDomainFor work lanes slots d → HasGrants d work
-grants_there work lanes slots d is ticket less =
+pub grants_there : (work : Work) (lanes slots : ℕ) (form : Form) (d : DomainState WordsLaw)
+    → IsDomainFor work lanes slots form d → HasGrants d work
+grants_there work lanes slots form d is ticket less =
     let law = d.protocol.pair.right in
     let to = ap (λ (to : GivenTo). slice_index_or (ticket_interns law.interns.items to) ticket 0)
     is.directory.to in
     let interns = ap (λ (ns : List ℕ). slice_index_or ns ticket 0) is.directory.interns in
     let at = get_or-map-range_with_len (interns_of work) 0 _ ticket ticket 0 less (omega arith) in
     omega (arith, to, interns, at)
+
+-- the law is that of the queue of this form over these two cells
+any_there : (form : Form) (d : DomainState WordsLaw) → IsQueueHere form d.protocol.pair.left
+    → d.shape.cells ≡ 2 → IsAnyOf (queue_in form 0 1) (queue_of d)
+any_there Linked d here cells = record {
+  form = here.form;
+  head = here.head;
+  tail = here.tail;
+  head_there = omega arith;
+  tail_there = omega arith;
+}
+any_there Double d here cells = record {
+  form = here.form;
+  head = here.head;
+  tail = here.tail;
+  head_there = omega arith;
+  tail_there = omega arith;
+}
 
 module _ (d : DomainState WordsLaw) (is : IsDomainForSome d) where
   abbrev first : ℕ → View
@@ -84,20 +103,19 @@ module _ (d : DomainState WordsLaw) (is : IsDomainForSome d) where
       (get_each 0 d.shape.seats n (fresh_seat d) (fresh_seat d n) less ∙ ap (fresh_seat d) e)
       (all_at_rest first d shape_there n (fresh_seat d n) (omega (arith, count, less)))
 
-  pub queue_there : IsQueueOf 0 1 (queue_of d)
-  queue_there = let cells = ap (λ (z : Shape). z.cells) is.is.shape in record {
-    form = is.is.queue.form;
-    head = is.is.queue.head;
-    tail = is.is.queue.tail;
-    head_there = omega arith;
-    tail_there = omega arith;
-  }
+  pub queue_there : IsAnyOf (queue_in is.form 0 1) (queue_of d)
+  queue_there =
+      any_there is.form d is.is.queue (ap (λ (z : Shape). z.cells) is.is.shape)
 
   pub two_free : (n : ℕ) → HasTwoFree (fresh_seat d n).view.core
   two_free n = (1, 2, omega arith, omega arith, omega arith, refl, refl)
 
   pub root_lays : CanLay (fresh_seat d 0).view.client.0
   root_lays = record { root = refl; here = refl; unlaid = refl }
+
+  -- the form that the law has
+  pub same_form : (form : Form) → d.protocol.pair.left.form ≡ form → is.form ≡ form
+  same_form form has = sym is.is.queue.form ∙ has
 
   cells_there : d.protocol.pair.right.cells ≡ d.shape.weak_cells
   cells_there = is.is.directory.cells ∙ sym (ap (λ (z : Shape). z.weak_cells) is.is.shape)
@@ -124,22 +142,16 @@ module _ (d : DomainState WordsLaw) (is : IsDomainForSome d) where
         was left
 
     pub laid_ready : (on : Shared) → IsAtRest d root → HasRoom root.view.core → IsAttached root.view.client.0
-        → (on.queue.head ≡ 0) × (on.queue.tail ≡ 1)
+        → IsAnyOf on.queue (queue_of d)
         → (on.directory.first ≡ 0) × (on.directory.cells ≡ d.shape.weak_cells)
         → IsReady d on root
-    laid_ready on rest room attached ends cells =
+    laid_ready on rest room attached any cells =
         let used = ap (λ (v : View). v.1.used) beside in
         let quota = ap (λ (v : View). v.1.quota) beside in
-        let at = queue_there in let law = cells_there in let more = some_cells in record {
+        let law = cells_there in let more = some_cells in record {
           rest = rest;
           room = room;
-          queue = record {
-            form = at.form;
-            head = at.head ∙ sym ends.0;
-            tail = at.tail ∙ sym ends.1;
-            head_there = let h = at.head_there in omega (arith, ends.0, h);
-            tail_there = let t = at.tail_there in omega (arith, ends.1, t);
-          };
+          queue = any;
           over = record {
             first = cells.0 ∙ sym is.is.directory.first;
             cells = cells.1 ∙ sym law;
@@ -152,7 +164,7 @@ module _ (d : DomainState WordsLaw) (is : IsDomainForSome d) where
         }
 
     pub only_laid : deeds_in root.view.client.0 ≡ laid_in (deeds_in old.view.client.0)
-        → HasOnlyLaid root
+        → HasOnlyLaid is.form root
     only_laid deeds = record {
       number = ap (λ (v : CoreView). v.seat) leaves.same;
       owned = λ x. leaves.owns x ∙ times_none x;

@@ -17,6 +17,7 @@ use Rattle.claim_law.specs.Claims.{makes_given}
 use Rattle.words_law.specs.Fold.{File}
 use Rattle.lane_files.specs.declared.work.Work.{Work}
 use Rattle.lane_files.specs.Work.{all_tickets}
+use Rattle.queue_law.specs.declared.view.Form.{Form}
 use Rattle.lane_domain.specs.Opened.{IsDomainFor, cells_for, lane_quota, root_quota, shape_for, terms_for}
 use Rattle.lane_domain.specs.Sizes.{IsWithinLimits, all_parts, all_pieces, by_ticket, interns_of, makes_of, most_slots, slots_of_words, texts_in}
 use Rattle.lane_domain.proofs.Sums.{is_sum, of_rounds, sum_of_both}
@@ -93,10 +94,10 @@ module _ (work : Work) (within : IsWithinLimits work) (lanes slots : ℕ) (few :
       (record { quotas = quotas; grants = grants }) f) weak bad)))
 
 -- a domain with fewer slots than makes
-pub few_slots_in : (work : Work) (lanes slots : ℕ) (d : DomainState WordsLaw)
-    → IsDomainFor work lanes slots d → d.shape.slots < makes_given d.terms
+pub few_slots_in : (work : Work) (lanes slots : ℕ) (form : Form) (d : DomainState WordsLaw)
+    → IsDomainFor work lanes slots form d → d.shape.slots < makes_given d.terms
     → slots < work.rounds * (all_pieces work + all_parts work) + 2
-few_slots_in work lanes slots d is few =
+few_slots_in work lanes slots form d is few =
     let shape = ap (λ (z : Shape). z.slots) is.shape in let terms = ap makes_given is.terms in
     let all = makes_are work lanes in
     omega arith

@@ -9,7 +9,7 @@ use Rattle.core_events.specs.Words.{each_from}
 use Rattle.acquire_retire.specs.Domains.{DomainState}
 use Rattle.acquire_retire.specs.Openings.{begun_seat}
 use Rattle.acquire_retire.specs.Seats.{SeatState}
-use Rattle.queue_law.specs.declared.view.Form.TheVariants.{Linked}
+use Rattle.queue_law.specs.declared.view.Form.{Form}
 use Rattle.queue_law.specs.Views.{view_of}
 use Rattle.queue_protocol.specs.declared.law.QueueLaw.{QueueLaw}
 use Rattle.directory_law.specs.declared.view.GivenTo.TheVariants.{Tickets}
@@ -54,9 +54,9 @@ terms_for work lanes = record {
   grants = by_ticket (makes_of work) work;
 }
 
--- a linked queue over the strong cells 0 and 1
-pub record IsQueueHere (queue : QueueLaw) : Type 0 where
-  pub form : queue.form ≡ Linked
+-- a queue of this form over the strong cells 0 and 1
+pub record IsQueueHere (form : Form) (queue : QueueLaw) : Type 0 where
+  pub form : queue.form ≡ form
   pub head : queue.head ≡ 0
   pub tail : queue.tail ≡ 1
 
@@ -67,11 +67,12 @@ pub record IsDirectoryFor (work : Work) (n : ℕ) (directory : DirectoryLaw) : T
   pub interns : directory.interns.items ≡ by_ticket (interns_of work) work
   pub to : directory.to ≡ Tickets
 
--- the domain for this work, so many lanes and so many slots
-pub record IsDomainFor (work : Work) (lanes slots : ℕ) (d : DomainState WordsLaw) : Type 0 where
+-- the domain for this work, so many lanes and so many slots, with a queue of this form
+pub record IsDomainFor (work : Work) (lanes slots : ℕ) (form : Form) (d : DomainState WordsLaw)
+    : Type 0 where
   pub shape : d.shape ≡ shape_for work lanes slots
   pub terms : d.terms ≡ terms_for work lanes
-  pub queue : IsQueueHere d.protocol.pair.left
+  pub queue : IsQueueHere form d.protocol.pair.left
   pub directory : IsDirectoryFor work (cells_for work) d.protocol.pair.right
 
 -- a domain for some work
@@ -79,9 +80,10 @@ pub record IsDomainForSome (d : DomainState WordsLaw) : Type 0 where
   pub work : Work
   pub lanes : ℕ
   pub slots : ℕ
+  pub form : Form
   pub few : (lanes ≤ 31) × (1 ≤ slots) × (slots ≤ most_slots)
   pub within : IsWithinLimits work
-  pub is : IsDomainFor work lanes slots d
+  pub is : IsDomainFor work lanes slots form d
 
 -- seat n of the domain, as it was opened
 abbrev pub fresh_seat : DomainState WordsLaw → ℕ → SeatState View
@@ -94,14 +96,14 @@ fresh_lanes d lanes = each_from 1 lanes (fresh_seat d)
 
 -- Seat 0 has laid the queue, and done nothing else: it owns nothing, no other seat has left, and it has read and kept
 -- no text.
-pub record HasOnlyLaid (root : SeatState View) : Type 0 where
+pub record HasOnlyLaid (form : Form) (root : SeatState View) : Type 0 where
   pub number : root.view.core.seat ≡ 0
   pub owned : (x : SlotId) → times x root.view.core.owned ≡ 0
   pub weaks : root.view.core.weaks ≡ []
   pub notes : root.view.core.notes ≡ no_notes
   pub tickets : root.view.core.tickets ≡ []
   pub left_seats : root.view.core.left_seats ≡ []
-  pub queue : deeds_in root.view.client.0 ≡ laid_in (deeds_in (view_of Linked 0))
+  pub queue : deeds_in root.view.client.0 ≡ laid_in (deeds_in (view_of form 0))
   pub directory : root.view.client.1 ≡ directory.gone
 
 module _ (fits : List ℕ → Type 0) where
@@ -111,8 +113,8 @@ module _ (fits : List ℕ → Type 0) where
 
   -- Why nothing was opened: there was no memory; or seat 0 of the domain found each slot taken, which can't be where
   -- there is a slot for each make.
-  abbrev pub IsWhyNotOpened : Work → ℕ → ℕ → OpenLanesError → Type 0
-  IsWhyNotOpened work lanes slots refused.OutOfMemory = Unit {0}
-  IsWhyNotOpened work lanes slots (refused.Full unlaid) =
-      IsDomainFor work lanes slots unlaid.domain × FindsNoSlot unlaid.domain unlaid.root
+  abbrev pub IsWhyNotOpened : Work → ℕ → ℕ → Form → OpenLanesError → Type 0
+  IsWhyNotOpened work lanes slots form refused.OutOfMemory = Unit {0}
+  IsWhyNotOpened work lanes slots form (refused.Full unlaid) =
+      IsDomainFor work lanes slots form unlaid.domain × FindsNoSlot unlaid.domain unlaid.root
       × (slots < work.rounds * (all_pieces work + all_parts work) + 2)

@@ -8,7 +8,7 @@
 //!
 //! ```text
 //! if is_within_limits(&work) {
-//!     let Opened { domain, root, seats, shared } = open_lanes(alloc, &work, 2, 4096)?;    // two lanes
+//!     let Opened { domain, root, seats, shared } = open_lanes(alloc, &work, 2, 4096, Form::Linked)?;   // two lanes
 //! }
 //! ```
 #![tactic(auto)]

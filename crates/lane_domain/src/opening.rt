@@ -13,11 +13,12 @@ use crate::tickets::{list_interns, list_makes};
 use acquire_retire::{Domain, OpenError, Quota, Seat, Shape, open_granted};
 use directory_calls::Directory;
 use directory_protocol::{DirectoryLaw, RecordKind};
+use hand_queues::AnyQueue;
 use lane_files::Work;
-use linked_queue::LinkedQueue;
 use out_of_memory::OutOfMemory;
 use plain_state::PayloadKind;
-use protocol_pairs::PairKind;
+use protocol_pairs::{Left, PairKind};
+use queue_law::Form;
 use queue_protocol::{NodeKind, QueueLaw};
 use slot_store::MakeError;
 use std::alloc::Global;
@@ -58,27 +59,37 @@ fn list_quotas(alloc: Global, lanes: u32) -> Result<Vec<Quota>, OutOfMemory>
     Ok(quotas)
 }
 
-/// The law of a queue over the strong cells 0 and 1, and of a directory over all weak cells whose interns come with
-/// tickets.
-fn law_of(alloc: Global, work: &Work, cells: u32) -> Result<WordsLaw, OutOfMemory>
+/// The law of a queue of this form over the strong cells 0 and 1, and of a directory over all weak cells whose interns
+/// come with tickets.
+fn law_of(alloc: Global, work: &Work, cells: u32, form: Form) -> Result<WordsLaw, OutOfMemory>
     requires work { IsWork work.now }
     requires within { IsWithinLimits work.now }
     requires cells { work.now.rounds * all_pieces work.now ≤ cells }
-    ensures queue { IfOk result (λ law. IsQueueHere law.pair.left) }
+    ensures queue { IfOk result (λ law. IsQueueHere form law.pair.left) }
     ensures directory { IfOk result (λ law. IsDirectoryFor work.now cells law.pair.right) }
 {
     let interns = list_interns(alloc, work)?;
     let directory = DirectoryLaw::granted(0, cells, interns);
-    Ok(WordsLaw::new(QueueLaw::linked(HEAD, TAIL), directory))
+    let queue = match form {
+        Form::Linked => QueueLaw::linked(HEAD, TAIL),
+        Form::Double => QueueLaw::double(HEAD, TAIL),
+    };
+    Ok(WordsLaw::new(queue, directory))
 }
 
 /// The domain, in which nothing has happened.
-fn begin(alloc: Global, work: &Work, lanes: u32, slots: u32) -> Result<Begun, OutOfMemory>
+fn begin(
+    alloc: Global,
+    work: &Work,
+    lanes: u32,
+    slots: u32,
+    form: Form,
+) -> Result<Begun, OutOfMemory>
     requires work { IsWork work.now }
     requires within { IsWithinLimits work.now }
     requires lanes { (1 ≤ lanes) × (lanes ≤ 31) }
     requires slots { (1 ≤ slots) × (slots ≤ 4194304) }
-    ensures domain { IfOk result (λ begun. IsDomainFor work.now lanes slots begun.domain) }
+    ensures domain { IfOk result (λ begun. IsDomainFor work.now lanes slots form begun.domain) }
     ensures root { IfOk result (λ begun. begun.root ≡ fresh_seat begun.domain 0) }
     ensures seats { IfOk result (λ begun. begun.seats.items ≡ fresh_lanes begun.domain lanes) }
 {
@@ -92,7 +103,7 @@ fn begin(alloc: Global, work: &Work, lanes: u32, slots: u32) -> Result<Begun, Ou
     };
     let quotas = list_quotas(alloc, lanes)?;
     let grants = list_makes(alloc, work)?;
-    let law = law_of(alloc, work, weak_cells)?;
+    let law = law_of(alloc, work, weak_cells, form)?;
     match open_granted(alloc, shape, &quotas, &grants, law) {
         Ok((domain, mut seats)) => {
             let root = seats.remove(0);
@@ -108,23 +119,28 @@ fn begin(alloc: Global, work: &Work, lanes: u32, slots: u32) -> Result<Begun, Ou
 }
 
 /// Seat 0 lays the queue. It is refused only where it found each slot taken.
-fn lay(domain: &Domain<WordsLaw>, root: &mut Seat<WordsLaw>) -> Result<Shared, MakeError>
+fn lay(
+    domain: &Domain<WordsLaw>,
+    root: &mut Seat<WordsLaw>,
+    form: Form,
+) -> Result<Shared, MakeError>
     requires domain { IsDomainForSome domain.now }
+    requires form { domain.now.protocol.pair.left.form ≡ form }
     requires root { root.old ≡ fresh_seat domain.now 0 }
     ensures ready { IfOk result (λ shared. IsReady domain.now shared root.new) }
-    ensures laid { OnOk result (HasOnlyLaid root.new) }
+    ensures laid { OnOk result (HasOnlyLaid form root.new) }
     ensures missed { OnErr result (FindsNoSlot
         ⟦<PairKind<NodeKind, RecordKind> as PayloadKind>⟧.fits domain.now root.new) }
     ensures slots { OnErr result (domain.now.shape.slots < makes_given domain.now.terms) }
 {
-    let queue = LinkedQueue::lay(domain, root, HEAD, TAIL)?;
+    let queue = AnyQueue::lay::<Left, WordsLaw>(domain, root, form, HEAD, TAIL)?;
     Ok(Shared {
         queue,
         directory: Directory::over(0, domain.shape().weak_cells),
     })
 }
 
-/// Opens a domain for the work, with so many lanes and slots, and lays its queue. Each seat may use 2^40 adds. A lane may
+/// Opens a domain for the work, with so many lanes and slots, and lays its queue in this form. Each seat may use 2^40 adds. A lane may
 /// make what its tickets grant: an object for each piece of the file, and one for each 120 bytes of a piece.
 ///
 /// It is refused where there is no memory; and `Full` only where there are fewer slots than the lanes may make objects,
@@ -135,26 +151,28 @@ pub fn open_lanes(
     work: &Work,
     lanes: u32,
     slots: u32,
+    form: Form,
 ) -> Result<Opened, OpenLanesError>
     requires work { IsWork work.now }
     requires within { IsWithinLimits work.now }
     requires lanes { (1 ≤ lanes) × (lanes ≤ 31) }
     requires slots { (1 ≤ slots) × (slots ≤ 4194304) }
-    ensures domain { IfOk result (λ opened. IsDomainFor work.now lanes slots opened.domain) }
+    ensures domain { IfOk result (λ opened.
+        IsDomainFor work.now lanes slots form opened.domain) }
     ensures grants { IfOk result (λ opened. HasGrants opened.domain work.now) }
     ensures ready { IfOk result (λ opened. IsReady opened.domain opened.shared opened.root) }
-    ensures root { IfOk result (λ opened. HasOnlyLaid opened.root) }
+    ensures root { IfOk result (λ opened. HasOnlyLaid form opened.root) }
     ensures seats { IfOk result (λ opened. opened.seats.items
         ≡ fresh_lanes opened.domain lanes) }
     ensures why { IfErr result (IsWhyNotOpened
-        ⟦<PairKind<NodeKind, RecordKind> as PayloadKind>⟧.fits work.now lanes slots) }
+        ⟦<PairKind<NodeKind, RecordKind> as PayloadKind>⟧.fits work.now lanes slots form) }
 {
     let Begun {
         domain,
         mut root,
         seats,
-    } = begin(alloc, work, lanes, slots)?;
-    match lay(&domain, &mut root) {
+    } = begin(alloc, work, lanes, slots, form)?;
+    match lay(&domain, &mut root, form) {
         Ok(shared) => Ok(Opened {
             domain,
             root,

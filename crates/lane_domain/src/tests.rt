@@ -5,6 +5,7 @@ ghost use Rattle.lane_files.specs.Work.{IsWork, words_of};
 use crate::tickets::{list_interns, list_makes};
 use crate::{count_parts, count_pieces, count_slots, is_within_limits, open_lanes};
 use lane_files::{FileText, Work};
+use queue_law::Form;
 use std::alloc::Global;
 use std::test::Fail;
 
@@ -55,7 +56,7 @@ fn two_files_of_two_pieces_are_opened(rt: HostRuntime) -> Result<(), Fail> {
         panic!(rt; "no memory")
     };
     assert_eq!(rt; makes.as_slice(), [4u64; 6].as_slice());
-    let Ok(opened) = open_lanes(rt.alloc(), &work, 2, 26) else {
+    let Ok(opened) = open_lanes(rt.alloc(), &work, 2, 26, Form::Linked) else {
         panic!(rt; "a domain")
     };
     assert_eq!(rt;

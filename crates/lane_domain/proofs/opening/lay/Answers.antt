@@ -2,8 +2,18 @@ use Rattle.std.proofs.Common.{◌<◌, OnErr, ap, subst, sym, ◌∙◌}
 use Rattle.std.proofs.lemmas.Result.{err_from_is_err_and}
 use Rattle.core_events.specs.declared.shape.Shape.{Shape}
 use Rattle.claim_law.specs.Claims.{makes_given}
-use Rattle.lane_domain.proofs.Laid.{few_slots_by, laid_ready, only_laid}
+use Rattle.queue_law.specs.declared.view.Form.{Form}
+use Rattle.hand_queues.specs.Queues.{IsAnyOf, queue_in}
+use Rattle.word_lanes.specs.Whys.{queue_of}
+use Rattle.lane_domain.specs.Opened.{HasOnlyLaid}
+use Rattle.lane_domain.proofs.Laid.{few_slots_by, laid_ready, only_laid, queue_there, same_form}
 use Rattle.lane_domain.proofs.opening.lay.Goals as goal
+
+pub lay-requires-queue : goal.lay-requires-queue
+lay-requires-queue c =
+    let d = c.args.domain.now in
+    subst (λ (form : Form). IsAnyOf (queue_in form 0 1) (queue_of d))
+    (same_form d c.requires.domain c.args.form c.requires.form) (queue_there d c.requires.domain)
 
 pub returns-in_err-queue-clause-slots : goal.returns-in_err-queue-clause-slots
 returns-in_err-queue-clause-slots c =
@@ -17,12 +27,14 @@ pub returns-clause-ready : goal.returns-clause-ready
 returns-clause-ready c =
     laid_ready c.args.domain.now c.requires.domain c.args.root.now c.lay.new.seat c.requires.root
     c.lay.ensures.beside c.lay.ensures.leaves _ c.lay.ensures.rest c.lay.ensures.room
-    c.in_ok-queue.ensures.attached c.in_ok-queue.ensures.queue (
+    c.in_ok-queue.ensures.attached c.in_ok-queue.ensures.is_on (
       c.over.ensures.over.0,
       c.over.ensures.over.1 ∙ ap (λ (z : Shape). z.weak_cells) c.shape.ensures,
     )
 
 pub returns-clause-laid : goal.returns-clause-laid
 returns-clause-laid c =
-    only_laid c.args.domain.now c.requires.domain c.args.root.now c.lay.new.seat c.requires.root
-    c.lay.ensures.beside c.lay.ensures.leaves c.in_ok-queue.ensures.laid
+    subst (λ (form : Form). HasOnlyLaid form c.lay.new.seat)
+    (same_form c.args.domain.now c.requires.domain c.args.form c.requires.form)
+    (only_laid c.args.domain.now c.requires.domain c.args.root.now c.lay.new.seat c.requires.root
+    c.lay.ensures.beside c.lay.ensures.leaves c.in_ok-queue.ensures.laid)
