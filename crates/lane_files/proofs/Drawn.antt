@@ -9,7 +9,7 @@ use Rattle.acquire_retire.specs.Domains.{DomainState}
 use Rattle.acquire_retire.specs.Seats.{SeatState}
 use Rattle.directory_calls.specs.Directories.{area_of}
 use Rattle.directory_law.specs.Lessons.{drawn}
-use Rattle.linked_queue.specs.Queues.{deeds_in}
+use Rattle.hand_queues.specs.Pushes.{deeds_of}
 use Rattle.queue_law.specs.declared.view.View.{View as QueueView}
 use Rattle.weak_intern.specs.Drawing.{Draws}
 use Rattle.words_law.specs.Views.{View}
@@ -91,7 +91,7 @@ module _ (d : DomainState WordsLaw) (ticket : ℕ) (a b : SeatState View)
     counts = record {
       pushes = [];
       pops = [];
-      deeds = sym (did_none (deeds_in a.view.client.0));
+      deeds = sym (did_none (deeds_of a.view.client.0));
       pushed_words = ([], tt, refl);
       popped_words = ([], tt, refl);
       more = record {

@@ -3,7 +3,9 @@ ghost use Rattle.core_events.specs.Steps.{HasRoom};
 ghost use Rattle.control_word.specs.Resting.{IsAtRest};
 ghost use Rattle.part_calls.specs.Parts.{as_part};
 ghost use Rattle.directory_calls.specs.Directories.{HasQuota, IsOver, area_of};
-ghost use Rattle.linked_queue.specs.Queues.{CanLay, IsQueueOf};
+ghost use Rattle.hand_queues.specs.Queues.{IsAnyOf, queue_in};
+ghost use Rattle.linked_queue.specs.Queues.{CanLay};
+ghost use Rattle.queue_law.specs.declared.view.Form.TheVariants.{Linked};
 ghost use Rattle.text_reading.specs.Reading.{HasTwoFree};
 ghost use Rattle.word_lanes.specs.Ready.{IsReady};
 ghost use Rattle.lane_files.specs.Files.{HasPieces, pieces_in};
@@ -15,8 +17,8 @@ use crossbeam_utils::atomic::AtomicCell;
 use deleter::Deleter;
 use directory_calls::Directory;
 use directory_protocol::{DirectoryLaw, RecordKind};
+use hand_queues::{AnyQueue, Form};
 use lane_gate::Gate;
-use linked_queue::LinkedQueue;
 use plain_state::PayloadKind;
 use protocol_pairs::PairKind;
 use queue_protocol::{NodeKind, QueueLaw};
@@ -54,7 +56,7 @@ impl Gate for Noted {
 fn open_for_two_tickets(rt: &HostRuntime) -> Result<(Domain<WordsLaw>, Seat<WordsLaw>), Fail>
     ensures rest { IfOk result (λ r. IsAtRest r.0 r.1 × HasRoom r.1.view.core) }
     ensures queue { IfOk result (λ r.
-        IsQueueOf 0 1 (as_part (λ (it : WordsLaw). it.pair.left) r.0)) }
+        IsAnyOf (queue_in Linked 0 1) (as_part (λ (it : WordsLaw). it.pair.left) r.0)) }
     ensures over { IfOk result (λ r. IsOver r.0 r.0.protocol.pair.right
         (record { first = 0; cells = 10 })) }
     ensures grants { IfOk result (λ r.
@@ -77,7 +79,8 @@ fn open_for_two_tickets(rt: &HostRuntime) -> Result<(Domain<WordsLaw>, Seat<Word
 fn lay(domain: &Domain<WordsLaw>, seat: &mut Seat<WordsLaw>) -> Result<Shared, MakeError>
     requires rest { IsAtRest domain.now seat.old }
     requires room { HasRoom seat.old.view.core }
-    requires queue { IsQueueOf 0 1 (as_part (λ (it : WordsLaw). it.pair.left) domain.now) }
+    requires queue { IsAnyOf (queue_in Linked 0 1)
+        (as_part (λ (it : WordsLaw). it.pair.left) domain.now) }
     requires over { IsOver domain.now domain.now.protocol.pair.right
         (record { first = 0; cells = 10 }) }
     requires unlaid { CanLay seat.old.view.client.0 }
@@ -85,7 +88,7 @@ fn lay(domain: &Domain<WordsLaw>, seat: &mut Seat<WordsLaw>) -> Result<Shared, M
     requires free { HasTwoFree seat.old.view.core }
     ensures ready { IfOk result (λ shared. IsReady domain.now shared seat.new) }
 {
-    let queue = LinkedQueue::lay(domain, seat, 0, 1)?;
+    let queue = AnyQueue::lay(domain, seat, Form::Linked, 0, 1)?;
     Ok(Shared {
         queue,
         directory: Directory::over(0, 10),

@@ -1,4 +1,4 @@
-use Rattle.std.proofs.Common.{ap, sym, ◌∙◌, arith}
+use Rattle.std.proofs.Common.{ap, ◌∙◌, arith}
 use Rattle.words_law.specs.Views.{View}
 use Rattle.word_lanes.proofs.Kept.{free_still, owns_queue}
 use Rattle.lane_files.proofs.tests.lay.Goals as goal
@@ -12,13 +12,7 @@ returns c =
       ready = record {
         rest = c.lay.ensures.rest;
         room = c.lay.ensures.room;
-        queue = record {
-          form = c.requires.queue.form;
-          head = c.requires.queue.head ∙ sym ends.0;
-          tail = c.requires.queue.tail ∙ sym ends.1;
-          head_there = omega (arith, ends.0, c.requires.queue.head_there);
-          tail_there = omega (arith, ends.1, c.requires.queue.tail_there);
-        };
+        queue = c.in_ok-queue.ensures.is_on;
         over = record {
           first = cells.0 ∙ c.requires.over.first;
           cells = cells.1 ∙ c.requires.over.cells;
