@@ -1,6 +1,6 @@
 -- What the threads answer, in the order of the seats.
 use Rattle.std.proofs.Common.{◌≡◌, ℕ, ◌<◌, List, sym, subst, ◌∙◌, arith}
-use Rattle.std.specs.Prelude.{length, slice_index_or}
+use Rattle.std.specs.Prelude.{All, length, slice_index_or}
 use Rattle.acquire_retire.specs.Domains.{DomainState}
 use Rattle.acquire_retire.specs.Seats.{SeatState}
 use Rattle.words_law.specs.Views.{View}
@@ -10,25 +10,26 @@ use Rattle.lane_files.specs.declared.work.Work.{Work}
 use Rattle.lane_threads.specs.declared.ending.LaneEnd.{LaneEnd}
 use Rattle.lane_threads.specs.declared.jobs.Job.{Job}
 use Rattle.lane_threads.specs.Ending.{EndAll, EndsLane}
-use Rattle.lane_threads.specs.Jobs.{AreJobs}
+use Rattle.lane_threads.specs.Jobs.{AnswerAll, AreJobs}
 
-module _ (fits : List ℕ → Type 0) (d : DomainState WordsLaw) (on : Shared) (work : Work)
+-- what holds of each seat holds of each job's
+pub all_jobs : (P : SeatState View → Type 0) (seats : List (SeatState View)) (jobs : List Job)
+    → AreJobs (length seats) seats jobs → All P seats → All (λ (job : Job). P job.seat) jobs
+all_jobs P seats jobs are all k other low =
+    let count = are.many in let less : k < length seats = omega arith in
+    subst (λ (job : Job). P job.seat) (sym (are.each k other other.seat less))
+    (all k other.seat less)
+
+pub end_all : (fits : List ℕ → Type 0) (d : DomainState WordsLaw) (on : Shared) (work : Work)
     (seats : List (SeatState View)) (jobs : List Job) (endings : List LaneEnd)
-    (are : AreJobs (length seats) seats jobs) (many : length endings ≡ length jobs) where
-  -- what one thread answers
-  pub record Answers (i : ℕ) (ending : LaneEnd) : Type 0 where
-    pub job : Job
-    pub is : (other : Job) → slice_index_or jobs i other ≡ job
-    pub ends : EndsLane fits d on work job.number job.seat ending
-
-  pub end_all : ((i : ℕ) (ending : LaneEnd) → i < length jobs
-      → Answers i (slice_index_or endings i ending))
-      → EndAll fits d on work seats endings
-  end_all answers = record {
-    many = many ∙ are.many;
-    each = λ i seat ending less.
-        let count = are.many in let one = answers i ending (omega arith) in
-        subst (λ (job : Job). EndsLane fits d on work job.number job.seat
-        (slice_index_or endings i ending))
-        (sym (one.is one.job) ∙ are.each i one.job seat less) one.ends;
-  }
+    → AreJobs (length seats) seats jobs → AnswerAll fits d on work jobs endings
+    → EndAll fits d on work seats endings
+end_all fits d on work seats jobs endings are answers = record {
+  many = answers.many ∙ are.many;
+  each = λ i seat ending less.
+      let count = are.many in
+      let one = answers.each i ending (omega (arith, count, less)) in
+      subst (λ (job : Job). EndsLane fits d on work job.number job.seat
+      (slice_index_or endings i ending))
+      (sym (one.1 one.0) ∙ are.each i one.0 seat less) one.2;
+}

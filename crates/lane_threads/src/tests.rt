@@ -49,7 +49,10 @@ fn open(alloc: Global, work: &Work) -> Option<Opened>
     if !is_within_limits(work) {
         return None;
     }
-    open_lanes(alloc, work, 2, 64).ok()
+    match open_lanes(alloc, work, 2, 64) {
+        Ok(opened) => Some(opened),
+        Err(_) => None,
+    }
 }
 
 /// How many references a lane keeps, and how many pieces it counted; nothing where it stopped.
