@@ -1,6 +1,8 @@
 -- What seat 0 has once the seats of lanes have left.
-use Rattle.std.specs.Prelude.{ℕ, ◌≡◌, ◌+◌, List, [], ◌∷◌, ◌++◌, length, map}
+use Rattle.std.specs.Prelude.{ℕ, ◌≡◌, ◌<◌, ◌+◌, List, [], ◌∷◌, ◌++◌, length, map}
 use Rattle.std.specs.List.{flat_map, range_with_len, sum_by}
+use Rattle.plain_state.specs.declared.slot.SlotId.{SlotId}
+use Rattle.plain_state.specs.Lists.{times}
 use Rattle.core_events.specs.declared.view.CoreView.{CoreView}
 use Rattle.core_events.specs.declared.view.LeftSeat.{LeftSeat}
 use Rattle.counted_handles.specs.Handles.{Handle}
@@ -70,6 +72,13 @@ TellsLanes work (x ∷ xs) [] v = ⊥
 TellsLanes work (x ∷ xs) (one ∷ done) v =
     TellsFiles (lives_in one.seat) (kept_files work x.tickets) (slots_of (kept_by one)) v
     × TellsLanes work xs done v
+
+-- of all that they keep, their seats had the slots in the lives in which this seat has them
+abbrev pub KeptAlike : List Done → SeatState View → Type 0
+KeptAlike [] seat = Unit {0}
+KeptAlike (one ∷ done) seat =
+    ((s : SlotId) → 0 < times s (slots_of (kept_by one)) → lives_in one.seat s ≡ lives_in seat s)
+    × KeptAlike done seat
 
 -- what seat 0 has beside what it takes over
 abbrev pub beside_taken : CoreView → CoreView

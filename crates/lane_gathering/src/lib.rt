@@ -22,6 +22,6 @@ mod taking;
 
 pub use done::{Done, Gathered};
 pub use gathering::gather;
-pub use laws::runs_tell_deeds;
+pub use laws::{lanes_keep_files, runs_tell_deeds};
 pub use shutting::shut_and_settle;
 pub use taking::take_all;
