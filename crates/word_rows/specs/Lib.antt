@@ -1,2 +1,4 @@
 pub mod Words
 pub mod Holders
+pub mod Rows
+pub mod Audits
