@@ -1,1 +1,7 @@
 -- The lemmas that the contracts stand on.
+pub mod Rules
+pub mod Rows
+pub mod Reading
+pub mod Walks
+pub mod Turns
+pub mod WalkReads

@@ -1,5 +1,5 @@
 -- What the values of an option say. An option that comes twice has no meaning.
-use Rattle.std.specs.Prelude.{ℕ, ◌≡◌, ◌≤◌, ◌⊎◌, ⊥, Bool, true, false, List, [], ◌∷◌, Some, None, codes}
+use Rattle.std.specs.Prelude.{ℕ, ◌≡◌, ◌≤◌, ◌⊎◌, Bool, true, false, List, [], ◌∷◌, Some, None, codes}
 use Rattle.std.specs.declared.option.Option.{Option}
 use Rattle.line_words.specs.Number.{IsNumber}
 use Rattle.command_line.specs.Parts.{Text}

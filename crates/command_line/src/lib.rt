@@ -2,12 +2,12 @@
 #![tactic(auto)]
 
 mod asked;
+mod asking;
 mod matching;
 mod numbers;
 mod options;
-mod request;
 #[cfg(test)]
 mod tests;
 
 pub use crate::asked::{Bulk, Draws, Request, WordsArgs};
-pub use crate::request::request;
+pub use crate::asking::request;

@@ -1,7 +1,7 @@
 //! Worked command lines.
 
 use crate::asked::Request;
-use crate::request::request;
+use crate::asking::request;
 use std::alloc::{AllocError, Global};
 use std::test::Fail;
 

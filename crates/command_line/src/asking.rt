@@ -1,7 +1,7 @@
 //! The request of a command line.
 
 use crate::asked::{Bulk, Draws, Request, WordsArgs};
-use crate::matching::{matching, values};
+use crate::matching::matching;
 use crate::numbers::number_within;
 use crate::options::{double, lanes, rounds, slots};
 use clap::ArgMatches;
@@ -31,7 +31,7 @@ fn one_file(alloc: Global, words: &[String]) -> Result<Option<String>, OutOfMemo
     let Some(matches) = matching(alloc, NO_OPTIONS.as_slice(), words)? else {
         return Ok(None);
     };
-    match values(&matches, "operand") {
+    match matches.get_raw("operand").unwrap_or(&[]) {
         [file] => Ok(Some(String::from_str(alloc, file)?)),
         _ => Ok(None),
     }
@@ -41,7 +41,7 @@ fn draws(alloc: Global, words: &[String]) -> Result<Option<Draws>, OutOfMemory> 
     let Some(matches) = matching(alloc, NO_OPTIONS.as_slice(), words)? else {
         return Ok(None);
     };
-    Ok(draws_within(1_000_000, values(&matches, "operand")))
+    Ok(draws_within(1_000_000, matches.get_raw("operand").unwrap_or(&[])))
 }
 
 fn bulk(alloc: Global, words: &[String]) -> Result<Option<Bulk>, OutOfMemory> {
@@ -52,8 +52,8 @@ fn bulk(alloc: Global, words: &[String]) -> Result<Option<Bulk>, OutOfMemory> {
 }
 
 fn bulk_of(matches: &ArgMatches<'_>) -> Option<Bulk> {
-    let draws = draws_within(500_000, values(matches, "operand"))?;
-    let lanes = lanes(values(matches, "lanes"))?;
+    let draws = draws_within(500_000, matches.get_raw("operand").unwrap_or(&[]))?;
+    let lanes = lanes(matches.get_raw("lanes").unwrap_or(&[]))?;
     Some(Bulk { draws, lanes })
 }
 
@@ -77,12 +77,12 @@ struct Settings {
     double: bool,
 }
 
-fn settings(matches: &ArgMatches<'_>) -> Option<Settings> {
+fn settings_of(matches: &ArgMatches<'_>) -> Option<Settings> {
     Some(Settings {
-        lanes: lanes(values(matches, "lanes"))?,
-        rounds: rounds(values(matches, "rounds"))?,
-        slots: slots(values(matches, "slots"))?,
-        double: double(values(matches, "queue"))?,
+        lanes: lanes(matches.get_raw("lanes").unwrap_or(&[]))?,
+        rounds: rounds(matches.get_raw("rounds").unwrap_or(&[]))?,
+        slots: slots(matches.get_raw("slots").unwrap_or(&[]))?,
+        double: double(matches.get_raw("queue").unwrap_or(&[]))?,
     })
 }
 
@@ -90,8 +90,8 @@ fn words_args(alloc: Global, words: &[String]) -> Result<Option<WordsArgs>, OutO
     let Some(matches) = matching(alloc, WORDS_OPTIONS.as_slice(), words)? else {
         return Ok(None);
     };
-    let operands = values(&matches, "operand");
-    let Some(settings) = settings(&matches) else {
+    let operands = matches.get_raw("operand").unwrap_or(&[]);
+    let Some(settings) = settings_of(&matches) else {
         return Ok(None);
     };
     if operands.is_empty() {
