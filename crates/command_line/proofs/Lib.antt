@@ -5,3 +5,6 @@ pub mod Reading
 pub mod Walks
 pub mod Turns
 pub mod WalkReads
+pub mod Spelling
+pub mod Lines
+pub mod Matches

@@ -19,7 +19,7 @@ with_use name how value rows = with_values name how CommandLine (value ∷ []) r
 same_test : (a b other : Text) → bytes_eq a b ≡ true → bytes_eq a other ≡ bytes_eq b other
 same_test a b other same = ap (λ (x : Text). bytes_eq x other) ((bytes_eq-Decides a b).0 same)
 
-refuted : (a b : Text) → (a ≡ b → ⊥) → bytes_eq a b ≡ false
+pub refuted : (a b : Text) → (a ≡ b → ⊥) → bytes_eq a b ≡ false
 refuted a b differ = go (bytes_eq a b) refl
   where
     go : (t : Bool) → bytes_eq a b ≡ t → bytes_eq a b ≡ false

@@ -3,13 +3,13 @@ use Rattle.std.proofs.Common.{◌≡◌, ◌∙◌, ◌<◌, ℕ, Bool, cond, tr
 use Rattle.std.specs.Prelude.{◌==◌, drop, encode_utf8, option_and_then, slice_get, unwrap_or}
 use Rattle.std.specs.Option.{option_map_or}
 use Rattle.std.specs.Str.{IsUtf8, bytes_eq, chars, encode_utf8_all}
-use Rattle.std.proofs.lemmas.Str.{encodes-chars}
+use Rattle.std.proofs.lemmas.Str.{IsUtf8-from_is_utf8, encodes-chars}
 use Rattle.std.proofs.lemmas.Slice.Eq.{bytes_eq-Decides}
 use Rattle.std.proofs.lemmas.Bool.{eqb-true}
 use Rattle.clap.specs.Faults.{bundle_fault, bundle_step_fault, flag_word_fault, flags_fault, long_fault, settle_fault, short_fault, use_fault}
 use Rattle.clap.specs.Kinds.{Kinds, or_else}
 use Rattle.clap.specs.Lexer.{long_of, short_of, short_of_rest, strip_byte}
-use Rattle.clap.specs.Walk.{Held, Row, Rule, Step, Waiting, after_flag, arg_by_long, idle, long_met, long_or_other, long_word, next, option, option_word, plain_word, reacted, settled, short_or_plain, value}
+use Rattle.clap.specs.Walk.{Held, Row, Rule, Step, Waiting, after_flag, arg_by_long, arg_by_short, idle, long_met, long_or_other, long_word, next, option, option_word, plain_word, reacted, settled, short_or_plain, value}
 use Rattle.clap.specs.declared.error.kind.ErrorKind.TheVariants as kind
 use Rattle.command_line.specs.Parts.{Text}
 use Rattle.command_line.specs.Found.{are_names}
@@ -23,8 +23,12 @@ chars_dash : (y : ℕ) (ys : Text) → chars (45 ∷ y ∷ ys) ≡ 45 ∷ chars 
 unfolding chars
 chars_dash y ys = refl
 
+one_char : chars (45 ∷ []) ≡ 45 ∷ []
+unfolding chars
+one_char = refl
+
 one_dash : encode_utf8_all (45 ∷ []) ≡ 45 ∷ []
-one_dash = refl
+one_dash = ap encode_utf8_all (sym one_char) ∙ encodes-chars (45 ∷ []) (IsUtf8-from_is_utf8 (45 ∷ []) refl)
 
 first_of : (y : ℕ) (ys cs : Text) → IsUtf8 (45 ∷ y ∷ ys) → chars (y ∷ ys) ≡ cs → (x : ℕ) × (slice_get cs 0 ≡ Some x)
 first_of y ys (x ∷ xs) utf is = (x, refl)

@@ -139,7 +139,7 @@ module _ (options : List Text) (named : are_names options ≡ true) where
       (cond t (Some (record { parts = []; later = Some rest })) (read_word options word l sh (read options None rest) (λ name. read options (Some name) rest)))
   rest_word word rest utf tail values b rows d known true l sh dashes is short =
       let h = held_with rows d in
-      agrees_next (walk_at (resting b) false h) (walk_at (resting b) true h) word rest (so_far rows d) _
+      agrees_next (walk_at (resting b) false h) (walk_at (resting b) true h) word rest (so_far rows d) (Some (record { parts = []; later = Some rest }))
       (turn_dashes options named (resting b) word h dashes) (walk_dashes options named (resting b) word h dashes)
       (later_reads rest (resting b) rows d known)
   rest_word word rest utf tail values b rows d known false (Some (name, Some text)) sh other is short =

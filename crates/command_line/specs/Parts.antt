@@ -31,7 +31,7 @@ IsPart options (operand word) = IsOperand word
 -- the words of a part, and then these
 abbrev pub spelled : Part → List Text → List Text
 spelled (apart option value) rest = (codes "--" ++ option) ∷ value ∷ rest
-spelled (joined option value) rest = (codes "--" ++ option ++ codes "=" ++ value) ∷ rest
+spelled (joined option value) rest = (codes "--" ++ (option ++ (codes "=" ++ value))) ∷ rest
 spelled (operand word) rest = word ∷ rest
 
 -- behind the parts stands nothing, or a word `--` and the later operands
