@@ -8,3 +8,5 @@ pub mod WalkReads
 pub mod Spelling
 pub mod Lines
 pub mod Matches
+pub mod Given
+pub mod Plain

@@ -4,7 +4,8 @@ use Rattle.std.specs.Prelude.{is_some, option_and_then, unwrap_or, string_bytes,
 use Rattle.std.specs.List.{flat_map, fold, list_any}
 use Rattle.std.specs.Option.{option_map_or}
 use Rattle.std.specs.Str.{bytes_eq}
-use Rattle.std.specs.String.{String}
+use Rattle.std.specs.declared.string.String.{String}
+use Rattle.std.proofs.Common.{Global}
 use Rattle.std.proofs.lemmas.Str.{IsUtf8-string_bytes}
 use Rattle.std.proofs.lemmas.Slice.Eq.{bytes_eq-Decides}
 use Rattle.clap.specs.Faults.{built_fault, default_fault, defaults_fault, entered_fault, fault_of, is_simple_and_free, level_fault, settle_fault, walk_fault, check_fault}
@@ -13,7 +14,9 @@ use Rattle.clap.specs.Matches.{found_of}
 use Rattle.clap.specs.Simple.{App, HasMatchesOf, Shape, built, entered, is_simple, matches_of}
 use Rattle.clap.specs.Takes.{is_given}
 use Rattle.clap.specs.Walk.{Row, Rule, Walk, finished, has_row, is_empty, nothing_held, rows_of, settled, walk, walk_from, with_default}
-use Rattle.clap.specs.declared.error.kind.ErrorKind.{ErrorKind}
+use Rattle.clap.specs.Values.{kind_of}
+use Rattle.clap.specs.declared.error.Error.{Error}
+use Rattle.clap.specs.declared.error.kind.ErrorKind.TheVariants.{OutOfMemory}
 use Rattle.clap.specs.declared.parser.matches.ArgMatches.{ArgMatches}
 use Rattle.command_line.specs.Parts.{Part, Text, IsLine, IsOneOf, apart, joined, operand, operand_in, operands_of, value_in, values_of}
 use Rattle.command_line.specs.Found.{ArePlain, Shows, app_with, are_names, found_under, is_name, operands_name, values_in}
@@ -110,3 +113,85 @@ module _ (options : List Text) (named : are_names options ≡ true) where
   clap_reads words utf =
       agree-same _ _ _ _ (λ id. []) (read options None (drop 1 words)) (fault_is words) (matches_is words)
       ((walk_reads options named (drop 1 words) utf).0 false [] calm tt)
+
+  -- ---- what is found under a name
+
+  operands_same : (words : List Text) (parts : List Part) (later : Option (List Text)) → IsLine options words parts later
+      → flat_map (part_value operands_name) parts ≡ flat_map operand_in parts
+  operands_same words [] later is = refl
+  operands_same words (apart name value ∷ parts) later is =
+      let other = other_name name (one_of_named options name named (one_of-to name options is.1)) in
+      λ i. cond (other i) (value ∷ []) [] ++ operands_same is.0 parts later is.3 i
+  operands_same words (joined name value ∷ parts) later is =
+      let other = other_name name (one_of_named options name named (one_of-to name options is.1)) in
+      λ i. cond (other i) (value ∷ []) [] ++ operands_same is.0 parts later is.3 i
+  operands_same words (operand word ∷ parts) later is = ap (λ (ws : List Text). word ∷ ws) (operands_same is.0 parts later is.3)
+
+  values_same : (option : Text) → bytes_eq operands_name option ≡ false → (parts : List Part)
+      → flat_map (part_value option) parts ≡ flat_map (value_in option) parts
+  values_same option other [] = refl
+  values_same option other (apart name value ∷ parts) = ap (λ (ws : List Text). of_name name option value ++ ws) (values_same option other parts)
+  values_same option other (joined name value ∷ parts) = ap (λ (ws : List Text). of_name name option value ++ ws) (values_same option other parts)
+  values_same option other (operand word ∷ parts) = λ i. cond (other i) (word ∷ []) [] ++ values_same option other parts i
+
+  option_all : (option : Text) → IsOneOf option options → (r : Read) → all_values option r ≡ values_of option r.parts
+  option_all option one r =
+      let differs = other_name option (one_of_named options option named (one_of-to option options one)) in
+      let other : bytes_eq operands_name option ≡ false = refuted operands_name option (λ e.
+          true≢false (sym ((bytes_eq-Decides option operands_name).1 (sym e)) ∙ differs)) in
+      (λ i. values_same option other r.parts i ++ cond (other i) (unwrap_or r.later []) [])
+      ∙ append-nil (values_of option r.parts)
+
+  -- ---- of a parse
+
+  first_true : (a b : Bool) → (a && b) ≡ true → a ≡ true
+  first_true true b e = refl
+  first_true false b e = e
+
+  pub shows_is : (words : List Text) (app : App) (m : ArgMatches) → AreUtf8 (drop 1 words) → app ≡ app_with options
+      → (is_simple_and_free app ≡ true → fault_of app words ≡ []) → HasMatchesOf app words m → Shows options (drop 1 words) m
+  shows_is words app m utf same faults has = go (read options None (drop 1 words)) refl (clap_reads words utf)
+    where
+      go : (q : Option Read) → read options None (drop 1 words) ≡ q
+          → Agree (fault_of (app_with options) words) (matches_of (app_with options) words) (λ id. []) q → Shows options (drop 1 words) m
+      go None e h =
+          let known : is_simple_and_free app ≡ true = ap is_simple_and_free same ∙ is_known options in
+          absurd (h (ap (λ (a : App). fault_of a words) (sym same) ∙ faults known))
+      go (Some r) e h =
+          let known : is_simple_and_free app ≡ true = ap is_simple_and_free same ∙ is_known options in
+          let rows : rows_of (found_of m) ≡ matches_of (app_with options) words =
+          (has (first_true _ _ known)).0 ∙ ap (λ (a : App). matches_of a words) same in
+          let line = only_line options named (drop 1 words) r e in
+          record {
+            parts = r.parts;
+            later = r.later;
+            line = line;
+            operands = ap (values_in operands_name) rows ∙ h.1 operands_name
+                ∙ ap (λ (ws : List Text). ws ++ unwrap_or r.later []) (operands_same (drop 1 words) r.parts r.later line.0);
+            values = λ option one. ap (values_in option) rows ∙ h.1 option ∙ option_all option one r;
+          }
+
+  pub none_is : (words : List Text) (app : App) (e : Error) → AreUtf8 (drop 1 words) → app ≡ app_with options
+      → (kind_of e ≡ OutOfMemory → ⊥) → (is_simple_and_free app ≡ true → HasKind (fault_of app words) e)
+      → (parts : List Part) (later : Option (List Text)) → IsLine options (drop 1 words) parts later → ArePlain parts → ⊥
+  none_is words app err utf same other has parts later line plain = go (read options None (drop 1 words)) refl (clap_reads words utf)
+    where
+      none_among : HasKind [] err → ⊥
+      none_among (inl memory) = other memory
+      none_among (inr among) = among
+
+      go : (q : Option Read) → read options None (drop 1 words) ≡ q
+          → Agree (fault_of (app_with options) words) (matches_of (app_with options) words) (λ id. []) q → ⊥
+      go None e h = no_line options named (drop 1 words) parts later e line plain
+      go (Some r) e h =
+          let known : is_simple_and_free app ≡ true = ap is_simple_and_free same ∙ is_known options in
+          let none : fault_of app words ≡ [] = ap (λ (a : App). fault_of a words) same ∙ h.0 in
+          none_among (subst (λ (ks : Kinds). HasKind ks err) none (has known))
+
+pub utf_of : (words : List (String Global)) → AreUtf8 (map string_bytes words)
+utf_of [] = tt
+utf_of (w ∷ ws) = (IsUtf8-string_bytes w, utf_of ws)
+
+pub utf_after : (words : List (String Global)) → AreUtf8 (drop 1 (map string_bytes words))
+utf_after [] = tt
+utf_after (w ∷ ws) = utf_of ws

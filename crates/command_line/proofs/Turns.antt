@@ -3,7 +3,7 @@ use Rattle.std.proofs.Common.{◌≡◌, ◌∙◌, ◌<◌, ℕ, Bool, cond, tr
 use Rattle.std.specs.Prelude.{◌==◌, drop, encode_utf8, option_and_then, slice_get, unwrap_or}
 use Rattle.std.specs.Option.{option_map_or}
 use Rattle.std.specs.Str.{IsUtf8, bytes_eq, chars, encode_utf8_all}
-use Rattle.std.proofs.lemmas.Str.{IsUtf8-from_is_utf8, encodes-chars}
+use Rattle.std.proofs.lemmas.Str.{encode_ascii, encodes-chars}
 use Rattle.std.proofs.lemmas.Slice.Eq.{bytes_eq-Decides}
 use Rattle.std.proofs.lemmas.Bool.{eqb-true}
 use Rattle.clap.specs.Faults.{bundle_fault, bundle_step_fault, flag_word_fault, flags_fault, long_fault, settle_fault, short_fault, use_fault}
@@ -23,12 +23,8 @@ chars_dash : (y : ℕ) (ys : Text) → chars (45 ∷ y ∷ ys) ≡ 45 ∷ chars 
 unfolding chars
 chars_dash y ys = refl
 
-one_char : chars (45 ∷ []) ≡ 45 ∷ []
-unfolding chars
-one_char = refl
-
 one_dash : encode_utf8_all (45 ∷ []) ≡ 45 ∷ []
-one_dash = ap encode_utf8_all (sym one_char) ∙ encodes-chars (45 ∷ []) (IsUtf8-from_is_utf8 (45 ∷ []) refl)
+one_dash = ap (λ (t : Text). t ++ []) (encode_ascii 45 (omega arith))
 
 first_of : (y : ℕ) (ys cs : Text) → IsUtf8 (45 ∷ y ∷ ys) → chars (y ∷ ys) ≡ cs → (x : ℕ) × (slice_get cs 0 ≡ Some x)
 first_of y ys (x ∷ xs) utf is = (x, refl)

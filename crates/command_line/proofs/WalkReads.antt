@@ -196,7 +196,7 @@ module _ (options : List Text) (named : are_names options ≡ true) where
 
   -- ---- all words
 
-  walk_reads : (words : List Text) → AreUtf8 words → AtRest words × AtValue words
+  pub walk_reads : (words : List Text) → AreUtf8 words → AtRest words × AtValue words
   walk_reads [] utf = (
     λ b rows d known.
     (total_nil options named (walk_at (resting b) false (held_with rows d)) ∙ settle_passes options named rows d known,

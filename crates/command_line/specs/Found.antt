@@ -32,12 +32,12 @@ operands_rule = record (new_rule operands_name) { action = Some Append }
 abbrev pub shape_with : List Rule → Shape
 shape_with rules = record (new_shape (codes "cdrc_words")) { disable_help_flag = true; rules = rules }
 
+abbrev pub app_raw : List Rule → App
+app_raw rules = record { top = shape_with rules; subs = [] }
+
 -- the command with these options and with operands
 abbrev pub app_with : List Text → App
-app_with options = record {
-  top = shape_with (map option_rule options ++ operands_rule ∷ []);
-  subs = [];
-}
+app_with options = app_raw (map option_rule options ++ operands_rule ∷ [])
 
 abbrev pub values_in : Text → List Row → List Text
 values_in name rows = unwrap_or (all_of name rows) []

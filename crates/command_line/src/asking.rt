@@ -53,7 +53,7 @@ fn bulk(alloc: Global, words: &[String]) -> Result<Option<Bulk>, OutOfMemory> {
 
 fn bulk_of(matches: &ArgMatches<'_>) -> Option<Bulk> {
     let draws = draws_within(500_000, matches.get_raw("operand").unwrap_or(&[]))?;
-    let lanes = lanes(matches.get_raw("lanes").unwrap_or(&[]))?;
+    let lanes = lanes(matches)?;
     Some(Bulk { draws, lanes })
 }
 
@@ -79,10 +79,10 @@ struct Settings {
 
 fn settings_of(matches: &ArgMatches<'_>) -> Option<Settings> {
     Some(Settings {
-        lanes: lanes(matches.get_raw("lanes").unwrap_or(&[]))?,
-        rounds: rounds(matches.get_raw("rounds").unwrap_or(&[]))?,
-        slots: slots(matches.get_raw("slots").unwrap_or(&[]))?,
-        double: double(matches.get_raw("queue").unwrap_or(&[]))?,
+        lanes: lanes(matches)?,
+        rounds: rounds(matches)?,
+        slots: slots(matches)?,
+        double: double(matches)?,
     })
 }
 
