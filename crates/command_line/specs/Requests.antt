@@ -8,6 +8,9 @@ use Rattle.command_line.specs.declared.asked.Request.TheVariants as request
 use Rattle.command_line.specs.declared.asked.WordsArgs.{WordsArgs}
 use Rattle.command_line.specs.declared.asked.Draws.{Draws}
 use Rattle.command_line.specs.declared.asked.Bulk.{Bulk as Drawn}
+use Rattle.command_line.specs.declared.settings.Settings.{Settings}
+use Rattle.clap.specs.declared.parser.matches.ArgMatches.{ArgMatches}
+use Rattle.command_line.specs.Found.{found_under, operands_name}
 
 abbrev pub words_options : List Text
 words_options = codes "lanes" ∷ codes "rounds" ∷ codes "slots" ∷ codes "queue" ∷ []
@@ -23,7 +26,7 @@ Reads options words Means =
 -- one or more files, and the options of `words`
 pub record AreWords (args : WordsArgs) (parts : List Part) (later : Option (List Text)) : Type 0 where
   pub names : map string_bytes args.names.items ≡ operands_of parts later
-  pub some : 0 < length args.names.items
+  pub some : 0 < length (operands_of parts later)
   pub lanes : IsLanes (values_of (codes "lanes") parts) args.lanes
   pub rounds : IsRounds (values_of (codes "rounds") parts) args.rounds
   pub slots : IsSlots (values_of (codes "slots") parts) args.slots
@@ -60,3 +63,15 @@ Asks line (request.Script file) = Commands (codes "script") [] line (IsFile (str
 Asks line (request.Steps file) = Commands (codes "steps") [] line (IsFile (string_bytes file))
 Asks line (request.Generate draws) = Commands (codes "gen") [] line (IsGen draws)
 Asks line (request.Bulk bulk) = Commands (codes "bulk") bulk_options line (IsBulk bulk)
+
+-- ---- the same, of the matches that clap has
+
+pub record AreSettings (matches : ArgMatches) (settings : Settings) : Type 0 where
+  pub lanes : IsLanes (found_under (codes "lanes") matches) settings.lanes
+  pub rounds : IsRounds (found_under (codes "rounds") matches) settings.rounds
+  pub slots : IsSlots (found_under (codes "slots") matches) settings.slots
+  pub queue : IsQueue (found_under (codes "queue") matches) settings.double
+
+abbrev pub IsDrawn : ArgMatches → Drawn → Type 0
+IsDrawn matches bulk = AreDraws 500000 bulk.draws (found_under operands_name matches)
+    × IsLanes (found_under (codes "lanes") matches) bulk.lanes

@@ -6,6 +6,7 @@ mod asking;
 mod matching;
 mod numbers;
 mod options;
+mod settings;
 #[cfg(test)]
 mod tests;
 
