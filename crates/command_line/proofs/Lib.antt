@@ -10,3 +10,4 @@ pub mod Lines
 pub mod Matches
 pub mod Given
 pub mod Plain
+pub mod Meanings

@@ -1,5 +1,5 @@
 //! The request of a command line.
-ghost use Rattle.std.specs.Prelude.{◌≡◌, ◌<◌, ℕ, List, IfOk, IfSome, IsNone, drop, length, map, string_bytes};
+ghost use Rattle.std.specs.Prelude.{◌≡◌, ℕ, List, [], IfOk, IfSome, IsNone, drop, map, string_bytes};
 ghost use Rattle.command_line.specs.Found.{found_under, operands_name};
 ghost use Rattle.command_line.specs.Requests.{bulk_options, words_options, AreDraws, AreSettings, AreWords, Asks, IsBulk, IsDrawn, IsFile, IsGen, Reads};
 ghost use Rattle.command_line.specs.declared.asked.Bulk.{Bulk as Drawn};
