@@ -27,7 +27,7 @@ bulk_plain words parts later bulk line means = parts_plain bulk_options words pa
   where
     all : (option : Text) → IsOneOf option bulk_options → AreOperands (values_of option parts)
     all option (inl is) = subst (λ (o : Text). AreOperands (values_of o parts)) (sym is) (numbers_plain 2 1 31 (values_of (codes "lanes") parts) bulk.lanes means.1)
-    all option (inr no) = absurd no
+    all option (inr refused) = absurd refused
 
 words_plain : (words : List Text) (parts : List Part) (later : Option (List Text)) (args : WordsArgs) → IsLine words_options words parts later
     → AreWords args parts later → ArePlain parts
@@ -38,7 +38,7 @@ words_plain words parts later args line means = parts_plain words_options words 
     all option (inr (inl is)) = subst (λ (o : Text). AreOperands (values_of o parts)) (sym is) (numbers_plain 1 1 1000 (values_of (codes "rounds") parts) args.rounds means.rounds)
     all option (inr (inr (inl is))) = subst (λ (o : Text). AreOperands (values_of o parts)) (sym is) (slots_plain (values_of (codes "slots") parts) args.slots means.slots)
     all option (inr (inr (inr (inl is)))) = subst (λ (o : Text). AreOperands (values_of o parts)) (sym is) (queue_plain (values_of (codes "queue") parts) args.double means.queue)
-    all option (inr (inr (inr (inr no)))) = absurd no
+    all option (inr (inr (inr (inr refused)))) = absurd refused
 
 -- ---- a line that means something has the operands and the values that were found
 
@@ -61,12 +61,12 @@ pub file_found : (words : List Text) (m : ArgMatches) (file : Text) → Shows []
 file_found words m file s is = (s.parts, s.later, s.line.0, sym s.operands ∙ is)
 
 pub file_refused : (words : List Text) → NoLine [] words → (file : Text) → Reads [] words (IsFile file) → ⊥
-file_refused words no file means = no means.0 means.1 means.2 (none_plain words means.0 means.1 means.2)
+file_refused words refused file means = refused means.0 means.1 means.2 (none_plain words means.0 means.1 means.2)
 
 pub file_none : (words : List Text) (m : ArgMatches) → Shows [] words m → ((file : Text) → found_under operands_name m ≡ file ∷ [] → ⊥)
     → (file : Text) → Reads [] words (IsFile file) → ⊥
-file_none words m s no file means =
-    no file (sym (same_operands [] words m s means.0 means.1 means.2 (none_plain words means.0 means.1 means.2)) ∙ means.3)
+file_none words m s refused file means =
+    refused file (sym (same_operands [] words m s means.0 means.1 means.2 (none_plain words means.0 means.1 means.2)) ∙ means.3)
 
 -- ---- draws
 
@@ -75,12 +75,12 @@ pub gen_found : (words : List Text) (m : ArgMatches) (draws : Draws) → Shows [
 gen_found words m draws s is = (s.parts, s.later, s.line.0, subst (AreDraws 1000000 draws) s.operands is)
 
 pub gen_refused : (words : List Text) → NoLine [] words → (draws : Draws) → Reads [] words (IsGen draws) → ⊥
-gen_refused words no draws means = no means.0 means.1 means.2 (none_plain words means.0 means.1 means.2)
+gen_refused words refused draws means = refused means.0 means.1 means.2 (none_plain words means.0 means.1 means.2)
 
 pub gen_none : (words : List Text) (m : ArgMatches) → Shows [] words m → ((draws : Draws) → AreDraws 1000000 draws (found_under operands_name m) → ⊥)
     → (draws : Draws) → Reads [] words (IsGen draws) → ⊥
-gen_none words m s no draws means =
-    no draws (subst (AreDraws 1000000 draws) (same_operands [] words m s means.0 means.1 means.2 (none_plain words means.0 means.1 means.2)) means.3)
+gen_none words m s refused draws means =
+    refused draws (subst (AreDraws 1000000 draws) (same_operands [] words m s means.0 means.1 means.2 (none_plain words means.0 means.1 means.2)) means.3)
 
 -- ---- draws that lanes count
 
@@ -93,13 +93,13 @@ bulk_found words m bulk s is = (
 )
 
 pub bulk_refused : (words : List Text) → NoLine bulk_options words → (bulk : Bulk) → Reads bulk_options words (IsBulk bulk) → ⊥
-bulk_refused words no bulk means = no means.0 means.1 means.2 (bulk_plain words means.0 means.1 bulk means.2 means.3)
+bulk_refused words refused bulk means = refused means.0 means.1 means.2 (bulk_plain words means.0 means.1 bulk means.2 means.3)
 
 pub bulk_none : (words : List Text) (m : ArgMatches) → Shows bulk_options words m → ((bulk : Bulk) → IsDrawn m bulk → ⊥)
     → (bulk : Bulk) → Reads bulk_options words (IsBulk bulk) → ⊥
-bulk_none words m s no bulk means =
+bulk_none words m s refused bulk means =
     let plain = bulk_plain words means.0 means.1 bulk means.2 means.3 in
-    no bulk (
+    refused bulk (
       subst (AreDraws 500000 bulk.draws) (same_operands bulk_options words m s means.0 means.1 means.2 plain) means.3.0,
       subst (λ (vs : List Text). IsLanes vs bulk.lanes) (same_values bulk_options words m s means.0 means.1 means.2 plain (codes "lanes") (inl refl)) means.3.1,
     )
@@ -129,14 +129,14 @@ words_found words m settings args s is names some lanes rounds slots double = (
 )
 
 pub words_refused : (words : List Text) → NoLine words_options words → (args : WordsArgs) → Reads words_options words (AreWords args) → ⊥
-words_refused words no args means = no means.0 means.1 means.2 (words_plain words means.0 means.1 args means.2 means.3)
+words_refused words refused args means = refused means.0 means.1 means.2 (words_plain words means.0 means.1 args means.2 means.3)
 
 pub words_unset : (words : List Text) (m : ArgMatches) → Shows words_options words m → ((settings : Settings) → AreSettings m settings → ⊥)
     → (args : WordsArgs) → Reads words_options words (AreWords args) → ⊥
-words_unset words m s no args means =
+words_unset words m s refused args means =
     let plain = words_plain words means.0 means.1 args means.2 means.3 in
     let same = same_values words_options words m s means.0 means.1 means.2 plain in
-    no (record { lanes = args.lanes; rounds = args.rounds; slots = args.slots; double = args.double }) (record {
+    refused (record { lanes = args.lanes; rounds = args.rounds; slots = args.slots; double = args.double }) (record {
       lanes = subst (λ (vs : List Text). IsLanes vs args.lanes) (same (codes "lanes") (inl refl)) means.3.lanes;
       rounds = subst (λ (vs : List Text). IsRounds vs args.rounds) (same (codes "rounds") (inr (inl refl))) means.3.rounds;
       slots = subst (λ (vs : List Text). IsSlots vs args.slots) (same (codes "slots") (inr (inr (inl refl)))) means.3.slots;

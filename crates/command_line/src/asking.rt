@@ -65,10 +65,11 @@ fn one_file(alloc: Global, words: &[String]) -> Result<Option<String>, OutOfMemo
     let Some(matches) = matching(alloc, NO_OPTIONS.as_slice(), words)? else {
         return Ok(None);
     };
-    match matches.get_raw("operand").unwrap_or(&[]) {
-        [file] => Ok(Some(String::from_str(alloc, file)?)),
-        _ => Ok(None),
+    let operands = matches.get_raw("operand").unwrap_or(&[]);
+    if operands.len() != 1 {
+        return Ok(None);
     }
+    Ok(Some(String::from_str(alloc, operands[0])?))
 }
 
 /// The draws of the words after `gen`. None exactly where they mean none.
