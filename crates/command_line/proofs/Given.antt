@@ -37,3 +37,7 @@ all_taken (x ∷ xs) (suc i) past = ap (λ (ys : List (Bor Text)). x ∷ ys) (al
 pub rules_are : (xs : List (Bor Text)) → map (λ (o : Bor Text). option_rule o.now) xs ≡ map option_rule (map (λ (o : Bor Text). o.now) xs)
 rules_are [] = refl
 rules_are (x ∷ xs) = ap (λ (rs : List Rule). option_rule x.now ∷ rs) (rules_are xs)
+
+pub texts_length : (xs : List (Bor Text)) → length (texts xs) ≡ length xs
+texts_length [] = refl
+texts_length (x ∷ xs) = ap suc (texts_length xs)

@@ -11,3 +11,4 @@ pub mod Matches
 pub mod Given
 pub mod Plain
 pub mod Meanings
+pub mod Commands
