@@ -1,6 +1,7 @@
 -- A line asks for what its command reads, and for nothing else.
-use Rattle.std.proofs.Common.{◌≡◌, ◌∙◌, ◌<◌, ℕ, zero, suc, true, false, refl, sym, ap, subst, arith, List, [], ◌∷◌, codes, drop, get_or, string_bytes, true≢false}
-use Rattle.std.specs.Prelude.{◌==◌}
+use Rattle.std.proofs.Common.{◌≡◌, ◌∙◌, ◌<◌, ℕ, zero, suc, true, false, refl, sym, ap, subst, arith, List, [], ◌∷◌, codes, drop, get_or, map, string_bytes, Global, Option, Some, true≢false}
+use Rattle.std.specs.Prelude.{◌==◌, slice_get, unwrap_or}
+use Rattle.std.specs.declared.string.String.{String}
 use Rattle.std.specs.Str.{bytes_eq}
 use Rattle.std.proofs.lemmas.Slice.Eq.{bytes_eq-Decides}
 use Rattle.command_line.specs.declared.asked.Bulk.{Bulk}
@@ -68,3 +69,11 @@ bulk_only line rest is none (request.Steps file) asks = differs (codes "bulk") (
 bulk_only line rest is none (request.Generate draws) asks = differs (codes "bulk") (codes "gen") line rest asks.0 refl is asks.1
 bulk_only line rest is none (request.Bulk bulk) asks =
     none bulk (subst (λ (ws : List Text). Reads bulk_options ws (IsBulk bulk)) (rest_is (codes "bulk") line asks.0 rest asks.1 is) asks.2)
+
+-- a line begins with its first word
+pub line_is : (words : List (String Global)) (command : String Global) (text : Text) → Some command ≡ slice_get words 0 → string_bytes command ≡ text
+    → map string_bytes words ≡ text ∷ drop 1 (map string_bytes words)
+line_is [] command text first is = absurd (true≢false (ap (λ (o : Option (String Global)). Rattle.std.specs.Option.is_some o) first))
+line_is (w ∷ ws) command text first is =
+    let same : command ≡ w = ap (λ (o : Option (String Global)). unwrap_or o command) first in
+    ap (λ (t : Text). t ∷ map string_bytes ws) (ap string_bytes (sym same) ∙ is)
