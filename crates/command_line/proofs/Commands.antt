@@ -1,5 +1,5 @@
 -- A line asks for what its command reads, and for nothing else.
-use Rattle.std.proofs.Common.{◌≡◌, ◌∙◌, ◌<◌, ℕ, zero, suc, true, false, refl, sym, ap, subst, arith, List, [], ◌∷◌, codes, drop, get_or, map, string_bytes, Global, Option, Some, true≢false}
+use Rattle.std.proofs.Common.{◌≡◌, ◌∙◌, ◌<◌, ℕ, zero, suc, false, refl, sym, ap, subst, arith, List, [], ◌∷◌, codes, drop, get_or, map, string_bytes, Global, Option, Some, true≢false}
 use Rattle.std.specs.Prelude.{◌==◌, slice_get, unwrap_or}
 use Rattle.std.specs.declared.string.String.{String}
 use Rattle.std.specs.Str.{bytes_eq}

@@ -1,8 +1,8 @@
 -- The values under a name, as the getter of the matches gives them, and lists of one value.
-use Rattle.std.proofs.Common.{◌≡◌, ◌∙◌, ◌<◌, ◌≤◌, ℕ, zero, suc, refl, sym, ap, arith, List, [], ◌∷◌, length, get_or, map, option_map, take, Option, Some, None, Bor}
+use Rattle.std.proofs.Common.{◌≡◌, ◌∙◌, ◌<◌, ◌≤◌, ℕ, zero, suc, refl, ap, arith, List, [], ◌∷◌, length, get_or, map, option_map, take, Option, Some, None, Bor}
 use Rattle.std.specs.Prelude.{unwrap_or}
 use Rattle.clap.specs.Matches.{found_of, matched_of, raw_values}
-use Rattle.clap.specs.Walk.{Rule, all_of, rows_of}
+use Rattle.clap.specs.Walk.{Rule}
 use Rattle.clap.specs.declared.parser.matches.ArgMatches.{ArgMatches}
 use Rattle.clap.proofs.WalkLemmas.{raw_values-rows}
 use Rattle.command_line.specs.Parts.{Text}

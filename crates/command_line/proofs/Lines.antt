@@ -1,11 +1,11 @@
 -- What is read is the line of the words, and every line whose values could be operands is read.
-use Rattle.std.proofs.Common.{◌≡◌, ◌∙◌, ◌⊎◌, ℕ, Bool, cond, true, false, inl, inr, refl, sym, ap, subst, List, [], ◌∷◌, ◌++◌, codes, Option, Some, None, append-nil, true≢false}
+use Rattle.std.proofs.Common.{◌≡◌, ◌∙◌, Bool, cond, true, false, refl, sym, ap, subst, List, [], ◌∷◌, ◌++◌, codes, Option, Some, None, append-nil, true≢false}
 use Rattle.std.specs.Prelude.{unwrap_or}
 use Rattle.std.specs.Str.{bytes_eq}
 use Rattle.std.proofs.lemmas.Slice.Eq.{bytes_eq-Decides}
 use Rattle.clap.specs.Lexer.{long_of, short_of}
-use Rattle.command_line.specs.Parts.{Part, Text, IsLine, IsOneOf, IsOperand, IsPart, apart, ending, joined, operand, spelled}
-use Rattle.command_line.specs.Found.{ArePlain, IsOnlyLine, are_names, is_name}
+use Rattle.command_line.specs.Parts.{Part, Text, IsLine, IsOneOf, IsPart, apart, joined, operand, spelled}
+use Rattle.command_line.specs.Found.{ArePlain, IsOnlyLine, are_names}
 use Rattle.command_line.proofs.Reading.{Read, before, read, read_option, read_value, read_word}
 use Rattle.command_line.proofs.Rules.{is_one_of, one_of_named}
 use Rattle.command_line.proofs.Spelling.{alone_is, alone_reads, joined_is, joined_reads, no_dashes, one_of-from, one_of-to, operand_is, operand_reads}

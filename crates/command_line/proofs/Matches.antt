@@ -1,5 +1,5 @@
 -- The matches that clap has of the words, and its refusal of them.
-use Rattle.std.proofs.Common.{◌≡◌, ◌∙◌, ◌⊎◌, ◌&&◌, ◌||◌, ℕ, Bool, cond, true, false, inl, inr, refl, sym, ap, subst, List, [], ◌∷◌, ◌++◌, codes, drop, map, Option, Some, None, append-nil, true≢false}
+use Rattle.std.proofs.Common.{◌≡◌, ◌∙◌, ◌&&◌, ◌||◌, Bool, cond, true, false, inl, inr, refl, sym, ap, subst, List, [], ◌∷◌, ◌++◌, drop, map, Option, Some, None, append-nil, true≢false}
 use Rattle.std.specs.Prelude.{is_some, option_and_then, unwrap_or, string_bytes, find}
 use Rattle.std.specs.List.{flat_map, fold, list_any}
 use Rattle.std.specs.Option.{option_map_or}
@@ -18,11 +18,11 @@ use Rattle.clap.specs.Values.{kind_of}
 use Rattle.clap.specs.declared.error.Error.{Error}
 use Rattle.clap.specs.declared.error.kind.ErrorKind.TheVariants.{OutOfMemory}
 use Rattle.clap.specs.declared.parser.matches.ArgMatches.{ArgMatches}
-use Rattle.command_line.specs.Parts.{Part, Text, IsLine, IsOneOf, apart, joined, operand, operand_in, operands_of, value_in, values_of}
-use Rattle.command_line.specs.Found.{ArePlain, Shows, app_with, are_names, found_under, is_name, operands_name, values_in}
+use Rattle.command_line.specs.Parts.{Part, Text, IsLine, IsOneOf, apart, joined, operand, operand_in, value_in, values_of}
+use Rattle.command_line.specs.Found.{ArePlain, Shows, app_with, are_names, operands_name, values_in}
 use Rattle.command_line.proofs.Lines.{no_line, only_line}
-use Rattle.command_line.proofs.Reading.{Agree, Read, agree-same, all_values, later_value, part_value, read}
-use Rattle.command_line.proofs.Rules.{built_is, is_known, is_one_of, one_of_named, other_name, ready, ready_app, ready_option, ready_operands, ready_shape}
+use Rattle.command_line.proofs.Reading.{Agree, Read, agree-same, all_values, part_value, read}
+use Rattle.command_line.proofs.Rules.{built_is, is_known, one_of_named, other_name, ready, ready_app, ready_option, ready_operands, ready_shape}
 use Rattle.command_line.proofs.Rows.{of_name, refuted}
 use Rattle.command_line.proofs.Spelling.{one_of-to}
 use Rattle.command_line.proofs.Walks.{calm, ends, held_with, total, walk_at}

@@ -1,5 +1,5 @@
 -- What the words mean, by what was found, and that they mean nothing else.
-use Rattle.std.proofs.Common.{◌≡◌, ◌∙◌, ◌<◌, ◌≤◌, ◌-◌, ◌^◌, ℕ, Bool, false, inl, inr, refl, sym, ap, subst, arith, List, [], ◌∷◌, codes, get_or, length, map, string_bytes, Option, Bor}
+use Rattle.std.proofs.Common.{◌≡◌, ◌∙◌, ◌<◌, ◌≤◌, ◌-◌, ◌^◌, ℕ, Bool, inl, inr, refl, sym, ap, subst, arith, List, [], ◌∷◌, codes, get_or, length, map, string_bytes, Option, Bor}
 use Rattle.clap.specs.declared.parser.matches.ArgMatches.{ArgMatches}
 use Rattle.command_line.specs.declared.asked.Bulk.{Bulk}
 use Rattle.command_line.specs.declared.asked.Draws.{Draws}

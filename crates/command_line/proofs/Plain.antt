@@ -1,5 +1,5 @@
 -- A value that means something could be an operand.
-use Rattle.std.proofs.Common.{◌≡◌, ◌∙◌, ◌<◌, ◌⊎◌, ℕ, Bool, cond, true, false, inl, inr, refl, sym, ap, subst, arith, List, [], ◌∷◌, ◌++◌, codes, get_or, Option}
+use Rattle.std.proofs.Common.{◌≡◌, ◌∙◌, ◌⊎◌, ℕ, Bool, cond, true, inl, inr, refl, sym, ap, subst, arith, List, [], ◌∷◌, ◌++◌, get_or, Option}
 use Rattle.std.specs.Prelude.{⊤}
 use Rattle.std.specs.Str.{bytes_eq}
 use Rattle.std.proofs.lemmas.Slice.Eq.{bytes_eq-Decides}

@@ -1,5 +1,5 @@
 -- The words as clap reads them: a value in the next word has to be one that could be an operand.
-use Rattle.std.proofs.Common.{◌≡◌, ◌∙◌, ◌&&◌, ℕ, Bool, cond, true, false, refl, sym, ap, List, [], ◌∷◌, ◌++◌, codes, Option, Some, None, append_assoc}
+use Rattle.std.proofs.Common.{◌≡◌, ◌∙◌, cond, sym, ap, List, [], ◌∷◌, ◌++◌, codes, Option, Some, None, append_assoc}
 use Rattle.std.specs.Prelude.{unwrap_or}
 use Rattle.std.specs.List.{flat_map}
 use Rattle.std.specs.Str.{bytes_eq}

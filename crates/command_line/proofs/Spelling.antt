@@ -1,5 +1,5 @@
 -- How a word that begins with `--` is spelled, and how an operand isn't.
-use Rattle.std.proofs.Common.{◌≡◌, ◌≢◌, ◌∙◌, ◌<◌, ◌+◌, ◌⊎◌, ◌&&◌, ◌||◌, ℕ, Bool, cond, true, false, not, suc, inl, inr, refl, sym, ap, arith, List, [], ◌∷◌, ◌++◌, codes, length, take, drop, Option, Some, None, true≢false}
+use Rattle.std.proofs.Common.{◌≡◌, ◌∙◌, ◌+◌, ◌&&◌, ◌||◌, ℕ, Bool, cond, true, false, not, suc, inl, inr, refl, sym, ap, arith, List, [], ◌∷◌, ◌++◌, codes, length, take, drop, Option, Some, None, true≢false}
 use Rattle.std.specs.Prelude.{◌==◌, option_and_then, slice_index, unwrap_or}
 use Rattle.std.specs.List.{after_first, before_first, list_any, position_or_len}
 use Rattle.std.specs.Str.{bytes_eq}
@@ -8,7 +8,7 @@ use Rattle.std.proofs.lemmas.Bool.{eqb-true}
 use Rattle.std.proofs.lemmas.Slice.Eq.{bytes_eq-Decides}
 use Rattle.clap.specs.Lexer.{has_byte, long_of, long_of_rest, name_and_value, short_of, short_of_rest, strip_byte}
 use Rattle.command_line.specs.Parts.{Text, IsOneOf, IsOperand}
-use Rattle.command_line.specs.Found.{is_name, operands_name}
+use Rattle.command_line.specs.Found.{is_name}
 use Rattle.command_line.proofs.Rules.{is_one_of}
 use Rattle.command_line.proofs.Rows.{refuted}
 

@@ -1,15 +1,15 @@
 -- What each kind of word is for clap's walk.
-use Rattle.std.proofs.Common.{◌≡◌, ◌∙◌, ◌<◌, ℕ, Bool, cond, true, false, refl, sym, ap, subst, arith, List, [], ◌∷◌, ◌++◌, codes, length, Option, Some, None}
+use Rattle.std.proofs.Common.{◌≡◌, ◌∙◌, ◌<◌, ℕ, Bool, cond, true, false, refl, sym, ap, subst, arith, List, [], ◌∷◌, ◌++◌, length, Option, Some, None}
 use Rattle.std.specs.Prelude.{◌==◌, drop, encode_utf8, option_and_then, slice_get, unwrap_or}
 use Rattle.std.specs.Option.{option_map_or}
 use Rattle.std.specs.Str.{IsUtf8, bytes_eq, chars, encode_utf8_all}
 use Rattle.std.proofs.lemmas.Str.{encode_ascii, encodes-chars}
 use Rattle.std.proofs.lemmas.Slice.Eq.{bytes_eq-Decides}
 use Rattle.std.proofs.lemmas.Bool.{eqb-true}
-use Rattle.clap.specs.Faults.{bundle_fault, bundle_step_fault, flag_word_fault, flags_fault, long_fault, settle_fault, short_fault, use_fault}
+use Rattle.clap.specs.Faults.{bundle_fault, bundle_step_fault, flag_word_fault, flags_fault, long_fault, short_fault, use_fault}
 use Rattle.clap.specs.Kinds.{Kinds, or_else}
-use Rattle.clap.specs.Lexer.{long_of, short_of, short_of_rest, strip_byte}
-use Rattle.clap.specs.Walk.{Held, Row, Rule, Step, Waiting, after_flag, arg_by_long, arg_by_short, idle, long_met, long_or_other, long_word, next, option, option_word, plain_word, reacted, settled, short_or_plain, value}
+use Rattle.clap.specs.Lexer.{long_of, short_of, short_of_rest}
+use Rattle.clap.specs.Walk.{Held, Row, Rule, Waiting, after_flag, arg_by_long, arg_by_short, idle, long_met, long_or_other, next, option, option_word, plain_word, settled, short_or_plain, value}
 use Rattle.clap.specs.declared.error.kind.ErrorKind.TheVariants as kind
 use Rattle.command_line.specs.Parts.{Text}
 use Rattle.command_line.specs.Found.{are_names}

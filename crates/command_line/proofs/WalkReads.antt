@@ -1,5 +1,5 @@
 -- Clap's walk refuses the words exactly where they aren't read, and finds what is read.
-use Rattle.std.proofs.Common.{◌≡◌, ◌∙◌, ◌⊎◌, ℕ, Bool, cond, true, false, inl, inr, refl, sym, ap, List, [], ◌∷◌, ◌++◌, codes, Option, Some, None, append-nil, append_assoc}
+use Rattle.std.proofs.Common.{◌≡◌, ◌∙◌, Bool, cond, true, false, inl, inr, refl, sym, ap, List, [], ◌∷◌, ◌++◌, codes, Option, Some, None, append-nil, append_assoc}
 use Rattle.std.specs.Prelude.{⊤}
 use Rattle.std.specs.Str.{IsUtf8, bytes_eq}
 use Rattle.clap.specs.Faults.{settle_fault}
@@ -7,11 +7,11 @@ use Rattle.clap.specs.Kinds.{Kinds}
 use Rattle.clap.specs.Lexer.{long_of, short_of}
 use Rattle.clap.specs.Walk.{Held, Row, Waiting, Walk, idle, option, positional, settled}
 use Rattle.clap.specs.declared.error.kind.ErrorKind.TheVariants as kind
-use Rattle.command_line.specs.Parts.{Part, Text, apart, joined, operand}
+use Rattle.command_line.specs.Parts.{Text, apart, joined, operand}
 use Rattle.command_line.specs.Found.{are_names, operands_name, values_in}
-use Rattle.command_line.proofs.Reading.{Agree, Read, agree-before, agree-same, before, read, read_option, read_value, read_word}
+use Rattle.command_line.proofs.Reading.{Agree, Read, agree-before, agree-same, before, read, read_value, read_word}
 use Rattle.command_line.proofs.Rules.{is_one_of, ready}
-use Rattle.command_line.proofs.Rows.{of_name, values_after, with_use}
+use Rattle.command_line.proofs.Rows.{values_after, with_use}
 use Rattle.command_line.proofs.Walks.{Due, IsKnown, as_written, calm, due, ends, ends_next, held_for, held_with, resting, rows_with, settle_fails, settle_is, settle_passes, total, total_fails, total_next, total_nil, turn_dashes, turn_fails, turn_goes, turn_later, turn_operand, walk_at, walk_dashes, walk_goes, walk_later, walk_operand}
 use Rattle.command_line.proofs.Turns.{joined_passes, joined_steps, operand_steps, option_passes, option_steps, plain_passes, short_fails, unknown_fails, value_steps, waiting_fails}
 

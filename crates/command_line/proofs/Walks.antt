@@ -1,22 +1,21 @@
 -- What clap's walk over the words comes to, word by word.
-use Rattle.std.proofs.Common.{◌≡◌, ◌∙◌, ◌&&◌, ◌||◌, ◌⊎◌, ℕ, Bool, cond, true, false, inl, inr, refl, sym, ap, List, [], ◌∷◌, ◌++◌, codes, map, Option, Some, None, append-nil, append_assoc}
+use Rattle.std.proofs.Common.{◌≡◌, ◌∙◌, ◌&&◌, ◌||◌, ◌⊎◌, Bool, cond, true, false, inl, inr, refl, ap, List, [], ◌∷◌, codes, Option, Some, None}
 use Rattle.std.specs.Prelude.{⊤}
 use Rattle.std.specs.List.{fold}
 use Rattle.std.specs.Option.{option_map_or}
 use Rattle.std.specs.Str.{bytes_eq}
-use Rattle.std.proofs.lemmas.Slice.Eq.{bytes_eq-Decides}
-use Rattle.clap.specs.Faults.{flag_word_fault, flags_fault, positional_fault, settle_fault, step_fault, stray_fault, turn_fault, walk_fault, word_fault, other_fault}
+use Rattle.clap.specs.Faults.{flag_word_fault, positional_fault, settle_fault, step_fault, stray_fault, turn_fault, walk_fault, word_fault, other_fault}
 use Rattle.clap.specs.Kinds.{Kinds, or_else}
-use Rattle.clap.specs.Lexer.{long_of, short_of}
+use Rattle.clap.specs.Lexer.{long_of}
 use Rattle.clap.specs.Simple.{Shape}
-use Rattle.clap.specs.Walk.{Held, Row, Rule, Step, Waiting, Walk, after_flag, after_step, arg_by_index, idle, is_pending, long_met, long_or_other, long_word, next, option, option_met, option_word, plain_word, positional, positional_held, pushed, reacted, reading_by, settled, short_or_plain, subcommand_met, subcommand_or_other, to_positional, trailing, value, walked, word_met}
+use Rattle.clap.specs.Walk.{Held, Row, Rule, Step, Waiting, Walk, after_step, idle, is_pending, long_or_other, next, option, plain_word, positional, positional_held, pushed, reading_by, settled, subcommand_met, subcommand_or_other, to_positional, trailing, value, walked, word_met}
 use Rattle.clap.specs.declared.builder.value_parser.Reading.{Reading}
 use Rattle.clap.specs.declared.error.kind.ErrorKind.TheVariants as kind
 use Rattle.clap.specs.declared.error.kind.ErrorKind.{ErrorKind}
-use Rattle.command_line.specs.Parts.{Part, Text, apart, joined, operand}
-use Rattle.command_line.specs.Found.{are_names, operands_name, values_in}
-use Rattle.command_line.proofs.Rules.{by_index, by_long, by_short, is_one_of, operands_by_id, option_by_id, ready, ready_operands, ready_option, ready_shape}
-use Rattle.command_line.proofs.Rows.{of_name, values_after, with_use}
+use Rattle.command_line.specs.Parts.{Text}
+use Rattle.command_line.specs.Found.{are_names, operands_name}
+use Rattle.command_line.proofs.Rules.{by_index, is_one_of, operands_by_id, option_by_id, ready, ready_operands, ready_shape}
+use Rattle.command_line.proofs.Rows.{with_use}
 
 -- the value that a name was used with last, which is still to be noted
 pub data Due : Type 0 where

@@ -1,5 +1,5 @@
 -- The command that clap is given, and the matches that it has of the words.
-use Rattle.std.specs.Prelude.{ℕ, ◌≡◌, ◌&&◌, ⊤, Bool, true, not, List, [], ◌∷◌, ◌++◌, Some, None, map, unwrap_or, codes}
+use Rattle.std.specs.Prelude.{◌≡◌, ◌&&◌, ⊤, Bool, true, not, List, [], ◌∷◌, ◌++◌, Some, map, unwrap_or, codes}
 use Rattle.std.specs.List.{list_all}
 use Rattle.std.specs.Str.{bytes_eq}
 use Rattle.std.specs.declared.option.Option.{Option}

@@ -1,4 +1,4 @@
-use Rattle.std.proofs.Common.{◌≡◌, ◌∙◌, ◌<◌, ◌≤◌, ℕ, List, [], ◌∷◌, ◌++◌, ap, ap₂, arith, length, map, string_bytes, sym, take, Bor}
+use Rattle.std.proofs.Common.{◌∙◌, ◌<◌, ◌≤◌, ℕ, List, [], ◌∷◌, ◌++◌, ap, ap₂, arith, length, map, string_bytes, sym, Bor}
 use Rattle.std.proofs.lemmas.List.{map-append, map_more}
 use Rattle.command_line.proofs.Given.{all_taken}
 use Rattle.command_line.proofs.asking.copied.Goals as goal

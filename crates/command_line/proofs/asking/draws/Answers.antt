@@ -1,8 +1,6 @@
-use Rattle.std.proofs.Common.{◌≡◌, ℕ, List, [], ap, codes, drop, map, refl, rules, string_bytes, subst, Bor}
+use Rattle.std.proofs.Common.{◌≡◌, ℕ, List, [], ap, drop, map, rules, string_bytes, subst, Bor}
 use Rattle.std.specs.Option.{IfSome, is_some}
-use Rattle.clap.specs.declared.parser.matches.ArgMatches.{ArgMatches}
 use Rattle.command_line.specs.Found.{Shows}
-use Rattle.command_line.specs.Requests.{bulk_options, words_options}
 use Rattle.command_line.proofs.Meanings.{NoLine, gen_none, gen_refused}
 use Rattle.command_line.proofs.asking.draws.Goals as goal
 

@@ -1,4 +1,4 @@
-use Rattle.std.proofs.Common.{◌≡◌, ℕ, List, [], refl, arith}
+use Rattle.std.proofs.Common.{[], refl, arith}
 use Rattle.command_line.proofs.Meanings.{three_draws}
 use Rattle.command_line.proofs.asking.draws_within.Goals as goal
 

@@ -1,4 +1,4 @@
-use Rattle.std.proofs.Common.{◌≡◌, ◌∙◌, ◌<◌, ◌≤◌, ℕ, List, [], ◌∷◌, ap, arith, codes, drop, length, map, refl, rules, string_bytes, subst, sym, Bor}
+use Rattle.std.proofs.Common.{◌≡◌, ◌∙◌, ℕ, List, [], ◌∷◌, ap, arith, drop, length, map, refl, rules, string_bytes, subst, sym, Bor}
 use Rattle.std.specs.Option.{IfSome, is_some}
 use Rattle.command_line.specs.Found.{Shows, found_under, operands_name}
 use Rattle.command_line.proofs.Given.{given_is, one_text, texts, texts_length}

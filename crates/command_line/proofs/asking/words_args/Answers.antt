@@ -1,9 +1,8 @@
-use Rattle.std.proofs.Common.{◌≡◌, ◌∙◌, ◌<◌, ℕ, List, [], ap, arith, codes, drop, length, map, refl, rules, string_bytes, subst, sym, Bor}
+use Rattle.std.proofs.Common.{◌≡◌, ◌∙◌, ◌<◌, ℕ, List, ap, arith, drop, length, map, refl, rules, string_bytes, subst, sym, Bor}
 use Rattle.std.proofs.lemmas.Bool.{eqb-true}
 use Rattle.std.specs.Option.{IfSome, is_some}
-use Rattle.clap.specs.declared.parser.matches.ArgMatches.{ArgMatches}
 use Rattle.command_line.specs.Found.{Shows, found_under, operands_name}
-use Rattle.command_line.specs.Requests.{bulk_options, words_options}
+use Rattle.command_line.specs.Requests.{words_options}
 use Rattle.command_line.proofs.Commands.{above_zero}
 use Rattle.command_line.proofs.Given.{given_is, texts, texts_length}
 use Rattle.command_line.proofs.Meanings.{NoLine, words_found, words_none, words_refused, words_unset}

@@ -1,7 +1,7 @@
-use Rattle.std.proofs.Common.{◌≡◌, ◌∙◌, ◌<◌, ◌≤◌, ℕ, List, [], ◌∷◌, ◌++◌, false, true, ap, ap₂, arith, length, map, refl, rules, sym, take, Bor}
+use Rattle.std.proofs.Common.{◌≡◌, ◌∙◌, ◌<◌, ◌≤◌, ℕ, List, [], ◌∷◌, ◌++◌, false, true, ap, ap₂, arith, length, map, rules, sym, take, Bor}
 use Rattle.std.proofs.lemmas.List.{map_more}
 use Rattle.std.proofs.lemmas.Result.{IfOk-weaker}
-use Rattle.clap.specs.Simple.{App, Shape, app_of, app_of_fields, on_top, with_rule}
+use Rattle.clap.specs.Simple.{Shape, app_of_fields, on_top, with_rule}
 use Rattle.clap.specs.Walk.{Rule, rule_of}
 use Rattle.command_line.specs.Found.{app_raw, operands_rule, option_rule}
 use Rattle.command_line.proofs.Given.{all_taken, rules_are}

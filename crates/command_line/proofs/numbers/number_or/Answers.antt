@@ -1,4 +1,4 @@
-use Rattle.std.proofs.Common.{◌≡◌, ℕ, List, [], subst, arith}
+use Rattle.std.proofs.Common.{ℕ, List, [], subst, arith}
 use Rattle.command_line.specs.Values.{IsNumberOr}
 use Rattle.command_line.proofs.Given.{one_text}
 use Rattle.command_line.proofs.numbers.number_or.Goals as goal

@@ -1,4 +1,4 @@
-use Rattle.std.proofs.Common.{◌≡◌, ◌∙◌, ℕ, Bool, List, ap, codes, refl, subst, sym, Bor}
+use Rattle.std.proofs.Common.{◌≡◌, ◌∙◌, ℕ, List, ap, codes, refl, subst, sym, Bor}
 use Rattle.std.specs.Option.{IfSome}
 use Rattle.command_line.specs.Found.{found_under}
 use Rattle.command_line.specs.Values.{IsSlots}

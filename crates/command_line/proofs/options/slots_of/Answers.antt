@@ -1,5 +1,4 @@
-use Rattle.std.proofs.Common.{◌≡◌, ℕ, List, [], refl, subst, arith}
-use Rattle.std.specs.declared.option.Option.{Option}
+use Rattle.std.proofs.Common.{ℕ, List, [], refl, subst, arith}
 use Rattle.command_line.specs.Values.{IsSlots}
 use Rattle.command_line.proofs.Given.{one_text}
 use Rattle.command_line.proofs.options.slots_of.Goals as goal
