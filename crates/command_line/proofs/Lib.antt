@@ -12,3 +12,4 @@ pub mod Given
 pub mod Plain
 pub mod Meanings
 pub mod Commands
+pub mod OneLine

@@ -83,8 +83,7 @@ module _ (options : List Text) where
     λ name one r e. absurd (none_read r e),
   )
   lines (word ∷ rest) =
-      let tail = lines rest in
-      (
+      let tail = lines rest in (
         λ r e. word_line word rest tail.0 tail.1 r (bytes_eq word (codes "--")) (long_of word) (short_of word) refl refl refl e,
         λ name one r e. value_line word rest tail.0 name one r (bytes_eq word (codes "--")) (long_of word) (short_of word) e,
       )
@@ -95,7 +94,6 @@ module _ (options : List Text) where
   -- ---- every such line is read
 
   module _ (named : are_names options ≡ true) where
-
     pub line_is_read : (words : List Text) (parts : List Part) (later : Option (List Text)) → IsLine options words parts later → ArePlain parts
         → read options None words ≡ Some (record { parts = parts; later = later })
     line_is_read words [] None is plain = ap (read options None) is
@@ -139,8 +137,8 @@ module _ (options : List Text) where
     only_line words r e = (
       read_is_line words r e,
       λ others last is plain.
-      let same : ◌≡◌ {A = Read} (record { parts = others; later = last }) r = some_read _ r (sym (line_is_read words others last is plain) ∙ e) in
-      (ap (λ (x : Read). x.parts) same, ap (λ (x : Read). x.later) same),
+          let same : ◌≡◌ {A = Read} (record { parts = others; later = last }) r = some_read _ r (sym (line_is_read words others last is plain) ∙ e) in
+          (ap (λ (x : Read). x.parts) same, ap (λ (x : Read). x.later) same),
     )
 
     pub no_line : (words : List Text) (parts : List Part) (later : Option (List Text)) → read options None words ≡ None → IsLine options words parts later → ArePlain parts → ⊥

@@ -138,7 +138,7 @@ module _ (options : List Text) (named : are_names options ≡ true) where
   option_all option one r =
       let differs = other_name option (one_of_named options option named (one_of-to option options one)) in
       let other : bytes_eq operands_name option ≡ false = refuted operands_name option (λ e.
-          true≢false (sym ((bytes_eq-Decides option operands_name).1 (sym e)) ∙ differs)) in
+      true≢false (sym ((bytes_eq-Decides option operands_name).1 (sym e)) ∙ differs)) in
       (λ i. values_same option other r.parts i ++ cond (other i) (unwrap_or r.later []) [])
       ∙ append-nil (values_of option r.parts)
 

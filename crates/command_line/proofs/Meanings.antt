@@ -166,8 +166,7 @@ pub three_draws : (most : ℕ) (draws : Draws) (xs : List (Bor Text)) (d : Bor T
     × IsNumberWithin 1 1000000 (get_or xs 2 d).now draws.vocabulary
 three_draws many draws xs d least most is =
     let same = sym is.3 ∙ three_texts xs d least most in
-    let at : ℕ → List Text → Text = λ i ts. get_or ts i [] in
-    (
+    let at : ℕ → List Text → Text = λ i ts. get_or ts i [] in (
       subst (λ (w : Text). IsNumberWithin 0 (2 ^ 64 - 1) w draws.seed) (ap (at 0) same) is.4,
       subst (λ (w : Text). IsNumberWithin 0 many w draws.words) (ap (at 1) same) is.5,
       subst (λ (w : Text). IsNumberWithin 1 1000000 w draws.vocabulary) (ap (at 2) same) is.6,

@@ -12,7 +12,6 @@ abbrev pub AreOperands : List Text → Type 0
 AreOperands [] = ⊤
 AreOperands (word ∷ words) = IsOperand word × AreOperands words
 
-
 pub number_plain : (word : Text) (n : ℕ) → IsNumber word n → IsOperand word
 number_plain word n is = inr (λ dash. go is.sign dash)
   where

@@ -71,9 +71,11 @@ joins xs ys zs us = append_assoc xs ys (zs ++ us) ∙ ap (λ (t : List Text). xs
 pub agree-before : (faults : Kinds) (rows : List Row) (so_far next : Text → List Text) (part : Part) (q : Option Read)
     → ((id : Text) → next id ≡ so_far id ++ part_value id part) → Agree faults rows next q → Agree faults rows so_far (before part q)
 agree-before faults rows so_far next part None step h = h
-agree-before faults rows so_far next part (Some read) step h =
-    (h.0, λ id. h.1 id ∙ ap (λ (t : List Text). t ++ all_values id read) (step id)
-    ∙ joins (so_far id) (part_value id part) (flat_map (part_value id) read.parts) (later_value id read.later))
+agree-before faults rows so_far next part (Some read) step h = (
+  h.0,
+  λ id. h.1 id ∙ ap (λ (t : List Text). t ++ all_values id read) (step id)
+      ∙ joins (so_far id) (part_value id part) (flat_map (part_value id) read.parts) (later_value id read.later),
+)
 
 -- the same, of equal faults and rows
 pub agree-same : (a b : Kinds) (xs ys : List Row) (so_far : Text → List Text) (q : Option Read) → a ≡ b → xs ≡ ys

@@ -43,27 +43,28 @@ module _ (options : List Text) (named : are_names options ≡ true) where
   agrees_next w v word rest found q turn step h =
       agree-same _ _ _ _ found q (total_next options named w v word rest turn step) (ends_next options named w v word rest step) h
 
-
   -- ---- after `--`
 
   later_reads : (words : List Text) (waiting : Waiting) (rows : List Row) (d : Due) → IsKnown options named d
       → Agrees (walk_at waiting true (held_with rows d)) words (so_far rows d) (Some (record { parts = []; later = Some words }))
   later_reads [] waiting rows d known =
-      let w = walk_at waiting true (held_with rows d) in
-      (total_nil options named w ∙ settle_passes options named rows d known,
-      λ id. ap (λ (h : Held). values_in id h.rows) (settle_is options named rows d known)
-      ∙ later_none (bytes_eq operands_name id) (so_far rows d id))
+      let w = walk_at waiting true (held_with rows d) in (
+        total_nil options named w ∙ settle_passes options named rows d known,
+        λ id. ap (λ (h : Held). values_in id h.rows) (settle_is options named rows d known)
+            ∙ later_none (bytes_eq operands_name id) (so_far rows d id),
+      )
   later_reads (word ∷ rest) waiting rows d known =
       let w = walk_at waiting true (held_with rows d) in
       let after = rows_with rows d in
       let v = walk_at positional true (held_with after (due operands_name word)) in
       let tail = later_reads rest positional after (due operands_name word) (inr refl) in
       let turn = turn_later options named waiting word (held_with rows d) ∙ settle_passes options named rows d known in
-      let step = walk_later options named waiting word rows d known in
-      (total_next options named w v word rest turn step ∙ tail.0,
-      λ id. ap (λ (t : List Row). values_in id t) (ends_next options named w v word rest step) ∙ tail.1 id
-      ∙ ap (λ (t : List Text). t ++ cond (bytes_eq operands_name id) rest []) (values_after operands_name as_written word after id)
-      ∙ later_joins (bytes_eq operands_name id) (so_far rows d id) word rest)
+      let step = walk_later options named waiting word rows d known in (
+        total_next options named w v word rest turn step ∙ tail.0,
+        λ id. ap (λ (t : List Row). values_in id t) (ends_next options named w v word rest step) ∙ tail.1 id
+            ∙ ap (λ (t : List Text). t ++ cond (bytes_eq operands_name id) rest []) (values_after operands_name as_written word after id)
+            ∙ later_joins (bytes_eq operands_name id) (so_far rows d id) word rest,
+      )
 
   stuck_fails : (words : List Text) (waiting : Waiting) (name : Text) (rows : List Row) → is_one_of name options ≡ true
       → total options named (walk_at waiting true (held_for name rows)) words ≡ [] → ⊥
@@ -198,17 +199,17 @@ module _ (options : List Text) (named : are_names options ≡ true) where
 
   pub walk_reads : (words : List Text) → AreUtf8 words → AtRest words × AtValue words
   walk_reads [] utf = (
-    λ b rows d known.
-    (total_nil options named (walk_at (resting b) false (held_with rows d)) ∙ settle_passes options named rows d known,
-    λ id. ap (λ (h : Held). values_in id h.rows) (settle_is options named rows d known)
-    ∙ later_none (bytes_eq operands_name id) (so_far rows d id)),
+    λ b rows d known. (
+      total_nil options named (walk_at (resting b) false (held_with rows d)) ∙ settle_passes options named rows d known,
+      λ id. ap (λ (h : Held). values_in id h.rows) (settle_is options named rows d known)
+          ∙ later_none (bytes_eq operands_name id) (so_far rows d id),
+    ),
     λ name rows known none.
-    let fault = sym (settle_fails options named name rows known) ∙ sym (total_nil options named (walk_at (option name) false (held_for name rows))) ∙ none in
-    absurd (cc fault),
+        let fault = sym (settle_fails options named name rows known) ∙ sym (total_nil options named (walk_at (option name) false (held_for name rows))) ∙ none in
+        absurd (cc fault),
   )
   walk_reads (word ∷ rest) utf =
-      let tail = walk_reads rest utf.1 in
-      (
+      let tail = walk_reads rest utf.1 in (
         λ b rows d known. rest_word word rest utf.0 tail.0 tail.1 b rows d known (bytes_eq word (codes "--")) (long_of word) (short_of word) refl refl refl,
         λ name rows known. wait_word word rest utf.0 tail.0 name rows known (bytes_eq word (codes "--")) (long_of word) (short_of word) refl refl refl,
       )

@@ -1,12 +1,11 @@
 //! The request of a command line.
 ghost use Rattle.std.specs.Prelude.{◌≡◌, ℕ, List, [], IfOk, IfSome, IsNone, drop, map, string_bytes};
 ghost use Rattle.command_line.specs.Found.{found_under, operands_name};
-ghost use Rattle.command_line.specs.Requests.{bulk_options, words_options, AreDraws, AreSettings, AreWords, Asks, IsBulk, IsDrawn, IsFile, IsGen, Reads};
+ghost use Rattle.command_line.specs.Requests.{bulk_options, words_options, AreDraws, AreWords, Asks, IsBulk, IsDrawn, IsFile, IsGen, Reads};
 ghost use Rattle.command_line.specs.declared.asked.Bulk.{Bulk as Drawn};
 ghost use Rattle.command_line.specs.declared.asked.Draws.{Draws as Drawing};
 ghost use Rattle.command_line.specs.declared.asked.Request.{Request as Asked};
 ghost use Rattle.command_line.specs.declared.asked.WordsArgs.{WordsArgs as Counting};
-ghost use Rattle.command_line.specs.declared.settings.Settings.{Settings as Set};
 
 use crate::asked::{Bulk, Draws, Request, WordsArgs};
 use crate::matching::matching;
@@ -18,7 +17,9 @@ use out_of_memory::OutOfMemory;
 use std::alloc::Global;
 
 static WORDS_OPTIONS: [&str; 4] = ["lanes", "rounds", "slots", "queue"];
+
 static BULK_OPTIONS: [&str; 1] = ["lanes"];
+
 static NO_OPTIONS: [&str; 0] = [];
 
 /// What the words of a command line ask for. None exactly where they ask for nothing. Linear in the bytes of the words.

@@ -3,6 +3,7 @@
 
 mod asked;
 mod asking;
+pub mod laws;
 mod matching;
 mod numbers;
 mod options;

@@ -1,9 +1,9 @@
 //! The words after a command, as clap reads them.
-ghost use Rattle.std.specs.Prelude.{◌≡◌, ◌<◌, length, List, IfOk, IfSome, IsNone, drop, false, map, string_bytes, true};
+ghost use Rattle.std.specs.Prelude.{◌≡◌, List, IfOk, IfSome, IsNone, drop, false, map, string_bytes, true};
 ghost use Rattle.std.specs.declared.option.Option.{Option as Maybe};
 ghost use Rattle.clap.specs.Simple.{app_of};
 ghost use Rattle.clap.specs.Walk.{rule_of};
-ghost use Rattle.command_line.specs.Found.{app_with, are_names, found_under, option_rule, ArePlain, Shows};
+ghost use Rattle.command_line.specs.Found.{app_with, are_names, option_rule, ArePlain, Shows};
 ghost use Rattle.command_line.specs.Parts.{IsLine, Part, Text};
 
 use clap::error::ErrorKind;
@@ -41,7 +41,7 @@ pub(crate) fn matching<'a>(
         (Shows (map (λ o. o.now) options.now) (drop 1 (map string_bytes words.now)))) }
     ensures none { IfOk result (λ o. IsNone o → (parts : List Part) (later : Maybe (List Text)) →
         IsLine (map (λ o. o.now) options.now) (drop 1 (map string_bytes words.now))
-            parts later → ArePlain parts → ⊥) }
+        parts later → ArePlain parts → ⊥) }
 {
     match command(alloc, options)?.try_get_matches_from(words) {
         Ok(matches) => Ok(Some(matches)),
