@@ -1,0 +1,34 @@
+-- What the values of an option say. An option that comes twice has no meaning.
+use Rattle.std.specs.Prelude.{ℕ, ◌≡◌, ◌≤◌, ◌⊎◌, Bool, true, false, List, [], ◌∷◌, Some, None, codes}
+use Rattle.std.specs.declared.option.Option.{Option}
+use Rattle.line_words.specs.Number.{IsNumber}
+use Rattle.command_line.specs.Parts.{Text}
+
+-- the word spells n, which is within these bounds
+abbrev pub IsNumberWithin : ℕ → ℕ → Text → ℕ → Type 0
+IsNumberWithin least most word n = IsNumber word n × (least ≤ n) × (n ≤ most)
+
+-- a number within these bounds, by default this one
+abbrev pub IsNumberOr : ℕ → ℕ → ℕ → List Text → ℕ → Type 0
+IsNumberOr default least most [] n = n ≡ default
+IsNumberOr default least most (word ∷ []) n = IsNumberWithin least most word n
+IsNumberOr default least most (word ∷ more ∷ words) n = ⊥
+
+abbrev pub IsLanes : List Text → ℕ → Type 0
+IsLanes = IsNumberOr 2 1 31
+
+abbrev pub IsRounds : List Text → ℕ → Type 0
+IsRounds = IsNumberOr 1 1 1000
+
+-- from 1 to 4,194,304 slots, none by default
+abbrev pub IsSlots : List Text → Option ℕ → Type 0
+IsSlots [] slots = slots ≡ None
+IsSlots (word ∷ []) slots = (n : ℕ) × (slots ≡ Some n) × IsNumberWithin 1 4194304 word n
+IsSlots (word ∷ more ∷ words) slots = ⊥
+
+-- whether the queue has double links, by default not
+abbrev pub IsQueue : List Text → Bool → Type 0
+IsQueue [] double = double ≡ false
+IsQueue (word ∷ []) double =
+    ((word ≡ codes "linked") × (double ≡ false)) ⊎ ((word ≡ codes "double") × (double ≡ true))
+IsQueue (word ∷ more ∷ words) double = ⊥

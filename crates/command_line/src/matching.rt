@@ -1,0 +1,53 @@
+//! The words after a command, as clap reads them.
+ghost use Rattle.std.specs.Prelude.{◌≡◌, List, IfOk, IfSome, IsNone, drop, false, map, string_bytes, true};
+ghost use Rattle.std.specs.declared.option.Option.{Option as Maybe};
+ghost use Rattle.clap.specs.Simple.{app_of};
+ghost use Rattle.clap.specs.Walk.{rule_of};
+ghost use Rattle.command_line.specs.Found.{app_with, are_names, option_rule, ArePlain, Shows};
+ghost use Rattle.command_line.specs.Parts.{IsLine, Part, Text};
+
+use clap::error::ErrorKind;
+use clap::{Arg, ArgAction, ArgMatches, Command};
+use out_of_memory::OutOfMemory;
+use std::alloc::{AllocError, Global};
+
+/// An option: each use has one value.
+fn option<'a>(alloc: Global, name: &'a str) -> Arg<'a>
+    ensures rule { rule_of result ≡ option_rule name.now }
+    ensures local { result.global ≡ false }
+{
+    Arg::new(alloc, name).long(name).action(ArgAction::Append)
+}
+
+/// The command with these options and with operands, and with nothing that clap adds by itself.
+fn command<'a>(alloc: Global, options: &'a [&'a str]) -> Result<Command<'a>, AllocError>
+    ensures { IfOk result (λ c. app_of c ≡ app_with (map (λ o. o.now) options.now)) }
+{
+    let mut command = Command::new(alloc, "cdrc_words").disable_help_flag(true);
+    for name in options {
+        command = command.arg(option(alloc, *name))?;
+    }
+    command.arg(Arg::new(alloc, "operand").action(ArgAction::Append))
+}
+
+/// What clap finds in the words after the first. None only where they are no options with plain values and operands.
+pub(crate) fn matching<'a>(
+    alloc: Global,
+    options: &'a [&'a str],
+    words: &'a [String],
+) -> Result<Option<ArgMatches<'a>>, OutOfMemory>
+    requires names { are_names (map (λ o. o.now) options.now) ≡ true }
+    ensures found { IfOk result (λ o. IfSome o
+        (Shows (map (λ o. o.now) options.now) (drop 1 (map string_bytes words.now)))) }
+    ensures none { IfOk result (λ o. IsNone o → (parts : List Part) (later : Maybe (List Text)) →
+        IsLine (map (λ o. o.now) options.now) (drop 1 (map string_bytes words.now))
+        parts later → ArePlain parts → ⊥) }
+{
+    match command(alloc, options)?.try_get_matches_from(words) {
+        Ok(matches) => Ok(Some(matches)),
+        Err(error) => match error.kind() {
+            ErrorKind::OutOfMemory => Err(OutOfMemory),
+            _ => Ok(None),
+        },
+    }
+}
