@@ -4,6 +4,7 @@ use Rattle.std.specs.Prelude.{All}
 use Rattle.core_invariant.proofs.Each.{get_each, length_each}
 use Rattle.acquire_retire.specs.Domains.{DomainState}
 use Rattle.acquire_retire.specs.Seats.{SeatState}
+use Rattle.queue_law.specs.declared.view.Form.{Form}
 use Rattle.words_law.specs.Views.{View}
 use Rattle.words_protocol.specs.declared.law.WordsLaw.{WordsLaw}
 use Rattle.word_lanes.specs.declared.shared.Shared.{Shared}
@@ -46,15 +47,16 @@ module _ (d : DomainState WordsLaw) (is : IsDomainForSome d) (on : Shared) (root
       subst (CanBegin d on) (sym (get_each 1 is.lanes k (fresh_seat d) other less))
       (begins (1 + k) (omega (arith, less, seats)))
 
-pub opened_begin : (work : Work) (lanes slots : ℕ) (d : DomainState WordsLaw) (on : Shared)
-    (root : SeatState View) → IsWithinLimits work → lanes ≤ 31 → 1 ≤ slots → slots ≤ most_slots
-    → IsDomainFor work lanes slots d → IsReady d on root
+pub opened_begin : (work : Work) (lanes slots : ℕ) (form : Form) (d : DomainState WordsLaw)
+    (on : Shared) (root : SeatState View) → IsWithinLimits work → lanes ≤ 31 → 1 ≤ slots → slots ≤ most_slots
+    → IsDomainFor work lanes slots form d → IsReady d on root
     → All (CanBegin d on) (fresh_lanes d lanes)
-opened_begin work lanes slots d on root within few some' most is ready =
+opened_begin work lanes slots form d on root within few some' most is ready =
     all_begin d (record {
       work = work;
       lanes = lanes;
       slots = slots;
+      form = form;
       few = (few, some', most);
       within = within;
       is = is;

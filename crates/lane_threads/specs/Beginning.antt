@@ -12,7 +12,7 @@ use Rattle.directory_law.specs.Views as directory
 use Rattle.directory_calls.specs.Directories.{IsOver}
 use Rattle.linked_queue.specs.Attaching.{attached_in}
 use Rattle.linked_queue.specs.Leaving.{Leaves}
-use Rattle.linked_queue.specs.Queues.{IsQueueOf}
+use Rattle.hand_queues.specs.Queues.{IsAnyOf}
 use Rattle.linked_queue.specs.Waits.{AttachesAtLast}
 use Rattle.words_law.specs.Views.{View}
 use Rattle.words_protocol.specs.declared.law.WordsLaw.{WordsLaw}
@@ -36,7 +36,7 @@ pub record HasDoneNothing (seat : SeatState View) : Type 0 where
 pub record CanBegin (d : DomainState WordsLaw) (on : Shared) (seat : SeatState View) : Type 0 where
   pub rest : IsAtRest d seat
   pub room : HasRoom seat.view.core
-  pub queue : IsQueueOf on.queue.head on.queue.tail (queue_of d)
+  pub queue : IsAnyOf on.queue (queue_of d)
   pub over : IsOver d d.protocol.pair.right on.directory
   pub here : seat.view.client.0.here ≡ true
   pub nothing : HasDoneNothing seat

@@ -7,7 +7,7 @@
 //! It isn't promised that the lanes end, nor that one runs beside another. What is left in the queue nobody counted.
 //!
 //! ```text
-//! let Opened { domain, root, seats, shared } = open_lanes(alloc, &work, 2, 4096)?;
+//! let Opened { domain, root, seats, shared } = open_lanes(alloc, &work, 2, 4096, Form::Linked)?;
 //! let ends = run_lanes(&rt, alloc, &domain, seats, &shared, &Open, &weigh, &work)?;   // one for each seat, in order
 //! ```
 #![tactic(auto)]

@@ -12,6 +12,7 @@ use crate::jobs::{Job, list_jobs};
 use acquire_retire::{Domain, Seat};
 use deleter::Deleter;
 use directory_protocol::RecordKind;
+use hand_queues::HandQueue;
 use lane_files::{Lane, Work, run_lane};
 use lane_gate::Gate;
 use out_of_memory::OutOfMemory;

@@ -13,6 +13,7 @@ use lane_files::{FileText, Work};
 use lane_gate::Open;
 use plain_state::PayloadKind;
 use protocol_pairs::PairKind;
+use queue_law::Form;
 use queue_protocol::NodeKind;
 use std::alloc::Global;
 use std::test::Fail;
@@ -49,7 +50,7 @@ fn open(alloc: Global, work: &Work) -> Option<Opened>
     if !is_within_limits(work) {
         return None;
     }
-    match open_lanes(alloc, work, 2, 64) {
+    match open_lanes(alloc, work, 2, 64, Form::Linked) {
         Ok(opened) => Some(opened),
         Err(_) => None,
     }
