@@ -55,8 +55,8 @@ terms_for work lanes = record {
 }
 
 -- a queue of this form over the strong cells 0 and 1
-pub record IsQueueHere (form : Form) (queue : QueueLaw) : Type 0 where
-  pub form : queue.form ≡ form
+pub record IsQueueHere (asked : Form) (queue : QueueLaw) : Type 0 where
+  pub form : queue.form ≡ asked
   pub head : queue.head ≡ 0
   pub tail : queue.tail ≡ 1
 

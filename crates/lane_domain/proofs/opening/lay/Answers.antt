@@ -9,12 +9,6 @@ use Rattle.lane_domain.specs.Opened.{HasOnlyLaid}
 use Rattle.lane_domain.proofs.Laid.{few_slots_by, laid_ready, only_laid, queue_there, same_form}
 use Rattle.lane_domain.proofs.opening.lay.Goals as goal
 
-pub lay-requires-queue : goal.lay-requires-queue
-lay-requires-queue c =
-    let d = c.args.domain.now in
-    subst (λ (form : Form). IsAnyOf (queue_in form 0 1) (queue_of d))
-    (same_form d c.requires.domain c.args.form c.requires.form) (queue_there d c.requires.domain)
-
 pub returns-in_err-queue-clause-slots : goal.returns-in_err-queue-clause-slots
 returns-in_err-queue-clause-slots c =
     let d = c.args.domain.now in
