@@ -39,7 +39,7 @@ fn one_round(alloc: Global, first: FileText, second: FileText) -> Result<Work, F
 }
 
 /// A domain for two lanes over the work.
-fn open(alloc: Global, work: &Work) -> Option<Opened>
+fn open_within(alloc: Global, work: &Work) -> Option<Opened>
     requires work { IsWork work.now }
     requires within { IsWithinLimits work.now }
     ensures seats { IfSome result (λ opened.
@@ -51,6 +51,20 @@ fn open(alloc: Global, work: &Work) -> Option<Opened>
         Ok(opened) => Some(opened),
         Err(_) => None,
     }
+}
+
+/// The same, if the work is within limits.
+fn open(alloc: Global, work: &Work) -> Option<Opened>
+    requires work { IsWork work.now }
+    ensures seats { IfSome result (λ opened.
+        All (CanBegin opened.domain opened.shared) opened.seats.items) }
+    ensures few { IfSome result (λ opened. length opened.seats.items < 2 ^ 32) }
+    ensures grants { IfSome result (λ opened. HasGrants opened.domain work.now) }
+{
+    if !is_within_limits(work) {
+        return None;
+    }
+    open_within(alloc, work)
 }
 
 /// How many references a lane keeps, and how many pieces it counted; nothing where it stopped.

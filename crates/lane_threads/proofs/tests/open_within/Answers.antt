@@ -1,7 +1,7 @@
 use Rattle.std.proofs.Common.{◌≤◌, All, subst, sym, arith}
 use Rattle.lane_threads.specs.Beginning.{CanBegin}
 use Rattle.lane_threads.proofs.Opened.{opened_begin}
-use Rattle.lane_threads.proofs.tests.open.Goals as goal
+use Rattle.lane_threads.proofs.tests.open_within.Goals as goal
 
 pub returns-in-Ok-clause-seats : goal.returns-in-Ok-clause-seats
 returns-in-Ok-clause-seats c =
