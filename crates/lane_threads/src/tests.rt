@@ -1,8 +1,8 @@
 ghost use Rattle.std.specs.Prelude.{◌≡◌, ◌≤◌, ◌^◌, ◌<◌, All, IfOk, IfSome, length};
-ghost use Rattle.word_lanes.specs.Ready.{IsReady};
 ghost use Rattle.lane_files.specs.Files.{HasPieces, pieces_in};
 ghost use Rattle.lane_files.specs.Lanes.{HasGrants};
 ghost use Rattle.lane_files.specs.Work.{IsWork};
+ghost use Rattle.lane_domain.specs.Sizes.{IsWithinLimits};
 ghost use Rattle.lane_threads.specs.Beginning.{CanBegin};
 
 use crate::{LaneEnd, run_lanes};
@@ -39,7 +39,22 @@ fn one_round(alloc: Global, first: FileText, second: FileText) -> Result<Work, F
     })
 }
 
-/// A domain for two lanes over the work, if it is within limits.
+/// A domain for two lanes over the work.
+fn open_within(alloc: Global, work: &Work) -> Option<Opened>
+    requires work { IsWork work.now }
+    requires within { IsWithinLimits work.now }
+    ensures seats { IfSome result (λ opened.
+        All (CanBegin opened.domain opened.shared) opened.seats.items) }
+    ensures few { IfSome result (λ opened. length opened.seats.items < 2 ^ 32) }
+    ensures grants { IfSome result (λ opened. HasGrants opened.domain work.now) }
+{
+    match open_lanes(alloc, work, 2, 64, Form::Linked) {
+        Ok(opened) => Some(opened),
+        Err(_) => None,
+    }
+}
+
+/// The same, if the work is within limits.
 fn open(alloc: Global, work: &Work) -> Option<Opened>
     requires work { IsWork work.now }
     ensures seats { IfSome result (λ opened.
@@ -50,10 +65,7 @@ fn open(alloc: Global, work: &Work) -> Option<Opened>
     if !is_within_limits(work) {
         return None;
     }
-    match open_lanes(alloc, work, 2, 64, Form::Linked) {
-        Ok(opened) => Some(opened),
-        Err(_) => None,
-    }
+    open_within(alloc, work)
 }
 
 /// How many references a lane keeps, and how many pieces it counted; nothing where it stopped.
