@@ -5,7 +5,7 @@ use Rattle.std.specs.Str.{bytes_eq}
 use Rattle.std.proofs.lemmas.Slice.Eq.{bytes_eq-Decides}
 use Rattle.clap.specs.Lexer.{long_of, short_of}
 use Rattle.command_line.specs.Parts.{Part, Text, IsLine, IsOneOf, IsPart, apart, joined, operand, spelled}
-use Rattle.command_line.specs.Found.{ArePlain, IsOnlyLine, are_names}
+use Rattle.command_line.specs.Found.{ArePlain, are_names}
 use Rattle.command_line.proofs.Reading.{Read, before, read, read_option, read_value, read_word}
 use Rattle.command_line.proofs.Rules.{is_one_of, one_of_named}
 use Rattle.command_line.proofs.Spelling.{alone_is, alone_reads, joined_is, joined_reads, no_dashes, one_of-from, one_of-to, operand_is, operand_reads}
@@ -131,15 +131,6 @@ module _ (options : List Text) where
         ap (read options None) is.2
         ∙ (λ i. cond (word_is.0 i) (Some (record { parts = []; later = Some rest })) (read_word options word (word_is.1 i) (word_is.2 i) (read options None rest) (λ n. read options (Some n) rest)))
         ∙ ap (before (operand word)) tail
-
-    -- what is read is the only line whose values could be operands
-    pub only_line : (words : List Text) (r : Read) → read options None words ≡ Some r → IsOnlyLine options words r.parts r.later
-    only_line words r e = (
-      read_is_line words r e,
-      λ others last is plain.
-          let same : ◌≡◌ {A = Read} (record { parts = others; later = last }) r = some_read _ r (sym (line_is_read words others last is plain) ∙ e) in
-          (ap (λ (x : Read). x.parts) same, ap (λ (x : Read). x.later) same),
-    )
 
     pub no_line : (words : List Text) (parts : List Part) (later : Option (List Text)) → read options None words ≡ None → IsLine options words parts later → ArePlain parts → ⊥
     no_line words parts later e is plain = none_read _ (sym e ∙ line_is_read words parts later is plain)
