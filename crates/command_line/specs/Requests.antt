@@ -75,3 +75,14 @@ pub record AreSettings (matches : ArgMatches) (settings : Settings) : Type 0 whe
 abbrev pub IsDrawn : ArgMatches → Drawn → Type 0
 IsDrawn matches bulk = AreDraws 500000 bulk.draws (found_under operands_name matches)
     × IsLanes (found_under (codes "lanes") matches) bulk.lanes
+
+-- the two requests are one, text by text
+abbrev pub IsSame : Request → Request → Type 0
+IsSame (request.Words a) (request.Words b) =
+    (map string_bytes a.names.items ≡ map string_bytes b.names.items)
+    × (a.lanes ≡ b.lanes) × (a.rounds ≡ b.rounds) × (a.slots ≡ b.slots) × (a.double ≡ b.double)
+IsSame (request.Script a) (request.Script b) = string_bytes a ≡ string_bytes b
+IsSame (request.Steps a) (request.Steps b) = string_bytes a ≡ string_bytes b
+IsSame (request.Generate a) (request.Generate b) = a ≡ b
+IsSame (request.Bulk a) (request.Bulk b) = a ≡ b
+IsSame _ _ = ⊥
