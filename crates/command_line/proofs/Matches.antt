@@ -89,7 +89,8 @@ module _ (options : List Text) (named : are_names options ≡ true) where
       let end = (walk (ready options) [] nothing_held words).held in
       let rows = (settled (ready options) end).rows in
       let last : or_else (defaults_fault rows (ready options)) (check_fault (ready_shape options) (finished (ready options) end) false) ≡ [] =
-      (λ i. or_else (defaults_pass options rows i) (check_fault (ready_shape options) (finished (ready options) end) false)) ∙ nothing_wanted options (finished (ready options) end) in
+      (λ i. or_else (defaults_pass options rows i) (check_fault (ready_shape options) (finished (ready options) end) false))
+      ∙ nothing_wanted options (finished (ready options) end) in
       ap (λ (ks : Kinds). or_else (walk_fault (ready_shape options) [] start words) (or_else (settle_fault (ready options) false end) ks)) last
       ∙ ap (λ (ks : Kinds). or_else (walk_fault (ready_shape options) [] start words) ks) (or_none (settle_fault (ready options) false end))
 

@@ -1,6 +1,5 @@
 -- A line asks for one request at most.
-use Rattle.std.proofs.Common.{◌≡◌, ◌∙◌, ℕ, Bool, true, false, inl, inr, refl, sym, ap, subst, List, [], ◌∷◌, codes, get_or, map, string_bytes, Option, Some, true≢false}
-use Rattle.std.specs.Str.{bytes_eq}
+use Rattle.std.proofs.Common.{◌≡◌, ◌∙◌, ℕ, Bool, true, inl, inr, refl, sym, ap, subst, List, [], ◌∷◌, codes, get_or, string_bytes, Option, Some, true≢false}
 use Rattle.std.proofs.lemmas.Slice.Eq.{bytes_eq-Decides}
 use Rattle.line_words.specs.Number.{IsNumber}
 use Rattle.line_words.proofs.Decimal.{one-number_of}

@@ -30,7 +30,8 @@ abbrev pub operands_rule : Rule
 operands_rule = record (new_rule operands_name) { action = Some Append }
 
 abbrev pub shape_with : List Rule → Shape
-shape_with rules = record (new_shape (codes "cdrc_words")) { disable_help_flag = true; rules = rules }
+shape_with rules =
+    record (new_shape (codes "cdrc_words")) { disable_help_flag = true; rules = rules }
 
 abbrev pub app_raw : List Rule → App
 app_raw rules = record { top = shape_with rules; subs = [] }
