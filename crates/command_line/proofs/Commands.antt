@@ -17,12 +17,12 @@ above_zero zero e = absurd (true≢false e)
 above_zero (suc n) e = omega arith
 
 -- two commands don't begin one line
-differs : (a b : Text) (line r s : List Text) → bytes_eq a b ≡ false → line ≡ a ∷ r → line ≡ b ∷ s → ⊥
+pub differs : (a b : Text) (line r s : List Text) → bytes_eq a b ≡ false → line ≡ a ∷ r → line ≡ b ∷ s → ⊥
 differs a b line r s other first second =
     let same : a ≡ b = ap (λ (ws : List Text). get_or ws 0 []) (sym first ∙ second) in
     true≢false (sym ((bytes_eq-Decides a b).1 same) ∙ other)
 
-rest_is : (command : Text) (line r s : List Text) → line ≡ command ∷ r → line ≡ command ∷ s → r ≡ s
+pub rest_is : (command : Text) (line r s : List Text) → line ≡ command ∷ r → line ≡ command ∷ s → r ≡ s
 rest_is command line r s first second = ap (drop 1) (sym first ∙ second)
 
 pub words_only : (line rest : List Text) → line ≡ codes "words" ∷ rest → ((args : WordsArgs) → Reads words_options rest (AreWords args) → ⊥)

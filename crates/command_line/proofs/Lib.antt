@@ -13,3 +13,4 @@ pub mod Plain
 pub mod Meanings
 pub mod Commands
 pub mod OneLine
+pub mod OneRequest

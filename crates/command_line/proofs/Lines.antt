@@ -5,8 +5,8 @@ use Rattle.std.specs.Str.{bytes_eq}
 use Rattle.std.proofs.lemmas.Slice.Eq.{bytes_eq-Decides}
 use Rattle.clap.specs.Lexer.{long_of, short_of}
 use Rattle.command_line.specs.Parts.{Part, Text, IsLine, IsOneOf, IsPart, apart, joined, operand, spelled}
-use Rattle.command_line.specs.Found.{ArePlain, IsOnlyLine, are_names}
-use Rattle.command_line.proofs.Reading.{Read, before, read, read_option, read_value, read_word}
+use Rattle.command_line.specs.Found.{ArePlain, are_names}
+use Rattle.command_line.proofs.Reading.{Read, before, read, read_by, read_option, read_value}
 use Rattle.command_line.proofs.Rules.{is_one_of, one_of_named}
 use Rattle.command_line.proofs.Spelling.{alone_is, alone_reads, joined_is, joined_reads, no_dashes, one_of-from, one_of-to, operand_is, operand_reads}
 
@@ -59,7 +59,7 @@ module _ (options : List Text) where
 
   word_line : (word : Text) (rest : List Text) → FromRead rest → FromValue rest → (r : Read) (t : Bool) (l : Option (Text × Option Text)) (sh : Option Text)
       → bytes_eq word (codes "--") ≡ t → long_of word ≡ l → short_of word ≡ sh
-      → cond t (Some (record { parts = []; later = Some rest })) (read_word options word l sh (read options None rest) (λ n. read options (Some n) rest)) ≡ Some r
+      → read_by options word rest t l sh ≡ Some r
       → LineOf (word ∷ rest) r
   word_line word rest tail values r true l sh dashes long short e =
       subst (LineOf (word ∷ rest)) (some_read _ r e) (ap (λ (w : Text). w ∷ rest) ((bytes_eq-Decides word (codes "--")).0 dashes))
@@ -100,15 +100,16 @@ module _ (options : List Text) where
     line_is_read words [] (Some later) is plain = ap (read options None) is
     line_is_read words (apart name value ∷ parts) later is plain =
         let rest = is.0 in
+        let word = codes "--" ++ name in
         let one = one_of-to name options is.1 in
         let good = one_of_named options name named one in
-        let other : bytes_eq (codes "--" ++ name) (codes "--") ≡ false =
+        let other : bytes_eq word (codes "--") ≡ false =
         ap (λ (t : Text). bytes_eq (codes "--" ++ t) (codes "--")) (sym (append-nil name)) ∙ no_dashes name [] good in
         let value_is = operand_reads value plain.0 in
         let tail = line_is_read rest parts later is.3 plain.1 in
         ap (read options None) is.2
-        ∙ ap (λ (b : Bool). cond b (Some (record { parts = []; later = Some (value ∷ rest) })) (read_word options (codes "--" ++ name) (long_of (codes "--" ++ name)) (short_of (codes "--" ++ name)) (read options None (value ∷ rest)) (λ n. read options (Some n) (value ∷ rest)))) other
-        ∙ ap (λ (l : Option (Text × Option Text)). read_word options (codes "--" ++ name) l (short_of (codes "--" ++ name)) (read options None (value ∷ rest)) (λ n. read options (Some n) (value ∷ rest))) (alone_reads name good)
+        ∙ ap (λ (b : Bool). read_by options word (value ∷ rest) b (long_of word) (short_of word)) other
+        ∙ ap (λ (l : Option (Text × Option Text)). read_by options word (value ∷ rest) false l (short_of word)) (alone_reads name good)
         ∙ ap (λ (b : Bool). cond b (read options (Some name) (value ∷ rest)) None) one
         ∙ (λ i. cond (value_is.0 i) None (read_value name value (value_is.1 i) (value_is.2 i) (read options None rest)))
         ∙ ap (before (apart name value)) tail
@@ -120,8 +121,8 @@ module _ (options : List Text) where
         let other = no_dashes name (codes "=" ++ value) good in
         let tail = line_is_read rest parts later is.3 plain.1 in
         ap (read options None) is.2
-        ∙ ap (λ (b : Bool). cond b (Some (record { parts = []; later = Some rest })) (read_word options word (long_of word) (short_of word) (read options None rest) (λ n. read options (Some n) rest))) other
-        ∙ ap (λ (l : Option (Text × Option Text)). read_word options word l (short_of word) (read options None rest) (λ n. read options (Some n) rest)) (joined_reads name value good)
+        ∙ ap (λ (b : Bool). read_by options word rest b (long_of word) (short_of word)) other
+        ∙ ap (λ (l : Option (Text × Option Text)). read_by options word rest false l (short_of word)) (joined_reads name value good)
         ∙ ap (λ (b : Bool). cond b (before (joined name value) (read options None rest)) None) one
         ∙ ap (before (joined name value)) tail
     line_is_read words (operand word ∷ parts) later is plain =
@@ -129,17 +130,8 @@ module _ (options : List Text) where
         let word_is = operand_reads word is.1 in
         let tail = line_is_read rest parts later is.3 plain.1 in
         ap (read options None) is.2
-        ∙ (λ i. cond (word_is.0 i) (Some (record { parts = []; later = Some rest })) (read_word options word (word_is.1 i) (word_is.2 i) (read options None rest) (λ n. read options (Some n) rest)))
+        ∙ (λ i. read_by options word rest (word_is.0 i) (word_is.1 i) (word_is.2 i))
         ∙ ap (before (operand word)) tail
-
-    -- what is read is the only line whose values could be operands
-    pub only_line : (words : List Text) (r : Read) → read options None words ≡ Some r → IsOnlyLine options words r.parts r.later
-    only_line words r e = (
-      read_is_line words r e,
-      λ others last is plain.
-          let same : ◌≡◌ {A = Read} (record { parts = others; later = last }) r = some_read _ r (sym (line_is_read words others last is plain) ∙ e) in
-          (ap (λ (x : Read). x.parts) same, ap (λ (x : Read). x.later) same),
-    )
 
     pub no_line : (words : List Text) (parts : List Part) (later : Option (List Text)) → read options None words ≡ None → IsLine options words parts later → ArePlain parts → ⊥
     no_line words parts later e is plain = none_read _ (sym e ∙ line_is_read words parts later is plain)

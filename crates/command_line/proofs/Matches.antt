@@ -20,7 +20,7 @@ use Rattle.clap.specs.declared.error.kind.ErrorKind.TheVariants.{OutOfMemory}
 use Rattle.clap.specs.declared.parser.matches.ArgMatches.{ArgMatches}
 use Rattle.command_line.specs.Parts.{Part, Text, IsLine, IsOneOf, apart, joined, operand, operand_in, value_in, values_of}
 use Rattle.command_line.specs.Found.{ArePlain, Shows, app_with, are_names, operands_name, values_in}
-use Rattle.command_line.proofs.Lines.{no_line, only_line}
+use Rattle.command_line.proofs.Lines.{no_line, read_is_line}
 use Rattle.command_line.proofs.Reading.{Agree, Read, agree-same, all_values, part_value, read}
 use Rattle.command_line.proofs.Rules.{built_is, is_known, one_of_named, other_name, ready, ready_app, ready_option, ready_operands, ready_shape}
 use Rattle.command_line.proofs.Rows.{of_name, refuted}
@@ -89,7 +89,8 @@ module _ (options : List Text) (named : are_names options ≡ true) where
       let end = (walk (ready options) [] nothing_held words).held in
       let rows = (settled (ready options) end).rows in
       let last : or_else (defaults_fault rows (ready options)) (check_fault (ready_shape options) (finished (ready options) end) false) ≡ [] =
-      (λ i. or_else (defaults_pass options rows i) (check_fault (ready_shape options) (finished (ready options) end) false)) ∙ nothing_wanted options (finished (ready options) end) in
+      (λ i. or_else (defaults_pass options rows i) (check_fault (ready_shape options) (finished (ready options) end) false))
+      ∙ nothing_wanted options (finished (ready options) end) in
       ap (λ (ks : Kinds). or_else (walk_fault (ready_shape options) [] start words) (or_else (settle_fault (ready options) false end) ks)) last
       ∙ ap (λ (ks : Kinds). or_else (walk_fault (ready_shape options) [] start words) ks) (or_none (settle_fault (ready options) false end))
 
@@ -161,13 +162,13 @@ module _ (options : List Text) (named : are_names options ≡ true) where
           let known : is_simple_and_free app ≡ true = ap is_simple_and_free same ∙ is_known options in
           let rows : rows_of (found_of m) ≡ matches_of (app_with options) words =
           (has (first_true _ _ known)).0 ∙ ap (λ (a : App). matches_of a words) same in
-          let line = only_line options named (drop 1 words) r e in
+          let line = read_is_line options (drop 1 words) r e in
           record {
             parts = r.parts;
             later = r.later;
             line = line;
             operands = ap (values_in operands_name) rows ∙ h.1 operands_name
-                ∙ ap (λ (ws : List Text). ws ++ unwrap_or r.later []) (operands_same (drop 1 words) r.parts r.later line.0);
+                ∙ ap (λ (ws : List Text). ws ++ unwrap_or r.later []) (operands_same (drop 1 words) r.parts r.later line);
             values = λ option one. ap (values_in option) rows ∙ h.1 option ∙ option_all option one r;
           }
 

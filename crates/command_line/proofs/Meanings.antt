@@ -1,15 +1,16 @@
 -- What the words mean, by what was found, and that they mean nothing else.
-use Rattle.std.proofs.Common.{◌≡◌, ◌∙◌, ◌<◌, ◌≤◌, ◌-◌, ◌^◌, ℕ, Bool, inl, inr, refl, sym, ap, subst, arith, List, [], ◌∷◌, codes, get_or, length, map, string_bytes, Option, Bor}
+use Rattle.std.proofs.Common.{◌≡◌, ◌∙◌, ◌<◌, ◌≤◌, ◌-◌, ◌^◌, ℕ, Bool, true, inl, inr, refl, sym, ap, subst, arith, List, [], ◌∷◌, codes, get_or, length, map, string_bytes, Option, Bor}
 use Rattle.clap.specs.declared.parser.matches.ArgMatches.{ArgMatches}
 use Rattle.command_line.specs.declared.asked.Bulk.{Bulk}
 use Rattle.command_line.specs.declared.asked.Draws.{Draws}
 use Rattle.command_line.specs.declared.asked.WordsArgs.{WordsArgs}
 use Rattle.command_line.specs.declared.settings.Settings.{Settings}
 use Rattle.command_line.specs.Parts.{Part, Text, IsLine, IsOneOf, operands_of, values_of}
-use Rattle.command_line.specs.Found.{ArePlain, Shows, found_under, operands_name}
+use Rattle.command_line.specs.Found.{ArePlain, Shows, are_names, found_under, operands_name}
 use Rattle.command_line.specs.Requests.{bulk_options, words_options, AreDraws, AreSettings, AreWords, IsBulk, IsDrawn, IsFile, IsGen, Reads}
 use Rattle.command_line.specs.Values.{IsLanes, IsNumberWithin, IsQueue, IsRounds, IsSlots}
 use Rattle.command_line.proofs.Given.{texts}
+use Rattle.command_line.proofs.OneLine.{one_line}
 use Rattle.command_line.proofs.Plain.{AreOperands, numbers_plain, parts_plain, queue_plain, slots_plain}
 
 -- clap refused the words
@@ -42,23 +43,23 @@ words_plain words parts later args line means = parts_plain words_options words 
 
 -- ---- a line that means something has the operands and the values that were found
 
-module _ (options words : List Text) (m : ArgMatches) (s : Shows options words m) where
-  same_operands : (parts : List Part) (later : Option (List Text)) → IsLine options words parts later → ArePlain parts
+module _ (options words : List Text) (named : are_names options ≡ true) (m : ArgMatches) (s : Shows options words m) where
+  same_operands : (parts : List Part) (later : Option (List Text)) → IsLine options words parts later
       → operands_of parts later ≡ found_under operands_name m
-  same_operands parts later line plain =
-      let same = s.line.1 parts later line plain in
+  same_operands parts later line =
+      let same = one_line options named words parts s.parts later s.later line s.line in
       (λ i. operands_of (same.0 i) (same.1 i)) ∙ sym s.operands
 
-  same_values : (parts : List Part) (later : Option (List Text)) → IsLine options words parts later → ArePlain parts
+  same_values : (parts : List Part) (later : Option (List Text)) → IsLine options words parts later
       → (option : Text) → IsOneOf option options → values_of option parts ≡ found_under option m
-  same_values parts later line plain option one =
-      let same = s.line.1 parts later line plain in
+  same_values parts later line option one =
+      let same = one_line options named words parts s.parts later s.later line s.line in
       ap (values_of option) same.0 ∙ sym (s.values option one)
 
 -- ---- one file
 
 pub file_found : (words : List Text) (m : ArgMatches) (file : Text) → Shows [] words m → found_under operands_name m ≡ file ∷ [] → Reads [] words (IsFile file)
-file_found words m file s is = (s.parts, s.later, s.line.0, sym s.operands ∙ is)
+file_found words m file s is = (s.parts, s.later, s.line, sym s.operands ∙ is)
 
 pub file_refused : (words : List Text) → NoLine [] words → (file : Text) → Reads [] words (IsFile file) → ⊥
 file_refused words refused file means = refused means.0 means.1 means.2 (none_plain words means.0 means.1 means.2)
@@ -66,13 +67,13 @@ file_refused words refused file means = refused means.0 means.1 means.2 (none_pl
 pub file_none : (words : List Text) (m : ArgMatches) → Shows [] words m → ((file : Text) → found_under operands_name m ≡ file ∷ [] → ⊥)
     → (file : Text) → Reads [] words (IsFile file) → ⊥
 file_none words m s refused file means =
-    refused file (sym (same_operands [] words m s means.0 means.1 means.2 (none_plain words means.0 means.1 means.2)) ∙ means.3)
+    refused file (sym (same_operands [] words refl m s means.0 means.1 means.2) ∙ means.3)
 
 -- ---- draws
 
 pub gen_found : (words : List Text) (m : ArgMatches) (draws : Draws) → Shows [] words m → AreDraws 1000000 draws (found_under operands_name m)
     → Reads [] words (IsGen draws)
-gen_found words m draws s is = (s.parts, s.later, s.line.0, subst (AreDraws 1000000 draws) s.operands is)
+gen_found words m draws s is = (s.parts, s.later, s.line, subst (AreDraws 1000000 draws) s.operands is)
 
 pub gen_refused : (words : List Text) → NoLine [] words → (draws : Draws) → Reads [] words (IsGen draws) → ⊥
 gen_refused words refused draws means = refused means.0 means.1 means.2 (none_plain words means.0 means.1 means.2)
@@ -80,7 +81,7 @@ gen_refused words refused draws means = refused means.0 means.1 means.2 (none_pl
 pub gen_none : (words : List Text) (m : ArgMatches) → Shows [] words m → ((draws : Draws) → AreDraws 1000000 draws (found_under operands_name m) → ⊥)
     → (draws : Draws) → Reads [] words (IsGen draws) → ⊥
 gen_none words m s refused draws means =
-    refused draws (subst (AreDraws 1000000 draws) (same_operands [] words m s means.0 means.1 means.2 (none_plain words means.0 means.1 means.2)) means.3)
+    refused draws (subst (AreDraws 1000000 draws) (same_operands [] words refl m s means.0 means.1 means.2) means.3)
 
 -- ---- draws that lanes count
 
@@ -88,7 +89,7 @@ pub bulk_found : (words : List Text) (m : ArgMatches) (bulk : Bulk) → Shows bu
 bulk_found words m bulk s is = (
   s.parts,
   s.later,
-  s.line.0,
+  s.line,
   (subst (AreDraws 500000 bulk.draws) s.operands is.0, subst (λ (vs : List Text). IsLanes vs bulk.lanes) (s.values (codes "lanes") (inl refl)) is.1),
 )
 
@@ -98,10 +99,9 @@ bulk_refused words refused bulk means = refused means.0 means.1 means.2 (bulk_pl
 pub bulk_none : (words : List Text) (m : ArgMatches) → Shows bulk_options words m → ((bulk : Bulk) → IsDrawn m bulk → ⊥)
     → (bulk : Bulk) → Reads bulk_options words (IsBulk bulk) → ⊥
 bulk_none words m s refused bulk means =
-    let plain = bulk_plain words means.0 means.1 bulk means.2 means.3 in
     refused bulk (
-      subst (AreDraws 500000 bulk.draws) (same_operands bulk_options words m s means.0 means.1 means.2 plain) means.3.0,
-      subst (λ (vs : List Text). IsLanes vs bulk.lanes) (same_values bulk_options words m s means.0 means.1 means.2 plain (codes "lanes") (inl refl)) means.3.1,
+      subst (AreDraws 500000 bulk.draws) (same_operands bulk_options words refl m s means.0 means.1 means.2) means.3.0,
+      subst (λ (vs : List Text). IsLanes vs bulk.lanes) (same_values bulk_options words refl m s means.0 means.1 means.2 (codes "lanes") (inl refl)) means.3.1,
     )
 
 -- ---- files whose words are counted
@@ -113,7 +113,7 @@ pub words_found : (words : List Text) (m : ArgMatches) (settings : Settings) (ar
 words_found words m settings args s is names some lanes rounds slots double = (
   s.parts,
   s.later,
-  s.line.0,
+  s.line,
   record {
     names = names ∙ s.operands;
     some = subst (λ (ws : List Text). 0 < length ws) s.operands some;
@@ -134,8 +134,7 @@ words_refused words refused args means = refused means.0 means.1 means.2 (words_
 pub words_unset : (words : List Text) (m : ArgMatches) → Shows words_options words m → ((settings : Settings) → AreSettings m settings → ⊥)
     → (args : WordsArgs) → Reads words_options words (AreWords args) → ⊥
 words_unset words m s refused args means =
-    let plain = words_plain words means.0 means.1 args means.2 means.3 in
-    let same = same_values words_options words m s means.0 means.1 means.2 plain in
+    let same = same_values words_options words refl m s means.0 means.1 means.2 in
     refused (record { lanes = args.lanes; rounds = args.rounds; slots = args.slots; double = args.double }) (record {
       lanes = subst (λ (vs : List Text). IsLanes vs args.lanes) (same (codes "lanes") (inl refl)) means.3.lanes;
       rounds = subst (λ (vs : List Text). IsRounds vs args.rounds) (same (codes "rounds") (inr (inl refl))) means.3.rounds;
@@ -146,8 +145,7 @@ words_unset words m s refused args means =
 pub words_none : (words : List Text) (m : ArgMatches) → Shows words_options words m → length (found_under operands_name m) ≡ 0
     → (args : WordsArgs) → Reads words_options words (AreWords args) → ⊥
 words_none words m s none args means =
-    let plain = words_plain words means.0 means.1 args means.2 means.3 in
-    let same = same_operands words_options words m s means.0 means.1 means.2 plain in
+    let same = same_operands words_options words refl m s means.0 means.1 means.2 in
     let some : 0 < length (found_under operands_name m) = subst (λ (ws : List Text). 0 < length ws) same means.3.some in
     absurd (omega (arith, some, none))
 

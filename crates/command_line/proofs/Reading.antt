@@ -1,5 +1,5 @@
 -- The words as clap reads them: a value in the next word has to be one that could be an operand.
-use Rattle.std.proofs.Common.{◌≡◌, ◌∙◌, cond, sym, ap, List, [], ◌∷◌, ◌++◌, codes, Option, Some, None, append_assoc}
+use Rattle.std.proofs.Common.{◌≡◌, Bool, ◌∙◌, cond, sym, ap, List, [], ◌∷◌, ◌++◌, codes, Option, Some, None, append_assoc}
 use Rattle.std.specs.Prelude.{unwrap_or}
 use Rattle.std.specs.List.{flat_map}
 use Rattle.std.specs.Str.{bytes_eq}
@@ -44,6 +44,12 @@ read options None (word ∷ rest) =
 read options (Some name) (word ∷ rest) =
     cond (bytes_eq word (codes "--")) None
     (read_value name word (long_of word) (short_of word) (read options None rest))
+
+-- a word by what it is: whether it is `--`, what stands behind `--`, and what stands behind one `-`
+abbrev pub read_by : List Text → Text → List Text → Bool → Option (Text × Option Text) → Option Text → Option Read
+read_by options word rest dashes long short =
+    cond dashes (Some (record { parts = []; later = Some rest }))
+    (read_word options word long short (read options None rest) (λ name. read options (Some name) rest))
 
 -- ---- the values that are read under a name
 

@@ -149,7 +149,8 @@ module _ (options : List Text) (named : are_names options ≡ true) where
     where
       go : (v : Option Text) → long_fault c false (Some (ready_option other)) v (held_for name rows) ≡ kind.InvalidValue ∷ []
       go None = settle_fails options named name rows known
-      go (Some text) = ap (λ (ks : Kinds). or_else ks (use_fault false (ready_option other) (text ∷ []) (settled c (held_for name rows)).rows)) (settle_fails options named name rows known)
+      go (Some text) = ap (λ (ks : Kinds). or_else ks (use_fault false (ready_option other) (text ∷ []) (settled c (held_for name rows)).rows))
+          (settle_fails options named name rows known)
 
   -- ---- a word that is no flag
 

@@ -9,7 +9,7 @@ use Rattle.clap.specs.Walk.{Held, Row, Waiting, Walk, idle, option, positional, 
 use Rattle.clap.specs.declared.error.kind.ErrorKind.TheVariants as kind
 use Rattle.command_line.specs.Parts.{Text, apart, joined, operand}
 use Rattle.command_line.specs.Found.{are_names, operands_name, values_in}
-use Rattle.command_line.proofs.Reading.{Agree, Read, agree-before, agree-same, before, read, read_value, read_word}
+use Rattle.command_line.proofs.Reading.{Agree, Read, agree-before, agree-same, before, read, read_by, read_value}
 use Rattle.command_line.proofs.Rules.{is_one_of, ready}
 use Rattle.command_line.proofs.Rows.{values_after, with_use}
 use Rattle.command_line.proofs.Walks.{Due, IsKnown, as_written, calm, due, ends, ends_next, held_for, held_with, resting, rows_with, settle_fails, settle_is, settle_passes, total, total_fails, total_next, total_nil, turn_dashes, turn_fails, turn_goes, turn_later, turn_operand, walk_at, walk_dashes, walk_goes, walk_later, walk_operand}
@@ -104,7 +104,8 @@ module _ (options : List Text) (named : are_names options ≡ true) where
       (λ id. values_after name as_written text (rows_with rows d) id) (tail false after calm tt))
   joined_word word rest name text false tail b rows d known other is one =
       fails _ word rest kind.UnknownArgument []
-      (turn_fails options named (resting b) word (held_with rows d) kind.UnknownArgument [] other (unknown_fails options named word name (Some text) (held_with rows d) is one)) (so_far rows d)
+      (turn_fails options named (resting b) word (held_with rows d) kind.UnknownArgument [] other
+      (unknown_fails options named word name (Some text) (held_with rows d) is one)) (so_far rows d)
 
   option_word : (word : Text) (rest : List Text) (name : Text) (t : Bool) → AtValue rest → (b : Bool) (rows : List Row) (d : Due) → IsKnown options named d
       → bytes_eq word (codes "--") ≡ false → long_of word ≡ Some (name, None) → is_one_of name options ≡ t
@@ -119,7 +120,8 @@ module _ (options : List Text) (named : are_names options ≡ true) where
       (tail name (rows_with rows d) one)
   option_word word rest name false tail b rows d known other is one =
       fails _ word rest kind.UnknownArgument []
-      (turn_fails options named (resting b) word (held_with rows d) kind.UnknownArgument [] other (unknown_fails options named word name None (held_with rows d) is one)) (so_far rows d)
+      (turn_fails options named (resting b) word (held_with rows d) kind.UnknownArgument [] other
+      (unknown_fails options named word name None (held_with rows d) is one)) (so_far rows d)
 
   operand_word : (word : Text) (rest : List Text) → AtRest rest → (b : Bool) (rows : List Row) (d : Due) → IsKnown options named d
       → bytes_eq word (codes "--") ≡ false → long_of word ≡ None → short_of word ≡ None
@@ -137,7 +139,7 @@ module _ (options : List Text) (named : are_names options ≡ true) where
   rest_word : (word : Text) (rest : List Text) → IsUtf8 word → AtRest rest → AtValue rest → (b : Bool) (rows : List Row) (d : Due) → IsKnown options named d
       → (t : Bool) (l : Option (Text × Option Text)) (sh : Option Text) → bytes_eq word (codes "--") ≡ t → long_of word ≡ l → short_of word ≡ sh
       → Agrees (walk_at (resting b) false (held_with rows d)) (word ∷ rest) (so_far rows d)
-      (cond t (Some (record { parts = []; later = Some rest })) (read_word options word l sh (read options None rest) (λ name. read options (Some name) rest)))
+      (read_by options word rest t l sh)
   rest_word word rest utf tail values b rows d known true l sh dashes is short =
       let h = held_with rows d in
       agrees_next (walk_at (resting b) false h) (walk_at (resting b) true h) word rest (so_far rows d) (Some (record { parts = []; later = Some rest }))
@@ -149,7 +151,8 @@ module _ (options : List Text) (named : are_names options ≡ true) where
       option_word word rest name (is_one_of name options) values b rows d known other is refl
   rest_word word rest utf tail values b rows d known false None (Some flags) other is short =
       fails _ word rest kind.UnknownArgument []
-      (turn_fails options named (resting b) word (held_with rows d) kind.UnknownArgument [] other (short_fails options named word flags (held_with rows d) refl is short utf)) (so_far rows d)
+      (turn_fails options named (resting b) word (held_with rows d) kind.UnknownArgument [] other
+      (short_fails options named word flags (held_with rows d) refl is short utf)) (so_far rows d)
   rest_word word rest utf tail values b rows d known false None None other is short =
       operand_word word rest tail b rows d known other is short
 
@@ -173,10 +176,12 @@ module _ (options : List Text) (named : are_names options ≡ true) where
       → Agrees (walk_at (option name) false (held_for name rows)) (word ∷ rest) (λ id. values_in id rows) None
   long_value word rest other v true name rows known differs is one =
       fails _ word rest kind.InvalidValue []
-      (turn_fails options named (option name) word (held_for name rows) kind.InvalidValue [] differs (waiting_fails options named word name other v rows known is one)) (λ id. values_in id rows)
+      (turn_fails options named (option name) word (held_for name rows) kind.InvalidValue [] differs
+      (waiting_fails options named word name other v rows known is one)) (λ id. values_in id rows)
   long_value word rest other v false name rows known differs is one =
       fails _ word rest kind.UnknownArgument []
-      (turn_fails options named (option name) word (held_for name rows) kind.UnknownArgument [] differs (unknown_fails options named word other v (held_for name rows) is one)) (λ id. values_in id rows)
+      (turn_fails options named (option name) word (held_for name rows) kind.UnknownArgument [] differs
+      (unknown_fails options named word other v (held_for name rows) is one)) (λ id. values_in id rows)
 
   wait_word : (word : Text) (rest : List Text) → IsUtf8 word → AtRest rest → (name : Text) (rows : List Row) → is_one_of name options ≡ true
       → (t : Bool) (l : Option (Text × Option Text)) (sh : Option Text) → bytes_eq word (codes "--") ≡ t → long_of word ≡ l → short_of word ≡ sh
@@ -191,7 +196,8 @@ module _ (options : List Text) (named : are_names options ≡ true) where
       long_value word rest other v (is_one_of other options) name rows known differs is refl
   wait_word word rest utf tail name rows known false None (Some flags) differs is short =
       fails _ word rest kind.UnknownArgument []
-      (turn_fails options named (option name) word (held_for name rows) kind.UnknownArgument [] differs (short_fails options named word flags (held_for name rows) refl is short utf)) (λ id. values_in id rows)
+      (turn_fails options named (option name) word (held_for name rows) kind.UnknownArgument [] differs
+      (short_fails options named word flags (held_for name rows) refl is short utf)) (λ id. values_in id rows)
   wait_word word rest utf tail name rows known false None None differs is short =
       value_word word rest tail name rows known differs is short
 

@@ -30,7 +30,8 @@ abbrev pub operands_rule : Rule
 operands_rule = record (new_rule operands_name) { action = Some Append }
 
 abbrev pub shape_with : List Rule → Shape
-shape_with rules = record (new_shape (codes "cdrc_words")) { disable_help_flag = true; rules = rules }
+shape_with rules =
+    record (new_shape (codes "cdrc_words")) { disable_help_flag = true; rules = rules }
 
 abbrev pub app_raw : List Rule → App
 app_raw rules = record { top = shape_with rules; subs = [] }
@@ -46,7 +47,8 @@ values_in name rows = unwrap_or (all_of name rows) []
 abbrev pub found_under : Text → ArgMatches → List Text
 found_under name matches = values_in name (rows_of (found_of matches))
 
--- each value of an option could be an operand, as each value can that means something
+-- each value of an option could be an operand, as every value could that means something: clap takes no other value out
+-- of the next word
 abbrev pub IsPlainPart : Part → Type 0
 IsPlainPart (apart option value) = IsOperand value
 IsPlainPart (joined option value) = IsOperand value
@@ -56,17 +58,11 @@ abbrev pub ArePlain : List Part → Type 0
 ArePlain [] = ⊤
 ArePlain (part ∷ parts) = IsPlainPart part × ArePlain parts
 
--- the words are these parts, and no others whose values are plain
-abbrev pub IsOnlyLine : List Text → List Text → List Part → Option (List Text) → Type 0
-IsOnlyLine options words parts later = IsLine options words parts later
-    × ((others : List Part) (last : Option (List Text)) → IsLine options words others last → ArePlain others
-    → (others ≡ parts) × (last ≡ later))
-
 -- the matches have all operands, and all values of each option
 pub record Shows (options words : List Text) (matches : ArgMatches) : Type 0 where
   pub parts : List Part
   pub later : Option (List Text)
-  pub line : IsOnlyLine options words parts later
+  pub line : IsLine options words parts later
   pub operands : found_under operands_name matches ≡ operands_of parts later
   pub values : (option : Text) → IsOneOf option options
       → found_under option matches ≡ values_of option parts

@@ -21,10 +21,12 @@ bulk_options = codes "lanes" ∷ []
 -- the words of these options have this meaning, which is one of parts and later operands
 abbrev pub Reads : List Text → List Text → (List Part → Option (List Text) → Type 0) → Type 0
 Reads options words Means =
-    (parts : List Part) × (later : Option (List Text)) × IsLine options words parts later × Means parts later
+    (parts : List Part) × (later : Option (List Text))
+    × IsLine options words parts later × Means parts later
 
 -- one or more files, and the options of `words`
-pub record AreWords (args : WordsArgs) (parts : List Part) (later : Option (List Text)) : Type 0 where
+pub record AreWords (args : WordsArgs) (parts : List Part)
+    (later : Option (List Text)) : Type 0 where
   pub names : map string_bytes args.names.items ≡ operands_of parts later
   pub some : 0 < length (operands_of parts later)
   pub lanes : IsLanes (values_of (codes "lanes") parts) args.lanes
@@ -52,7 +54,8 @@ IsBulk bulk parts later = AreDraws 500000 bulk.draws (operands_of parts later)
     × IsLanes (values_of (codes "lanes") parts) bulk.lanes
 
 -- the line is this command, and the words after it have this meaning
-abbrev pub Commands : Text → List Text → List Text → (List Part → Option (List Text) → Type 0) → Type 0
+abbrev pub Commands : Text → List Text → List Text → (List Part → Option (List Text) → Type 0)
+    → Type 0
 Commands command options line Means =
     (words : List Text) × (line ≡ command ∷ words) × Reads options words Means
 
@@ -75,3 +78,14 @@ pub record AreSettings (matches : ArgMatches) (settings : Settings) : Type 0 whe
 abbrev pub IsDrawn : ArgMatches → Drawn → Type 0
 IsDrawn matches bulk = AreDraws 500000 bulk.draws (found_under operands_name matches)
     × IsLanes (found_under (codes "lanes") matches) bulk.lanes
+
+-- the two requests are one, text by text
+abbrev pub IsSame : Request → Request → Type 0
+IsSame (request.Words a) (request.Words b) =
+    (map string_bytes a.names.items ≡ map string_bytes b.names.items)
+    × (a.lanes ≡ b.lanes) × (a.rounds ≡ b.rounds) × (a.slots ≡ b.slots) × (a.double ≡ b.double)
+IsSame (request.Script a) (request.Script b) = string_bytes a ≡ string_bytes b
+IsSame (request.Steps a) (request.Steps b) = string_bytes a ≡ string_bytes b
+IsSame (request.Generate a) (request.Generate b) = a ≡ b
+IsSame (request.Bulk a) (request.Bulk b) = a ≡ b
+IsSame _ _ = ⊥

@@ -1,4 +1,8 @@
 //! The words after a command, as clap reads them.
+//!
+//! Clap and the grammar differ at one place. After an option clap takes no next word that begins with `-` and has two
+//! or more bytes, where the grammar takes any word as the value. No such value means anything: the words are refused
+//! either way, and nothing is tested before clap sees them. `ArePlain` says that there is no such value.
 ghost use Rattle.std.specs.Prelude.{◌≡◌, List, IfOk, IfSome, IsNone, drop, false, map, string_bytes, true};
 ghost use Rattle.std.specs.declared.option.Option.{Option as Maybe};
 ghost use Rattle.clap.specs.Simple.{app_of};
@@ -11,7 +15,7 @@ use clap::{Arg, ArgAction, ArgMatches, Command};
 use out_of_memory::OutOfMemory;
 use std::alloc::{AllocError, Global};
 
-/// An option: each use has one value.
+/// An option: each use has one value. A second use isn't refused here but is one more value, as a second operand is.
 fn option<'a>(alloc: Global, name: &'a str) -> Arg<'a>
     ensures rule { rule_of result ≡ option_rule name.now }
     ensures local { result.global ≡ false }
@@ -30,7 +34,8 @@ fn command<'a>(alloc: Global, options: &'a [&'a str]) -> Result<Command<'a>, All
     command.arg(Arg::new(alloc, "operand").action(ArgAction::Append))
 }
 
-/// What clap finds in the words after the first. None only where they are no options with plain values and operands.
+/// What clap finds in the words after the first, if it takes them: all operands, and all values of each option. None
+/// only where the words are no options and operands, or a value begins with `-`.
 pub(crate) fn matching<'a>(
     alloc: Global,
     options: &'a [&'a str],
