@@ -1,15 +1,13 @@
 -- One seat leaves, and seat 0 takes over what its lane did.
-use Rattle.std.proofs.Common.{◌≡◌, ℕ, ◌+◌, List, [], ◌∷◌, ◌++◌, refl, sym, ap, subst, ◌∙◌, arith}
+use Rattle.std.proofs.Common.{◌≡◌, ℕ, ◌+◌, List, [], ◌∷◌, ◌++◌, sym, ap, subst, ◌∙◌, arith}
 use Rattle.std.specs.Prelude.{length, map}
 use Rattle.std.specs.List.{flat_map, range_with_len, sum_by}
-use Rattle.std.proofs.lemmas.List.{append-nil, length-append, length-map, map-append, map_push}
-use Rattle.std.proofs.lemmas.List.FromFn.{length-range_with_len}
+use Rattle.std.proofs.lemmas.List.{append-nil, length-append, map-append, map_push}
 use Rattle.std.proofs.lemmas.List.Concat.{flat_map-append}
 use Rattle.std.proofs.lemmas.List.Sums.{sum_by-append}
 use Rattle.plain_state.specs.Lists.{times}
 use Rattle.core_events.specs.declared.act.Act.TheVariants as act
 use Rattle.core_events.specs.declared.outcome.Outcome.TheVariants as outcome
-use Rattle.core_events.specs.declared.shape.Shape.{Shape}
 use Rattle.core_events.specs.declared.view.CoreView.{CoreView}
 use Rattle.core_events.specs.declared.view.LeftSeat.{LeftSeat}
 use Rattle.core_events.specs.declared.view.Note.TheVariants as note
@@ -27,7 +25,6 @@ use Rattle.directory_law.specs.declared.view.View.{View as DirectoryView}
 use Rattle.directory_law.specs.Bytes.{text_bytes}
 use Rattle.directory_law.proofs.Notes.{in_left, in_right}
 use Rattle.domain_rule.specs.declared.view.SeatView.{SeatView}
-use Rattle.domain_rule.specs.Views.{IsAlone}
 use Rattle.linked_queue.specs.Queues.{IsAttached}
 use Rattle.queue_law.specs.declared.view.Item.{Item}
 use Rattle.queue_law.specs.declared.view.Taken.{Taken}
@@ -43,16 +40,16 @@ use Rattle.words_protocol.specs.declared.law.WordsLaw.{WordsLaw}
 use Rattle.word_lanes.specs.Counting.{KnowsWords, by_seat}
 use Rattle.word_lanes.specs.declared.shared.Shared.{Shared}
 use Rattle.word_lanes.specs.Ready.{IsReady}
-use Rattle.word_lanes.proofs.Counted.{more_none, more_then}
+use Rattle.word_lanes.proofs.Counted.{more_then}
 use Rattle.lane_files.specs.declared.lane.Lane.{Lane}
 use Rattle.lane_files.specs.declared.work.Work.{Work}
 use Rattle.lane_files.specs.Keeping.{slots_of}
 use Rattle.lane_files.specs.Work.{all_tickets, kept_files, words_of_all}
 use Rattle.lane_gathering.specs.declared.done.Done.{Done}
 use Rattle.lane_gathering.specs.Deeds.{LaneDeeds, LaneDid, OwnsJust}
-use Rattle.lane_gathering.specs.Gathering.{DrewTickets, HasGathered, HasItems, IsBare, StaysBeside, TellsLanes, Tally, beside_lists, beside_taken, each_by, kept_by, shares_of, words_popped}
+use Rattle.lane_gathering.specs.Gathering.{DrewTickets, HasGathered, HasItems, StaysBeside, TellsLanes, Tally, beside_lists, beside_taken, each_by, kept_by, shares_of, words_popped}
 use Rattle.lane_gathering.specs.Kept.{lives_in}
-use Rattle.lane_gathering.proofs.Lists.{each_none, each_push, items_by, lanes_push, numbers_push, popped_push, tallies_push, together_push, words_none, words_push}
+use Rattle.lane_gathering.proofs.Lists.{each_push, items_by, lanes_push, numbers_push, popped_push, tallies_push, together_push, words_push}
 use Rattle.lane_gathering.proofs.Tells.{as_many, files_more, lanes_more, tells_files, tells_push}
 
 -- A VIEW OF BOTH
@@ -317,45 +314,3 @@ module _ (fits : List ℕ → Type 0) (d : DomainState WordsLaw) (root seat new 
             → flat_map f (xs ++ x ∷ []) ≡ flat_map f xs ++ f x
         flat_map_push f xs x =
             flat_map-append f xs (x ∷ []) ∙ ap (λ (l : List Handle). flat_map f xs ++ l) (append-nil (f x))
-
--- no seat has left yet
-pub gathers_none : (work : Work) (root : SeatState View) → IsBare root
-    → HasGathered work [] root root [] []
-gathers_none work root bare = record {
-  lanes = [];
-  tallies = tt;
-  drew = subst (λ (l : List LeftSeat). DrewTickets work [] l) (sym bare.left)
-      (record { shares = tt; numbers = refl });
-  items = record {
-    pushed = bare.pushed ∙ sym (each_none (λ x. x.pushes) 1);
-    popped = bare.popped ∙ sym (each_none (λ x. x.pops) 1);
-    pushed_words = subst (λ (l : List Taken). KnowsWords root.view.client.1 (taken_items l)
-        (words_of_all work [])) (sym bare.pushed) ([], tt, sym (words_none work));
-    popped_words = subst (λ (l : List Taken). KnowsWords root.view.client.1 (taken_items l) [])
-        (sym bare.popped) ([], tt, refl);
-  };
-  kept = refl;
-  tells = tt;
-  owns = bare.owns;
-  beside = record {
-    core = refl;
-    queue = refl;
-    more = more_none root.view.client.1;
-    adds = omega arith;
-    makes = omega arith;
-  };
-}
-
--- seat 0 is alone once all others have left
-pub alone_after : (work : Work) (done : List Done) (start new : SeatState View)
-    (tallies : List Tally) (kept : List Handle) (z : Shape)
-    → HasGathered work done start new tallies kept → new.view.core.seat ≡ 0
-    → new.view.core.shape ≡ z → length done + 1 ≡ z.seats → IsAlone new.view
-alone_after work done start new tallies kept z got first shape all = (
-  first,
-  let a = as_many work got.lanes done new.view.client.1 got.tells in
-      let b = ap length got.drew.numbers in
-      let c = length-map new.view.core.left_seats (λ (l : LeftSeat). l.seat) in
-      let e = length-range_with_len 1 (length got.lanes) in
-      let s = ap (λ (y : Shape). y.seats) shape in omega (arith, all),
-)

@@ -10,6 +10,7 @@ ghost use Rattle.lane_gathering.specs.Shutting.{ShutsAndSettles};
 use acquire_retire::{Domain, Seat};
 use deleter::Deleter;
 use directory_protocol::RecordKind;
+use hand_queues::HandQueue;
 use plain_state::PayloadKind;
 use protocol_pairs::{Left, PairKind};
 use queue_protocol::NodeKind;
@@ -18,7 +19,7 @@ use word_lanes::Shared;
 use words_protocol::WordsLaw;
 
 /// Shuts the queue, once every other seat has left, and then destroys all that may be destroyed: nothing stays retired
-/// and nothing dying. What the seat owns stays. Its steps are those of `LinkedQueue::shut` and of `settle`. No make.
+/// and nothing dying. What the seat owns stays. Its steps are those of the queue's `shut` and of `settle`. No make.
 pub fn shut_and_settle<F: Fn(&[u64; 16]) -> u64>(
     domain: &Domain<WordsLaw>,
     root: &mut Seat<WordsLaw>,

@@ -5,7 +5,8 @@ use Rattle.core_events.specs.declared.view.CoreView.{CoreView}
 use Rattle.lane_gathering.specs.declared.done.Done.{Done}
 use Rattle.lane_gathering.specs.Gathering.{EachDid, HasGathered, kept_by}
 use Rattle.std.proofs.lemmas.List.Sums.{sum_by-cons}
-use Rattle.lane_gathering.proofs.Leaving.{alone_after, core_beside, gathers_after, gathers_none, none_after, ready_after}
+use Rattle.lane_gathering.proofs.Leaving.{core_beside, gathers_after, none_after, ready_after}
+use Rattle.lane_gathering.proofs.Starting.{alone_after, gathers_none}
 use Rattle.lane_gathering.proofs.gathering.gather.Goals as goal
 
 pub loop-one-init : goal.loop-one-init
