@@ -39,8 +39,8 @@ pub fn kept_slots(alloc: Global, kept: &[Strong]) -> Result<HashSet<u32>, OutOfM
 
 /// The number of strong references to the live record of a word of 1 to 4,096 bytes, as a seat that is alone counts
 /// them. The record is one of those in the slots `held`, of each of which the seat owns a reference; where the walk of
-/// the word comes to no such record, it is tried again, so the call may not return. The reference that the walk gains is
-/// given up again before the count. `Spent` comes only where the seat has no add left. Each try has the steps of a
+/// the word comes to no such record, it is tried again, so the call may not return. The reference that the walk gains
+/// is given up again before the count. `Spent` comes only where the seat has no add left. Each try has the steps of a
 /// `find` and three more, and the count is one step.
 pub fn count_holders<R: Wait>(
     rt: &R,
