@@ -6,3 +6,4 @@ pub mod Finding
 pub mod Quiet
 pub mod Rowing
 pub mod Slots
+pub mod Trying

@@ -43,7 +43,8 @@ slots_more kept all h n old new more is so marks s =
     let one_more = one_same s h.slot (sym is ∙ same.0) in
     ((λ has. omega (arith, sum, one_more)), (λ some. same.1)))
     (λ (other : (¬ (n ≡ s.0)) × (new s ≡ old s)).
-    let none = one_other s h.slot (λ same. other.0 (is ∙ same)) in
-    ((λ has. let had = (so s).0 (sym other.1 ∙ has) in omega (arith, sum, had)),
-    (λ some. other.1 ∙ (so s).1 (omega (arith, sum, none, some)))))
+    let none = one_other s h.slot (λ same. other.0 (is ∙ same)) in (
+      (λ has. let had = (so s).0 (sym other.1 ∙ has) in omega (arith, sum, had)),
+      (λ some. other.1 ∙ (so s).1 (omega (arith, sum, none, some))),
+    ))
     (marked n s.0 (old s) (new s) (marks s))

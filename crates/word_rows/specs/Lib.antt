@@ -2,3 +2,4 @@ pub mod Words
 pub mod Holders
 pub mod Rows
 pub mod Audits
+pub mod Trials

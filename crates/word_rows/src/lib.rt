@@ -21,9 +21,11 @@ mod giving;
 mod holders;
 mod refusal;
 mod rows;
-mod words;
 #[cfg(test)]
 mod tests;
+#[cfg(test)]
+mod tests_rows;
+mod words;
 
 pub use audits::{audit_line, held_and_freed};
 pub use domain_audit::Audit;

@@ -5,9 +5,9 @@ use std::test::Fail;
 #[test]
 fn two_tallies_of_b_a_a_and_a(rt: HostRuntime) -> Result<(), Fail> {
     let mut first = Tally::new(rt.alloc());
-    for piece in [b"b", b"a", b"a"] {
-        first.add(piece.as_slice())?;
-    }
+    first.add(b"b")?;
+    first.add(b"a")?;
+    first.add(b"a")?;
     let mut second = Tally::new(rt.alloc());
     second.add(b"a")?;
     let tallies = vec![in rt.alloc(); first, second]?;

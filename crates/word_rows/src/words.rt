@@ -20,11 +20,7 @@ pub fn distinct_words(alloc: Global, tallies: &[Tally]) -> Result<Vec<Vec<u8>>, 
 }
 
 /// Puts the words of a tally behind these.
-fn add_words(
-    alloc: Global,
-    words: &mut Vec<Vec<u8>>,
-    tally: &Tally,
-) -> Result<(), OutOfMemory>
+fn add_words(alloc: Global, words: &mut Vec<Vec<u8>>, tally: &Tally) -> Result<(), OutOfMemory>
     ensures { OnOk result (AddsWords tally.now (texts_of words.old.items)
         (texts_of words.new.items)) }
 {
