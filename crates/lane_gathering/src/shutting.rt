@@ -10,6 +10,7 @@ ghost use Rattle.lane_gathering.specs.Shutting.{ShutsAndSettles};
 use acquire_retire::{Domain, Seat};
 use deleter::Deleter;
 use directory_protocol::RecordKind;
+use hand_queues::HandQueue;
 use plain_state::PayloadKind;
 use protocol_pairs::{Left, PairKind};
 use queue_protocol::NodeKind;

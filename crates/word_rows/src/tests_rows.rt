@@ -15,6 +15,7 @@ use counted_handles::Strong;
 use deleter::Deleter;
 use directory_calls::Directory;
 use directory_protocol::{DirectoryLaw, RecordKind};
+use hand_queues::AnyQueue;
 use linked_queue::LinkedQueue;
 use out_of_memory::OutOfMemory;
 use plain_state::PayloadKind;
@@ -111,7 +112,7 @@ fn line(live: u64, bytes: u64) -> AuditLine {
 fn two_references_to_a_and_one_to_b(rt: HostRuntime) -> Result<(), Fail> {
     let (domain, mut seat) = open_alone(&rt)?;
     let shared = Shared {
-        queue: LinkedQueue { head: 0, tail: 1 },
+        queue: AnyQueue::Linked(LinkedQueue { head: 0, tail: 1 }),
         directory: Directory::over(0, 10),
     };
     let mut kept = Vec::new(rt.alloc());
