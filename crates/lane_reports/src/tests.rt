@@ -9,7 +9,8 @@ use protocol_pairs::PairKind;
 use queue_law::Form;
 use queue_protocol::NodeKind;
 use std::alloc::Global;
-use std::test::Fail;
+use std::sync::Wait;
+use std::thread::Threads;
 
 /// A file of at most two pieces.
 fn cut(alloc: Global, text: &[u8]) -> Option<FileText> {
@@ -28,58 +29,76 @@ fn work_of(alloc: Global, first: &[u8], second: &[u8], rounds: u64) -> Option<Wo
 }
 
 /// The report of this work.
-fn report_of(rt: &HostRuntime, work: &Work, lanes: u32, form: Form) -> Option<Vec<u8>> {
+fn report_of<R: Threads + Wait + Sync>(
+    rt: &R,
+    alloc: Global,
+    work: &Work,
+    lanes: u32,
+    form: Form,
+) -> Option<Vec<u8>> {
     let weigh: Deleter<PairKind<NodeKind, RecordKind>, _> = Deleter::keep(|payload: &[u64; 16]| {
         <PairKind<NodeKind, RecordKind> as PayloadKind>::weigh(payload)
     });
     if !is_within_limits(work) {
         return None;
     }
-    let counted = count_words(rt, rt.alloc(), work, lanes, 64, form, &Open, &weigh).ok()?;
+    let counted = count_words(rt, alloc, work, lanes, 64, form, &Open, &weigh).ok()?;
     Some(counted.text)
 }
 
 /// What is written of "b a" and "a a".
 const CLOSING: &[u8] = b"files 2 pieces 4 distinct 2\nheld live 2 deferred 0 cyclic 0 bytes 2\nfreed live 0 deferred 0 cyclic 0 bytes 0\n";
 
-fn expect(rt: &HostRuntime, rounds: u64, lanes: u32, form: Form, rows: &[u8]) -> Result<(), Fail> {
-    let Some(work) = work_of(rt.alloc(), b"b a", b"a a", rounds) else {
-        panic!(rt; "two files")
+/// What is written of nothing.
+const NOTHING: &[u8] = b"files 1 pieces 0 distinct 0\nheld live 0 deferred 0 cyclic 0 bytes 0\nfreed live 0 deferred 0 cyclic 0 bytes 0\n";
+
+/// Whether this is written of "b a" and "a a".
+fn writes<R: Threads + Wait + Sync>(
+    rt: &R,
+    alloc: Global,
+    rounds: u64,
+    lanes: u32,
+    form: Form,
+    rows: &[u8],
+) -> Option<bool> {
+    let work = work_of(alloc, b"b a", b"a a", rounds)?;
+    let text = report_of(rt, alloc, &work, lanes, form)?;
+    let mut want = Vec::from_slice(alloc, rows).ok()?;
+    want.extend_from_slice(CLOSING).ok()?;
+    Some(text.as_slice() == want.as_slice())
+}
+
+#[test]
+fn one_round_on_two_lanes(rt: HostRuntime) {
+    let rows = b"3 2 a\n1 1 b\n";
+    assert_eq!(rt; writes(&rt, rt.alloc(), 1, 2, Form::Linked, rows), Some(true));
+    assert_eq!(rt; writes(&rt, rt.alloc(), 1, 2, Form::Double, rows), Some(true));
+}
+
+#[test]
+fn three_rounds_on_two_lanes(rt: HostRuntime) {
+    let rows = b"9 2 a\n3 1 b\n";
+    assert_eq!(rt; writes(&rt, rt.alloc(), 3, 2, Form::Linked, rows), Some(true));
+    assert_eq!(rt; writes(&rt, rt.alloc(), 3, 2, Form::Double, rows), Some(true));
+}
+
+#[test]
+fn one_round_on_31_lanes(rt: HostRuntime) {
+    let rows = b"3 2 a\n1 1 b\n";
+    assert_eq!(rt; writes(&rt, rt.alloc(), 1, 31, Form::Linked, rows), Some(true));
+}
+
+#[test]
+fn a_file_of_nothing(rt: HostRuntime) {
+    let Some(file) = cut(rt.alloc(), b"") else {
+        panic!(rt; "a file")
     };
-    let Some(text) = report_of(rt, &work, lanes, form) else {
+    let Ok(files) = vec![in rt.alloc(); file] else {
+        panic!(rt; "one file")
+    };
+    let work = Work { files, rounds: 1 };
+    let Some(text) = report_of(&rt, rt.alloc(), &work, 2, Form::Linked) else {
         panic!(rt; "a report")
     };
-    let mut want = Vec::from_slice(rt.alloc(), rows)?;
-    want.extend_from_slice(CLOSING)?;
-    assert_eq!(rt; text.as_slice(), want.as_slice());
-    Ok(())
-}
-
-#[test]
-fn one_round_on_two_lanes(rt: HostRuntime) -> Result<(), Fail> {
-    expect(&rt, 1, 2, Form::Linked, b"3 2 a\n1 1 b\n")?;
-    expect(&rt, 1, 2, Form::Double, b"3 2 a\n1 1 b\n")
-}
-
-#[test]
-fn three_rounds_on_two_lanes(rt: HostRuntime) -> Result<(), Fail> {
-    expect(&rt, 3, 2, Form::Linked, b"9 2 a\n3 1 b\n")?;
-    expect(&rt, 3, 2, Form::Double, b"9 2 a\n3 1 b\n")
-}
-
-#[test]
-fn one_round_on_31_lanes(rt: HostRuntime) -> Result<(), Fail> {
-    expect(&rt, 1, 31, Form::Linked, b"3 2 a\n1 1 b\n")
-}
-
-#[test]
-fn two_empty_files(rt: HostRuntime) -> Result<(), Fail> {
-    let Some(work) = work_of(rt.alloc(), b"", b"", 1) else {
-        panic!(rt; "two files")
-    };
-    let Some(text) = report_of(&rt, &work, 2, Form::Linked) else {
-        panic!(rt; "a report")
-    };
-    assert_eq!(rt; text.as_slice(), b"files 2 pieces 0 distinct 0\nheld live 0 deferred 0 cyclic 0 bytes 0\nfreed live 0 deferred 0 cyclic 0 bytes 0\n".as_slice());
-    Ok(())
+    assert!(rt; text.as_slice() == NOTHING);
 }
