@@ -1,0 +1,4 @@
+pub mod Ran
+pub mod Begun
+pub mod Counts
+pub mod Still

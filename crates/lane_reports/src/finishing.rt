@@ -1,4 +1,17 @@
 //! What seat 0 does once all lanes ran to their end.
+ghost use Rattle.std.specs.Prelude.{◌≡◌, ◌+◌, [], IfErr, OnOk, length};
+ghost use Rattle.core_events.specs.Views.{snapshots};
+ghost use Rattle.deleter.specs.Weighing.{Weighs};
+ghost use Rattle.domain_rule.specs.Views.{IsAlone};
+ghost use Rattle.plain_state.specs.declared.slot.SlotId.{SlotId};
+ghost use Rattle.plain_state.specs.Lists.{times};
+ghost use Rattle.lane_domain.specs.Sizes.{IsWithinLimits};
+ghost use Rattle.lane_files.specs.Keeping.{slots_of};
+ghost use Rattle.lane_files.specs.Work.{IsWork};
+ghost use Rattle.lane_gathering.specs.Gathering.{EachDid, IsBare};
+ghost use Rattle.word_lanes.specs.Ready.{IsReady};
+ghost use Rattle.word_rows.specs.Holders.{IsRoot};
+ghost use Rattle.word_rows.specs.Rows.{AreWords, IsWhyNoRows};
 
 use crate::audits::audit_twice;
 use crate::taking::take_rest;
@@ -10,6 +23,7 @@ use directory_protocol::RecordKind;
 use lane_domain::count_pieces;
 use lane_files::Work;
 use lane_gathering::{Done, Gathered, gather, shut_and_settle};
+use plain_state::PayloadKind;
 use protocol_pairs::PairKind;
 use queue_protocol::NodeKind;
 use std::alloc::Global;
@@ -29,7 +43,19 @@ fn write_report<R: Wait, F: Fn(&[u64; 16]) -> u64>(
     work: &Work,
     kept: Vec<Strong>,
     tallies: &[Tally],
-) -> Result<Vec<u8>, RowsError> {
+) -> Result<Vec<u8>, RowsError>
+    requires ready { IsRoot domain.now shared.now root.old }
+    requires under_none { snapshots root.old.view.core ≡ [] }
+    requires owns { (s : SlotId) → times s root.old.view.core.owned
+        ≡ times s (slots_of kept.items) }
+    requires words { AreWords tallies.now }
+    requires work { IsWork work.now }
+    requires weighs { Weighs ⟦<PairKind<NodeKind, RecordKind> as PayloadKind>⟧.fits
+        ⟦<PairKind<NodeKind, RecordKind> as PayloadKind>⟧.weight F.Fn weigh.now }
+    ensures why { IfErr result (λ error. IsWhyNoRows error root.new) }
+    ensures owned { OnOk result (root.new.view.core.owned ≡ []) }
+    ensures alone { IsAlone root.new.view }
+{
     let rows = rows_of(rt, alloc, domain, root, shared, &kept, tallies)?;
     let (held, freed) = audit_twice(rt, alloc, domain, root, kept, weigh)?;
     let totals = Totals {
@@ -53,12 +79,23 @@ pub(crate) fn finish<R: Wait, F: Fn(&[u64; 16]) -> u64>(
     weigh: &Deleter<PairKind<NodeKind, RecordKind>, F>,
     work: &Work,
     done: Vec<Done>,
-) -> Result<(Vec<u8>, Vec<Tally>), RowsError> {
+) -> Result<(Vec<u8>, Vec<Tally>), RowsError>
+    requires ready { IsReady domain.now shared.now root.old }
+    requires bare { IsBare root.old }
+    requires laid { root.old.view.client.0.stand.laid ≡ 2 }
+    requires did { EachDid work.now domain.now 1 done.items }
+    requires all { length done.items + 1 ≡ domain.now.shape.seats }
+    requires work { IsWork work.now }
+    requires within { IsWithinLimits work.now }
+    requires weighs { Weighs ⟦<PairKind<NodeKind, RecordKind> as PayloadKind>⟧.fits
+        ⟦<PairKind<NodeKind, RecordKind> as PayloadKind>⟧.weight F.Fn weigh.now }
+    ensures why { IfErr result (λ error. IsWhyNoRows error root.new) }
+    ensures owned { OnOk result (root.new.view.core.owned ≡ []) }
+    ensures alone { OnOk result (IsAlone root.new.view) }
+{
     let Gathered { tallies, kept } = gather(alloc, domain, root, shared, work, done)?;
     let tallies = take_rest(rt, alloc, domain, root, shared, work, tallies)?;
     shut_and_settle(domain, root, shared, weigh);
-    let text = write_report(
-        rt, alloc, domain, root, shared, weigh, work, kept, &tallies,
-    )?;
+    let text = write_report(rt, alloc, domain, root, shared, weigh, work, kept, &tallies)?;
     Ok((text, tallies))
 }

@@ -1,4 +1,6 @@
 //! The lanes that ran to their end are parted from one that was refused.
+ghost use Rattle.std.specs.Prelude.{IfOk};
+ghost use Rattle.lane_reports.specs.Parting.{AllRan, RanToEnd};
 
 use crate::counted::CountError;
 use acquire_retire::Seat;
@@ -41,7 +43,9 @@ fn refusal_of(stop: LaneStop, seat: Seat<WordsLaw>) -> CountError {
 }
 
 /// What a lane has that ran to its end.
-fn part_lane(ended: LaneEnd) -> Result<Done, CountError> {
+fn part_lane(ended: LaneEnd) -> Result<Done, CountError>
+    ensures ran { IfOk result (RanToEnd ended) }
+{
     let LaneEnd { seat, lane, end } = ended;
     match end {
         Ok(()) => Ok(Done { seat, lane }),
@@ -50,7 +54,9 @@ fn part_lane(ended: LaneEnd) -> Result<Done, CountError> {
 }
 
 /// What the lanes have, if all ran to their end. Else why the first one stopped that did.
-pub(crate) fn part_lanes(alloc: Global, ends: Vec<LaneEnd>) -> Result<Vec<Done>, CountError> {
+pub(crate) fn part_lanes(alloc: Global, ends: Vec<LaneEnd>) -> Result<Vec<Done>, CountError>
+    ensures ran { IfOk result (λ done. AllRan ends.items done.items) }
+{
     let Ok(mut done) = Vec::with_capacity(alloc, ends.len()) else {
         return Err(CountError::OutOfMemory);
     };

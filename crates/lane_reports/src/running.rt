@@ -1,4 +1,12 @@
 //! How the words of some files are counted.
+ghost use Rattle.std.specs.Prelude.{◌≡◌, ◌≤◌, [], IfOk};
+ghost use Rattle.deleter.specs.Weighing.{Weighs};
+ghost use Rattle.domain_rule.specs.Views.{IsAlone};
+ghost use Rattle.word_lanes.specs.Ready.{IsReady};
+ghost use Rattle.lane_files.specs.Lanes.{HasGrants};
+ghost use Rattle.lane_files.specs.Work.{IsWork};
+ghost use Rattle.lane_domain.specs.Opened.{HasOnlyLaid, IsDomainFor, fresh_lanes};
+ghost use Rattle.lane_domain.specs.Sizes.{IsWithinLimits};
 
 use crate::counted::{CountError, Counted};
 use crate::finishing::finish;
@@ -8,6 +16,8 @@ use directory_protocol::RecordKind;
 use lane_domain::{OpenLanesError, Opened, open_lanes};
 use lane_files::Work;
 use lane_gate::Gate;
+use lane_threads::run_lanes;
+use plain_state::PayloadKind;
 use protocol_pairs::PairKind;
 use queue_law::Form;
 use queue_protocol::NodeKind;
@@ -23,7 +33,19 @@ fn open(
     lanes: u32,
     slots: u32,
     form: Form,
-) -> Result<Opened, CountError> {
+) -> Result<Opened, CountError>
+    requires work { IsWork work.now }
+    requires within { IsWithinLimits work.now }
+    requires lanes { (1 ≤ lanes) × (lanes ≤ 31) }
+    requires slots { (1 ≤ slots) × (slots ≤ 4194304) }
+    ensures domain { IfOk result (λ opened.
+        IsDomainFor work.now lanes slots form opened.domain) }
+    ensures grants { IfOk result (λ opened. HasGrants opened.domain work.now) }
+    ensures ready { IfOk result (λ opened. IsReady opened.domain opened.shared opened.root) }
+    ensures root { IfOk result (λ opened. HasOnlyLaid form opened.root) }
+    ensures seats { IfOk result (λ opened. opened.seats.items
+        ≡ fresh_lanes opened.domain lanes) }
+{
     match open_lanes(alloc, work, lanes, slots, form) {
         Ok(opened) => Ok(opened),
         Err(OpenLanesError::OutOfMemory) => Err(CountError::OutOfMemory),
@@ -42,14 +64,23 @@ pub fn count_words<R: Threads + Wait + Sync, G: Gate + Sync, F: Fn(&[u64; 16]) -
     form: Form,
     gate: &G,
     weigh: &Deleter<PairKind<NodeKind, RecordKind>, F>,
-) -> Result<Counted, CountError> {
+) -> Result<Counted, CountError>
+    requires work { IsWork work.now }
+    requires within { IsWithinLimits work.now }
+    requires lanes { (1 ≤ lanes) × (lanes ≤ 31) }
+    requires slots { (1 ≤ slots) × (slots ≤ 4194304) }
+    requires weighs { Weighs ⟦<PairKind<NodeKind, RecordKind> as PayloadKind>⟧.fits
+        ⟦<PairKind<NodeKind, RecordKind> as PayloadKind>⟧.weight F.Fn weigh.now }
+    ensures alone { IfOk result (λ counted. IsAlone counted.root.view) }
+    ensures owned { IfOk result (λ counted. counted.root.view.core.owned ≡ []) }
+{
     let Opened {
         domain,
         mut root,
         seats,
         shared,
     } = open(alloc, work, lanes, slots, form)?;
-    let ends = lane_threads::run_lanes(rt, alloc, &domain, seats, &shared, gate, weigh, work)?;
+    let ends = run_lanes(rt, alloc, &domain, seats, &shared, gate, weigh, work)?;
     let done = part_lanes(alloc, ends)?;
     match finish(rt, alloc, &domain, &mut root, &shared, weigh, work, done) {
         Ok((text, tallies)) => Ok(Counted {
