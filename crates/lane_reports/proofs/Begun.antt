@@ -1,11 +1,11 @@
 -- What a lane did that began on a seat which was just opened, and ran to its end.
-use Rattle.std.proofs.Common.{◌≡◌, ℕ, zero, suc, ◌+◌, ◌<◌, ◌≤◌, List, [], ◌∷◌, refl, sym, ap, subst, ◌∙◌, arith}
-use Rattle.std.specs.Prelude.{length, slice_index_or, Ok, Result}
+use Rattle.std.proofs.Common.{◌≡◌, ℕ, zero, suc, ◌+◌, ◌<◌, List, [], ◌∷◌, refl, sym, ap, subst, ◌∙◌, arith}
+use Rattle.std.specs.Prelude.{length, slice_index_or, Result}
 use Rattle.plain_state.specs.Lists.{times}
 use Rattle.core_events.specs.declared.view.CoreView.{CoreView}
 use Rattle.core_events.specs.declared.view.Note.{Note}
 use Rattle.core_events.specs.declared.view.Note.TheVariants as note
-use Rattle.core_events.specs.Views.{no_notes, note_of, room_of}
+use Rattle.core_events.specs.Views.{no_notes, room_of}
 use Rattle.core_invariant.proofs.Each.{get_each, length_each}
 use Rattle.core_invariant.proofs.Kit.{times_none}
 use Rattle.acquire_retire.specs.Domains.{DomainState}

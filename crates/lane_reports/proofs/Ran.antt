@@ -1,5 +1,5 @@
 -- Lanes that ran to their end.
-use Rattle.std.proofs.Common.{◌≡◌, ℕ, ◌+◌, List, [], ◌∷◌, ◌++◌, ap, ◌∙◌, arith}
+use Rattle.std.proofs.Common.{◌≡◌, List, [], ◌∷◌, ◌++◌, arith}
 use Rattle.std.specs.Prelude.{length}
 use Rattle.lane_gathering.specs.declared.done.Done.{Done}
 use Rattle.lane_threads.specs.declared.ending.LaneEnd.{LaneEnd}

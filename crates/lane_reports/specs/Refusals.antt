@@ -1,5 +1,5 @@
 -- Why nothing was counted.
-use Rattle.std.specs.Prelude.{ℕ, ◌≡◌, ◌⊎◌, ◌<◌, ◌+◌, ◌*◌, List, ◌∷◌, ◌++◌, Option, Some, None, Result, Ok, Err}
+use Rattle.std.specs.Prelude.{ℕ, ◌≡◌, ◌⊎◌, ◌<◌, ◌+◌, ◌*◌, List, ◌∷◌, ◌++◌, Option, Some, None, Err}
 use Rattle.acquire_retire.specs.Domains.{DomainState}
 use Rattle.acquire_retire.specs.Seats.{SeatState}
 use Rattle.control_word.specs.Resting.{IsSpent}
@@ -19,7 +19,9 @@ use Rattle.lane_files.specs.declared.work.Work.{Work}
 use Rattle.lane_files.specs.Lanes.{StopsLane}
 use Rattle.lane_domain.specs.Opened.{FindsNoSlot, IsDomainFor}
 use Rattle.lane_domain.specs.Sizes.{all_parts, all_pieces}
+use Rattle.lane_gathering.specs.declared.done.Done.{Done}
 use Rattle.lane_threads.specs.declared.ending.LaneEnd.{LaneEnd}
+use Rattle.lane_reports.specs.Parting.{AllRan}
 use Rattle.lane_reports.specs.declared.counted.CountError.{CountError}
 use Rattle.lane_reports.specs.declared.counted.CountError.TheVariants as refused
 
@@ -51,9 +53,8 @@ IsRefusalOf ended error =
 abbrev pub IsFirstRefusal : List LaneEnd → CountError → Type 0
 IsFirstRefusal ends error =
     (error ≡ refused.OutOfMemory)
-    ⊎ ((front : List LaneEnd) × (ended : LaneEnd) × (back : List LaneEnd)
-    × (ends ≡ front ++ ended ∷ back) × ((other : LaneEnd) (stop : LaneStop) (i j : List LaneEnd)
-    → front ≡ i ++ other ∷ j → ¬ (other.end ≡ Err stop)) × IsRefusalOf ended error)
+    ⊎ ((front : List LaneEnd) × (done : List Done) × (ended : LaneEnd) × (back : List LaneEnd)
+    × (ends ≡ front ++ ended ∷ back) × AllRan front done × IsRefusalOf ended error)
 
 module _ (fits : List ℕ → Type 0) (work : Work) (d : DomainState WordsLaw) where
   -- a lane stopped where it had no make left, or found each slot taken; this is its seat

@@ -1,8 +1,8 @@
 -- What seat 0 pops that no lane popped.
-use Rattle.std.specs.Prelude.{ℕ, ◌≡◌, ◌<◌, ◌≤◌, ◌*◌, List, [], ◌∷◌, length}
+use Rattle.std.specs.Prelude.{ℕ, ◌≡◌, ◌<◌, ◌≤◌, List, [], ◌∷◌, length}
 use Rattle.acquire_retire.specs.Seats.{SeatState}
 use Rattle.words_law.specs.Views.{View}
-use Rattle.cdrc_text.specs.Tally.{count_of}
+use Rattle.cdrc_text.specs.Tally.{count_of, total_of}
 use Rattle.word_lanes.specs.Counting.{Takes}
 use Rattle.word_rows.specs.Words.{Tallies, counted_in}
 
@@ -25,6 +25,7 @@ pub record CountsRest (old new : SeatState View) (tally : List (List ℕ × ℕ)
   pub most : ℕ
   pub before : List (List ℕ × ℕ)
   pub none : (w : List ℕ) → count_of before w ≡ 0
+  pub sum : total_of before ≡ 0
   pub takes : Takes [] most old.view.client new.view.client before tally
 
 -- the tallies are that one and then these

@@ -9,6 +9,7 @@ ghost use Rattle.plain_state.specs.declared.slot.SlotId.{SlotId};
 ghost use Rattle.plain_state.specs.Lists.{times};
 ghost use Rattle.lane_files.specs.Keeping.{slots_of};
 ghost use Rattle.acquire_retire.specs.Collecting.{rest_of};
+ghost use Rattle.lane_reports.specs.Reporting.{HasNothing};
 
 use acquire_retire::{Domain, Seat};
 use cdrc_text::AuditLine;
@@ -54,6 +55,7 @@ fn audit_held<R: Wait, F: Fn(&[u64; 16]) -> u64>(
     requires weighs { Weighs ⟦<PairKind<NodeKind, RecordKind> as PayloadKind>⟧.fits
         ⟦<PairKind<NodeKind, RecordKind> as PayloadKind>⟧.weight F.Fn weigh.now }
     requires ranked { length rank.now ≡ domain.now.shape.slots }
+    ensures reached { IfOk result (λ found. found.cyclic ≡ 0) }
     ensures same { rest_of root.new.view.core ≡ rest_of root.old.view.core }
     ensures client { root.new.view.client ≡ root.old.view.client }
     ensures alone { IsAlone root.new.view }
@@ -88,7 +90,8 @@ fn audit_freed<F: Fn(&[u64; 16]) -> u64>(
     requires weighs { Weighs ⟦<PairKind<NodeKind, RecordKind> as PayloadKind>⟧.fits
         ⟦<PairKind<NodeKind, RecordKind> as PayloadKind>⟧.weight F.Fn weigh.now }
     requires ranked { length rank.now ≡ domain.now.shape.slots }
-    ensures owned { root.new.view.core.owned ≡ [] }
+    ensures nothing { HasNothing root.new.view.core }
+    ensures left { root.new.view.core.left_seats ≡ root.old.view.core.left_seats }
     ensures client { root.new.view.client ≡ root.old.view.client }
     ensures alone { IsAlone root.new.view }
     ensures room { HasRoom root.new.view.core }
@@ -116,7 +119,10 @@ pub(crate) fn audit_twice<R: Wait, F: Fn(&[u64; 16]) -> u64>(
         ≡ times s (slots_of kept.items) }
     requires weighs { Weighs ⟦<PairKind<NodeKind, RecordKind> as PayloadKind>⟧.fits
         ⟦<PairKind<NodeKind, RecordKind> as PayloadKind>⟧.weight F.Fn weigh.now }
-    ensures owned { OnOk result (root.new.view.core.owned ≡ []) }
+    ensures nothing { OnOk result (HasNothing root.new.view.core) }
+    ensures left { OnOk result
+        (root.new.view.core.left_seats ≡ root.old.view.core.left_seats) }
+    ensures reached { IfOk result (λ lines. lines.0.cyclic ≡ 0) }
     ensures client { root.new.view.client ≡ root.old.view.client }
     ensures alone { IsAlone root.new.view }
     ensures room { HasRoom root.new.view.core }

@@ -1,6 +1,7 @@
 //! What seat 0 does once all lanes ran to their end.
-ghost use Rattle.std.specs.Prelude.{◌≡◌, ◌+◌, [], IfErr, OnOk, length};
+ghost use Rattle.std.specs.Prelude.{◌≡◌, ◌+◌, [], IfErr, IfOk, OnOk, length};
 ghost use Rattle.core_events.specs.Views.{snapshots};
+ghost use Rattle.control_word.specs.Resting.{IsAtRest};
 ghost use Rattle.deleter.specs.Weighing.{Weighs};
 ghost use Rattle.domain_rule.specs.Views.{IsAlone};
 ghost use Rattle.plain_state.specs.declared.slot.SlotId.{SlotId};
@@ -12,6 +13,9 @@ ghost use Rattle.lane_gathering.specs.Gathering.{EachDid, IsBare};
 ghost use Rattle.word_lanes.specs.Ready.{IsReady};
 ghost use Rattle.word_rows.specs.Holders.{IsRoot};
 ghost use Rattle.word_rows.specs.Rows.{AreWords, IsWhyNoRows};
+ghost use Rattle.words_law.specs.Known.{ForgetsNothing};
+ghost use Rattle.lane_reports.specs.Counting.{CountsAll};
+ghost use Rattle.lane_reports.specs.Reporting.{HasNothing, IsReportOf};
 
 use crate::audits::audit_twice;
 use crate::taking::take_rest;
@@ -53,8 +57,15 @@ fn write_report<R: Wait, F: Fn(&[u64; 16]) -> u64>(
     requires weighs { Weighs ⟦<PairKind<NodeKind, RecordKind> as PayloadKind>⟧.fits
         ⟦<PairKind<NodeKind, RecordKind> as PayloadKind>⟧.weight F.Fn weigh.now }
     ensures why { IfErr result (λ error. IsWhyNoRows error root.new) }
-    ensures owned { OnOk result (root.new.view.core.owned ≡ []) }
+    ensures text { IfOk result (λ text. IsReportOf work.now tallies.now text.items) }
+    ensures nothing { OnOk result (HasNothing root.new.view.core) }
+    ensures left { OnOk result
+        (root.new.view.core.left_seats ≡ root.old.view.core.left_seats) }
+    ensures queue { OnOk result (root.new.view.client.0 ≡ root.old.view.client.0) }
+    ensures knows { OnOk result
+        (ForgetsNothing root.old.view.client.1 root.new.view.client.1) }
     ensures alone { IsAlone root.new.view }
+    ensures rest { IsAtRest domain.now root.new }
 {
     let rows = rows_of(rt, alloc, domain, root, shared, &kept, tallies)?;
     let (held, freed) = audit_twice(rt, alloc, domain, root, kept, weigh)?;
@@ -82,6 +93,7 @@ pub(crate) fn finish<R: Wait, F: Fn(&[u64; 16]) -> u64>(
 ) -> Result<(Vec<u8>, Vec<Tally>), RowsError>
     requires ready { IsReady domain.now shared.now root.old }
     requires bare { IsBare root.old }
+    requires named { root.old.view.client.0.number ≡ 0 }
     requires laid { root.old.view.client.0.stand.laid ≡ 2 }
     requires did { EachDid work.now domain.now 1 done.items }
     requires all { length done.items + 1 ≡ domain.now.shape.seats }
@@ -90,8 +102,11 @@ pub(crate) fn finish<R: Wait, F: Fn(&[u64; 16]) -> u64>(
     requires weighs { Weighs ⟦<PairKind<NodeKind, RecordKind> as PayloadKind>⟧.fits
         ⟦<PairKind<NodeKind, RecordKind> as PayloadKind>⟧.weight F.Fn weigh.now }
     ensures why { IfErr result (λ error. IsWhyNoRows error root.new) }
-    ensures owned { OnOk result (root.new.view.core.owned ≡ []) }
+    ensures text { IfOk result (λ r. IsReportOf work.now r.1.items r.0.items) }
+    ensures counts { IfOk result (λ r. CountsAll work.now root.new r.1.items) }
+    ensures nothing { OnOk result (HasNothing root.new.view.core) }
     ensures alone { OnOk result (IsAlone root.new.view) }
+    ensures rest { OnOk result (IsAtRest domain.now root.new) }
 {
     let Gathered { tallies, kept } = gather(alloc, domain, root, shared, work, done)?;
     let tallies = take_rest(rt, alloc, domain, root, shared, work, tallies)?;

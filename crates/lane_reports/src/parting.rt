@@ -1,6 +1,7 @@
 //! The lanes that ran to their end are parted from one that was refused.
-ghost use Rattle.std.specs.Prelude.{IfOk};
+ghost use Rattle.std.specs.Prelude.{IfErr, IfOk, Some};
 ghost use Rattle.lane_reports.specs.Parting.{AllRan, RanToEnd};
+ghost use Rattle.lane_reports.specs.Refusals.{IsAnswerFor, IsFirstRefusal, IsRefusalOf, cause_in, cause_of};
 
 use crate::counted::CountError;
 use acquire_retire::Seat;
@@ -15,7 +16,9 @@ use words_protocol::WordsLaw;
 
 /// Why a make or an add was refused, with the seat. That a lane has no make left isn't excluded by its contracts, though
 /// its tickets grant what it makes: it is answered as `Full`.
-fn refusal_of_make(error: MakeError, seat: Seat<WordsLaw>) -> CountError {
+fn refusal_of_make(error: MakeError, seat: Seat<WordsLaw>) -> CountError
+    ensures { IsAnswerFor (Some error) seat result }
+{
     match error {
         MakeError::AddsSpent => CountError::Spent(seat),
         MakeError::MakesSpent => CountError::Full(seat),
@@ -24,7 +27,9 @@ fn refusal_of_make(error: MakeError, seat: Seat<WordsLaw>) -> CountError {
 }
 
 /// Why a piece wasn't counted, with the seat.
-fn refusal_of_piece(error: PieceError, seat: Seat<WordsLaw>) -> CountError {
+fn refusal_of_piece(error: PieceError, seat: Seat<WordsLaw>) -> CountError
+    ensures { IsAnswerFor (cause_in error) seat result }
+{
     match error {
         PieceError::Interning(error) => refusal_of_make(error, seat),
         PieceError::Offering(error) => refusal_of_make(error, seat),
@@ -34,7 +39,9 @@ fn refusal_of_piece(error: PieceError, seat: Seat<WordsLaw>) -> CountError {
 }
 
 /// Why a lane stopped, with its seat.
-fn refusal_of(stop: LaneStop, seat: Seat<WordsLaw>) -> CountError {
+fn refusal_of(stop: LaneStop, seat: Seat<WordsLaw>) -> CountError
+    ensures { IsAnswerFor (cause_of stop) seat result }
+{
     match stop {
         LaneStop::Spent => CountError::Spent(seat),
         LaneStop::File(FileError::Piece(error)) => refusal_of_piece(error, seat),
@@ -45,6 +52,7 @@ fn refusal_of(stop: LaneStop, seat: Seat<WordsLaw>) -> CountError {
 /// What a lane has that ran to its end.
 fn part_lane(ended: LaneEnd) -> Result<Done, CountError>
     ensures ran { IfOk result (RanToEnd ended) }
+    ensures why { IfErr result (IsRefusalOf ended) }
 {
     let LaneEnd { seat, lane, end } = ended;
     match end {
@@ -56,6 +64,7 @@ fn part_lane(ended: LaneEnd) -> Result<Done, CountError>
 /// What the lanes have, if all ran to their end. Else why the first one stopped that did.
 pub(crate) fn part_lanes(alloc: Global, ends: Vec<LaneEnd>) -> Result<Vec<Done>, CountError>
     ensures ran { IfOk result (λ done. AllRan ends.items done.items) }
+    ensures why { IfErr result (IsFirstRefusal ends.items) }
 {
     let Ok(mut done) = Vec::with_capacity(alloc, ends.len()) else {
         return Err(CountError::OutOfMemory);

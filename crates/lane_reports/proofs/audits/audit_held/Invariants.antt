@@ -1,6 +1,5 @@
-use Rattle.std.proofs.Common.{◌≡◌, []}
+use Rattle.std.proofs.Common.{◌≡◌}
 use Rattle.core_events.specs.Steps.{HasRoom}
-use Rattle.core_events.specs.Views.{snapshots}
 use Rattle.acquire_retire.specs.Collecting.{rest_of}
 use Rattle.control_word.specs.Resting.{IsAtRest}
 use Rattle.domain_rule.specs.Views.{IsAlone}

@@ -1,4 +1,5 @@
-use Rattle.std.proofs.Common.{rules, ◌≡◌, ◌+◌, ◌++◌, ◌∷◌, [], List, append-nil, append_assoc, refl, sym, ap, subst, ◌∙◌, arith, length, vec_len}
+use Rattle.std.proofs.Common.{rules, inr, ◌++◌, ◌∷◌, [], List, append-nil, append_assoc, sym, ap, subst, ◌∙◌, arith, length}
+use Rattle.std.proofs.lemmas.Result.{err_from_is_err_and}
 use Rattle.slot_store.proofs.Quieting.{no_items}
 use Rattle.lane_threads.specs.declared.ending.LaneEnd.{LaneEnd}
 use Rattle.lane_reports.specs.Parting.{AllRan}
@@ -25,15 +26,28 @@ loop-ended-preserved c =
           let k = c.push_reserved.ensures.capacity in let i = inv.room in omega arith;
     }
 
-pub returns : goal.returns
-returns c =
-    let inv = c.loop-ended.invariant in record {
-      ran =
-          subst (λ (es : List LaneEnd). AllRan es c.loop-ended.done.items)
-          (sym (append-nil c.loop-ended.yielded)
-          ∙ sym (ap (λ (es : List LaneEnd). c.loop-ended.yielded ++ es)
-          (no_items c.loop-ended.ended-iterator.rest.items
-          (sym c.loop-ended.ended-iterator.rest.ok.0 ∙ c.in-None.ensures.steps.0)))
-          ∙ inv.all)
-          inv.ran;
-    }
+pub returns-in_err-part_lane-clause-why : goal.returns-in_err-part_lane-clause-why
+returns-in_err-part_lane-clause-why c =
+    let inv = c.loop-ended.invariant in let steps = c.in-Some.ensures.steps.0 in
+    let p = err_from_is_err_and c.from_residual.result c.from_residual.ensures.1 in
+    rw (p.1, p.2)
+    (inr (
+      c.loop-ended.yielded,
+      c.loop-ended.done.items,
+      c.in-Some.ended,
+      c.next.new.self.rest.items,
+      sym inv.all ∙ ap (λ (es : List LaneEnd). c.loop-ended.yielded ++ es) steps,
+      inv.ran,
+      c.in_err-part_lane.ensures.why,
+    ))
+
+pub returns-clause-ran : goal.returns-clause-ran
+returns-clause-ran c =
+    let inv = c.loop-ended.invariant in
+    subst (λ (es : List LaneEnd). AllRan es c.loop-ended.done.items)
+    (sym (append-nil c.loop-ended.yielded)
+    ∙ sym (ap (λ (es : List LaneEnd). c.loop-ended.yielded ++ es)
+    (no_items c.loop-ended.ended-iterator.rest.items
+    (sym c.loop-ended.ended-iterator.rest.ok.0 ∙ c.in-None.ensures.steps.0)))
+    ∙ inv.all)
+    inv.ran

@@ -1,5 +1,6 @@
-use Rattle.std.proofs.Common.{◌≡◌, ◌+◌, ◌<◌, ◌≤◌, All, sym, ap, subst, ◌∙◌, arith}
+use Rattle.std.proofs.Common.{All, sym, ap, subst, ◌∙◌, arith}
 use Rattle.std.specs.Prelude.{length}
+use Rattle.std.proofs.lemmas.Result.{err_from_is_err_and}
 use Rattle.plain_state.specs.Lists.{times}
 use Rattle.core_events.specs.declared.shape.Shape.{Shape}
 use Rattle.core_invariant.proofs.Each.{length_each}
@@ -10,6 +11,7 @@ use Rattle.lane_threads.specs.Beginning.{CanBegin}
 use Rattle.lane_threads.proofs.Opened.{opened_begin}
 use Rattle.lane_reports.proofs.Begun.{as_many, lanes_did, under_none}
 use Rattle.lane_reports.proofs.Ran.{ran_many}
+use Rattle.lane_reports.proofs.Refused.{lane_why}
 use Rattle.lane_reports.proofs.running.count_words.Goals as goal
 
 pub run_lanes-requires-clause-begin : goal.run_lanes-requires-clause-begin
@@ -55,3 +57,13 @@ finish-requires-clause-all g c =
     opened.seats.items c.in_ok-ends.ends.items c.in_ok-domain.ensures.seats c.in_ok-ends.ensures in
     let seats = ap (λ (z : Shape). z.seats) c.in_ok-domain.ensures.domain.shape in
     omega (arith, done, many, seats)
+
+pub returns-in_err-done-clause-why : goal.returns-in_err-done-clause-why
+returns-in_err-done-clause-why g c =
+    let opened = c.in_ok-domain.field-0 in
+    let p = err_from_is_err_and c.from_residual-in_err-done.result
+    c.from_residual-in_err-done.ensures.1 in
+    rw (p.1, p.2)
+    (lane_why _ opened.domain c.args.work.now c.args.lanes c.args.slots c.args.form
+    c.in_ok-domain.ensures.domain opened.shared opened.seats.items c.in_ok-ends.ends.items _
+    c.in_ok-ends.ensures c.in_err-done.ensures.why)

@@ -1,7 +1,7 @@
-use Rattle.std.proofs.Common.{◌≡◌, ℕ, ◌+◌, ◌++◌, ◌∷◌, [], List, Vec, Global, append-nil, append_assoc, refl, sym, ap, subst, ◌∙◌, arith, length}
+use Rattle.std.proofs.Common.{ℕ, ◌++◌, ◌∷◌, [], List, Vec, Global, append-nil, append_assoc, refl, sym, ap, subst, ◌∙◌}
 use Rattle.slot_store.proofs.Quieting.{no_items}
 use Rattle.cdrc_text.specs.Tally.{ListsWords, entries_of}
-use Rattle.lane_reports.proofs.Counts.{AreSummed, counted, summed_more, summed_none}
+use Rattle.lane_reports.proofs.Counts.{counted, summed_more, summed_none}
 use Rattle.lane_reports.proofs.taking.counted_by.Goals as goal
 
 pub loop-entry-init : goal.loop-entry-init
