@@ -1,0 +1,128 @@
+-- Why nothing was counted, where a lane was refused.
+use Rattle.std.proofs.Common.{◌≡◌, inl, inr, ℕ, List, [], ◌∷◌, Option, Some, None, refl, sym, ap, subst, ◌∙◌, arith}
+use Rattle.std.specs.Prelude.{length, slice_index_or, Result}
+use Rattle.std.proofs.Math.Seq.{get_or-append_seam}
+use Rattle.std.proofs.lemmas.List.{length-append}
+use Rattle.acquire_retire.specs.Domains.{DomainState}
+use Rattle.acquire_retire.specs.Seats.{SeatState}
+use Rattle.control_word.specs.Resting.{IsSpent}
+use Rattle.slot_store.specs.declared.making.MakeError.{MakeError}
+use Rattle.slot_store.specs.declared.making.MakeError.TheVariants as unmade
+use Rattle.queue_law.specs.declared.view.Form.{Form}
+use Rattle.words_law.specs.Views.{View}
+use Rattle.words_protocol.specs.declared.law.WordsLaw.{WordsLaw}
+use Rattle.word_lanes.specs.declared.refusal.LaneError.TheVariants as untaken
+use Rattle.word_lanes.specs.declared.refusal.PieceError.{PieceError}
+use Rattle.word_lanes.specs.declared.refusal.PieceError.TheVariants as uncounted
+use Rattle.word_lanes.specs.declared.shared.Shared.{Shared}
+use Rattle.word_lanes.specs.Pieces.{IsWhyNotCounted}
+use Rattle.word_lanes.specs.Whys.{IsWhyNotCopied}
+use Rattle.lane_files.specs.declared.lane.Lane.{Lane}
+use Rattle.lane_files.specs.declared.refusal.FileError.TheVariants as unread
+use Rattle.lane_files.specs.declared.refusal.LaneStop.{LaneStop}
+use Rattle.lane_files.specs.declared.refusal.LaneStop.TheVariants as stopped
+use Rattle.lane_files.specs.declared.work.Work.{Work}
+use Rattle.lane_files.specs.Lanes.{IsWhyStopped, StopsLane}
+use Rattle.lane_domain.specs.Opened.{IsDomainFor}
+use Rattle.lane_threads.specs.declared.ending.LaneEnd.{LaneEnd}
+use Rattle.lane_threads.specs.Ending.{EndAll, EndsLane, RunsOrStops}
+use Rattle.lane_reports.specs.declared.counted.CountError.{CountError}
+use Rattle.lane_reports.specs.Refusals.{IsAnswerFor, IsFirstRefusal, IsWhyNothing, cause_in, cause_of}
+
+IsAdds : Option MakeError → Type 0
+IsAdds None = ⊥
+IsAdds (Some unmade.AddsSpent) = Unit {0}
+IsAdds (Some unmade.MakesSpent) = ⊥
+IsAdds (Some unmade.Full) = ⊥
+
+module _ (fits : List ℕ → Type 0) (d : DomainState WordsLaw) where
+  copy_spent : (s : _) (why : MakeError) (old new : SeatState View) → IsAdds (Some why)
+      → IsWhyNotCopied fits d s why old new → IsSpent new.view.core
+  unfolding IsAdds
+  copy_spent s unmade.AddsSpent old new adds (inl spent) = spent.2
+  copy_spent s unmade.AddsSpent old new adds (inr stays) = stays.not_offered
+  copy_spent s unmade.MakesSpent old new adds either = absurd adds
+  copy_spent s unmade.Full old new adds either = absurd adds
+
+  piece_spent : (word : List ℕ) (error : PieceError) (old new : SeatState View)
+      (before after : List (List ℕ × ℕ)) → IsAdds (cause_in error)
+      → IsWhyNotCounted fits d word error old new before after → IsSpent new.view.core
+  unfolding IsAdds
+  piece_spent word (uncounted.Interning unmade.AddsSpent) old new before after adds why = why.0
+  piece_spent word (uncounted.Interning unmade.MakesSpent) old new before after adds why = absurd adds
+  piece_spent word (uncounted.Interning unmade.Full) old new before after adds why = absurd adds
+  piece_spent word (uncounted.Offering error) old new before after adds why =
+      copy_spent why.slot error why.interned new adds why.why.0
+  piece_spent word (uncounted.Taking (untaken.Refused error)) old new before after adds why =
+      why.why.2.1
+  piece_spent word (uncounted.Taking untaken.OutOfMemory) old new before after adds why = absurd adds
+
+  module _ (work : Work) where
+    stop_spent : (stop : LaneStop) (old new : SeatState View) (before after : Lane)
+        → IsAdds (cause_of stop) → IsWhyStopped fits d work stop old new before after
+        → IsSpent new.view.core
+    unfolding IsAdds
+    stop_spent stopped.Spent old new before after adds why = why.0
+    stop_spent (stopped.File (unread.Piece error)) old new before after adds (ticket, less, stops) =
+        piece_spent _ error stops.last new _ _ adds stops.why
+    stop_spent (stopped.File unread.OutOfMemory) old new before after adds why = absurd adds
+
+    module _ (lanes slots : ℕ) (form : Form) (is : IsDomainFor work lanes slots form d) where
+      stop_why : (stop : LaneStop) (begun seat : SeatState View) (before after : Lane)
+          (error : CountError) → StopsLane fits d work stop begun seat before after
+          → (o : Option MakeError) → cause_of stop ≡ o → IsAnswerFor o seat error
+          → IsWhyNothing fits work lanes slots form error
+      unfolding IsAdds
+      stop_why stop begun seat before after error stops None cause answer =
+          subst (IsWhyNothing fits work lanes slots form) (sym answer) tt
+      stop_why stop begun seat before after error stops (Some unmade.AddsSpent) cause answer =
+          subst (IsWhyNothing fits work lanes slots form) (sym answer)
+          (stop_spent stop stops.last seat stops.lane after (subst IsAdds (sym cause) tt) stops.why)
+      stop_why stop begun seat before after error stops (Some unmade.MakesSpent) cause answer =
+          subst (IsWhyNothing fits work lanes slots form) (sym answer) (
+            d,
+            is,
+            inr (record {
+              begun = begun;
+              before = before;
+              after = after;
+              stop = stop;
+              stops = stops;
+              cause = inr cause;
+            }),
+          )
+      stop_why stop begun seat before after error stops (Some unmade.Full) cause answer =
+          subst (IsWhyNothing fits work lanes slots form) (sym answer) (
+            d,
+            is,
+            inr (record {
+              begun = begun;
+              before = before;
+              after = after;
+              stop = stop;
+              stops = stops;
+              cause = inl cause;
+            }),
+          )
+
+      pub lane_why : (on : Shared) (seats : List (SeatState View)) (ends : List LaneEnd)
+          (error : CountError) → EndAll fits d on work seats ends → IsFirstRefusal ends error
+          → IsWhyNothing fits work lanes slots form error
+      lane_why on seats ends error all (inl none) =
+          subst (IsWhyNothing fits work lanes slots form) (sym none) tt
+      lane_why on [] ends error all (inr (front, done, ended, back, are, ran, refusal)) =
+          let many = all.many in let size = ap length are in
+          let l = length-append front (ended ∷ back) in absurd (omega (arith, many, size, l))
+      lane_why on (s ∷ seats) ends error all
+          (inr (front, done, ended, back, are, ran, refusal)) =
+          let many = all.many in let size = ap length are in
+          let l = length-append front (ended ∷ back) in
+          let ends_one = subst (EndsLane fits d on work (length front)
+          (slice_index_or (s ∷ seats) (length front) s))
+          (ap (λ (es : List LaneEnd). slice_index_or es (length front) ended) are
+          ∙ get_or-append_seam front ended back ended)
+          (all.each (length front) s ended (omega (arith, many, size, l))) in
+          stop_why refusal.0 ends_one.begun ended.seat ends_one.lane ended.lane error
+          (subst (λ (r : Result (Unit {0}) LaneStop).
+          RunsOrStops fits d work r ends_one.begun ended.seat ends_one.lane ended.lane)
+          refusal.1 ends_one.runs) (cause_of refusal.0) refl refusal.2

@@ -1,0 +1,116 @@
+//! What seat 0 does once all lanes ran to their end.
+ghost use Rattle.std.specs.Prelude.{◌≡◌, ◌+◌, [], IfErr, IfOk, OnOk, length};
+ghost use Rattle.core_events.specs.Views.{snapshots};
+ghost use Rattle.control_word.specs.Resting.{IsAtRest};
+ghost use Rattle.deleter.specs.Weighing.{Weighs};
+ghost use Rattle.domain_rule.specs.Views.{IsAlone};
+ghost use Rattle.plain_state.specs.declared.slot.SlotId.{SlotId};
+ghost use Rattle.plain_state.specs.Lists.{times};
+ghost use Rattle.lane_domain.specs.Sizes.{IsWithinLimits};
+ghost use Rattle.lane_files.specs.Keeping.{slots_of};
+ghost use Rattle.lane_files.specs.Work.{IsWork};
+ghost use Rattle.lane_gathering.specs.Gathering.{EachDid, IsBare};
+ghost use Rattle.word_lanes.specs.Ready.{IsReady};
+ghost use Rattle.word_rows.specs.Holders.{IsRoot};
+ghost use Rattle.word_rows.specs.Rows.{AreWords, IsWhyNoRows};
+ghost use Rattle.words_law.specs.Known.{ForgetsNothing};
+ghost use Rattle.lane_reports.specs.Counting.{CountsAll};
+ghost use Rattle.lane_reports.specs.Reporting.{HasNothing, IsReportOf};
+
+use crate::audits::audit_twice;
+use crate::taking::take_rest;
+use acquire_retire::{Domain, Seat};
+use cdrc_text::{Tally, Totals, report};
+use counted_handles::Strong;
+use deleter::Deleter;
+use directory_protocol::RecordKind;
+use lane_domain::count_pieces;
+use lane_files::Work;
+use lane_gathering::{Done, Gathered, gather, shut_and_settle};
+use plain_state::PayloadKind;
+use protocol_pairs::PairKind;
+use queue_protocol::NodeKind;
+use std::alloc::Global;
+use std::sync::Wait;
+use word_lanes::Shared;
+use word_rows::{RowsError, rows_of};
+use words_protocol::WordsLaw;
+
+/// The report: a row for each word that a tally counted, and the closing lines. What is kept is given up.
+fn write_report<R: Wait, F: Fn(&[u64; 16]) -> u64>(
+    rt: &R,
+    alloc: Global,
+    domain: &Domain<WordsLaw>,
+    root: &mut Seat<WordsLaw>,
+    shared: &Shared,
+    weigh: &Deleter<PairKind<NodeKind, RecordKind>, F>,
+    work: &Work,
+    kept: Vec<Strong>,
+    tallies: &[Tally],
+) -> Result<Vec<u8>, RowsError>
+    requires ready { IsRoot domain.now shared.now root.old }
+    requires under_none { snapshots root.old.view.core ≡ [] }
+    requires owns { (s : SlotId) → times s root.old.view.core.owned
+        ≡ times s (slots_of kept.items) }
+    requires words { AreWords tallies.now }
+    requires work { IsWork work.now }
+    requires weighs { Weighs ⟦<PairKind<NodeKind, RecordKind> as PayloadKind>⟧.fits
+        ⟦<PairKind<NodeKind, RecordKind> as PayloadKind>⟧.weight F.Fn weigh.now }
+    ensures why { IfErr result (λ error. IsWhyNoRows error root.new) }
+    ensures text { IfOk result (λ text. IsReportOf work.now tallies.now text.items) }
+    ensures nothing { OnOk result (HasNothing root.new.view.core) }
+    ensures left { OnOk result
+        (root.new.view.core.left_seats ≡ root.old.view.core.left_seats) }
+    ensures queue { OnOk result (root.new.view.client.0 ≡ root.old.view.client.0) }
+    ensures knows { OnOk result
+        (ForgetsNothing root.old.view.client.1 root.new.view.client.1) }
+    ensures alone { IsAlone root.new.view }
+    ensures rest { IsAtRest domain.now root.new }
+{
+    let rows = rows_of(rt, alloc, domain, root, shared, &kept, tallies)?;
+    let (held, freed) = audit_twice(rt, alloc, domain, root, kept, weigh)?;
+    let totals = Totals {
+        files: work.files.len() as u64,
+        pieces: count_pieces(work),
+        held,
+        freed,
+    };
+    let text = report(alloc, &rows, &totals)?;
+    Ok(text)
+}
+
+/// Seat 0 takes over what the lanes have, pops what is left, shuts the queue, and writes the report. It answers that, and
+/// the tallies: its own, and then those of the lanes.
+pub(crate) fn finish<R: Wait, F: Fn(&[u64; 16]) -> u64>(
+    rt: &R,
+    alloc: Global,
+    domain: &Domain<WordsLaw>,
+    root: &mut Seat<WordsLaw>,
+    shared: &Shared,
+    weigh: &Deleter<PairKind<NodeKind, RecordKind>, F>,
+    work: &Work,
+    done: Vec<Done>,
+) -> Result<(Vec<u8>, Vec<Tally>), RowsError>
+    requires ready { IsReady domain.now shared.now root.old }
+    requires bare { IsBare root.old }
+    requires named { root.old.view.client.0.number ≡ 0 }
+    requires laid { root.old.view.client.0.stand.laid ≡ 2 }
+    requires did { EachDid work.now domain.now 1 done.items }
+    requires all { length done.items + 1 ≡ domain.now.shape.seats }
+    requires work { IsWork work.now }
+    requires within { IsWithinLimits work.now }
+    requires weighs { Weighs ⟦<PairKind<NodeKind, RecordKind> as PayloadKind>⟧.fits
+        ⟦<PairKind<NodeKind, RecordKind> as PayloadKind>⟧.weight F.Fn weigh.now }
+    ensures why { IfErr result (λ error. IsWhyNoRows error root.new) }
+    ensures text { IfOk result (λ r. IsReportOf work.now r.1.items r.0.items) }
+    ensures counts { IfOk result (λ r. CountsAll work.now root.new r.1.items) }
+    ensures nothing { OnOk result (HasNothing root.new.view.core) }
+    ensures alone { OnOk result (IsAlone root.new.view) }
+    ensures rest { OnOk result (IsAtRest domain.now root.new) }
+{
+    let Gathered { tallies, kept } = gather(alloc, domain, root, shared, work, done)?;
+    let tallies = take_rest(rt, alloc, domain, root, shared, work, tallies)?;
+    shut_and_settle(domain, root, shared, weigh);
+    let text = write_report(rt, alloc, domain, root, shared, weigh, work, kept, &tallies)?;
+    Ok((text, tallies))
+}
