@@ -32,10 +32,10 @@ split_at t [] some = absurd (omega arith)
 split_at t (u ∷ ts) some = ⊎_elim
     (λ (e : t ≡ u). ([], ts, ap (λ z. z ∷ ts) (sym e)))
     (λ (e : t ≡ u → ⊥).
-        let a = times_cons t u ts in
-        let b = none_if t u e in
-        let s = split_at t ts (omega arith) in
-        (u ∷ s.0, s.1, ap (λ l. u ∷ l) s.2))
+    let a = times_cons t u ts in
+    let b = none_if t u e in
+    let s = split_at t ts (omega arith) in
+    (u ∷ s.0, s.1, ap (λ l. u ∷ l) s.2))
     (cases_eq t u)
 
 pub same_sums : (ts us : List ℕ) → ((t : ℕ) → ticket_times t ts ≡ ticket_times t us)

@@ -19,7 +19,7 @@ turned : (t u : ℕ) → cond {A = ℕ} (t == u) 1 0 ≡ cond (u == t) 1 0
 turned t u = ⊎_elim
     (λ (e : t ≡ u). let a = one_if t u e in let b = one_if u t (sym e) in omega arith)
     (λ (e : t ≡ u → ⊥).
-        let a = none_if t u e in let b = none_if u t (λ f. e (sym f)) in omega arith)
+    let a = none_if t u e in let b = none_if u t (λ f. e (sym f)) in omega arith)
     (cases_eq t u)
 
 both_first : (f g : ℕ → ℕ) (n : ℕ)
@@ -61,7 +61,7 @@ all_times n [] below = none_first (λ i. 0) n (λ i lt. refl)
 all_times n (u ∷ us) below =
     let i = all_times n us (λ k d lt. below (suc k) d (omega arith)) in
     let a = same_first (λ i. ticket_times i (u ∷ us))
-        (λ i. cond (i == u) 1 0 + ticket_times i us) n (λ i lt. times_cons i u us) in
+    (λ i. cond (i == u) 1 0 + ticket_times i us) n (λ i lt. times_cons i u us) in
     let b = both_first (λ i. cond (i == u) 1 0) (λ i. ticket_times i us) n in
     let c = one_first u n (below 0 0 (omega arith)) in omega arith
 
@@ -90,18 +90,18 @@ ended : (most : ℕ) (one tickets : List ℕ) → ((t : ℕ) → ticket_times t 
     → IsShare most one tickets → Ended most one tickets
 ended most one tickets once share = ⊎_elim
     (λ (e : (last : ℕ) × (share.rest ≡ last ∷ []) × (most ≤ last)).
-        record {
-          last = e.0;
-          is = share.is ∙ ap (λ r. tickets ++ r) e.1;
-          inside = share.inside;
-          past = e.2;
-        })
+    record {
+      last = e.0;
+      is = share.is ∙ ap (λ r. tickets ++ r) e.1;
+      inside = share.inside;
+      past = e.2;
+    })
     (λ (e : (share.rest ≡ []) × (most < length tickets)).
-        let few = pigeonholes most tickets share.inside (λ t.
-            let a = ap (ticket_times t) share.is in
-            let b = times_append t tickets share.rest in
-            let c = once t in omega arith) in
-        absurd (omega arith))
+    let few = pigeonholes most tickets share.inside (λ t.
+    let a = ap (ticket_times t) share.is in
+    let b = times_append t tickets share.rest in
+    let c = once t in omega arith) in
+    absurd (omega arith))
     share.ends
 
 all_ended : (most : ℕ) (drawn shares : List (List ℕ)) → AreLanes most drawn shares
@@ -109,11 +109,12 @@ all_ended : (most : ℕ) (drawn shares : List (List ℕ)) → AreLanes most draw
 all_ended most [] [] lanes once = tt
 all_ended most [] (tickets ∷ shares) lanes once = absurd lanes
 all_ended most (one ∷ drawn) [] lanes once = absurd lanes
-all_ended most (one ∷ drawn) (tickets ∷ shares) lanes once =
-    (ended most one tickets (λ t.
-        let a = together_cons t one drawn in let b = once t in omega arith) lanes.0,
-     all_ended most drawn shares lanes.1 (λ t.
-        let a = together_cons t one drawn in let b = once t in omega arith))
+all_ended most (one ∷ drawn) (tickets ∷ shares) lanes once = (
+  ended most one tickets (λ t.
+      let a = together_cons t one drawn in let b = once t in omega arith) lanes.0,
+  all_ended most drawn shares lanes.1 (λ t.
+      let a = together_cons t one drawn in let b = once t in omega arith),
+)
 
 -- of tickets of files the lanes' lists have what they drew
 same_inside : (most t : ℕ) → t < most → (drawn shares : List (List ℕ)) → AreEnded most drawn shares
@@ -170,22 +171,22 @@ pub each_ticket : (most below : ℕ) (drawn shares : List (List ℕ)) → 0 < le
     → DrewOnce drawn below → AreLanes most drawn shares → IsEachOnce most (together shares)
 each_ticket most below drawn shares some once lanes t =
     let ends = all_ended most drawn shares lanes (λ u.
-        let a = once u in let b = one_most u below in omega arith) in
+    let a = once u in let b = one_most u below in omega arith) in
     let last = some_past most drawn shares some ends in
     let under : last.0 < below = ⊎_elim (λ (l : last.0 < below). l)
-        (λ (l : below ≤ last.0).
-            let a = once last.0 in
-            let b = none_past last.0 below l in
-            let c = last.2 in absurd (omega arith))
-        (cases_lt last.0 below) in
+    (λ (l : below ≤ last.0).
+    let a = once last.0 in
+    let b = none_past last.0 below l in
+    let c = last.2 in absurd (omega arith))
+    (cases_lt last.0 below) in
     let past = last.1 in
     ⊎_elim
     (λ (l : t < most).
-        let a = same_inside most t l drawn shares ends in
-        let b = once t in
-        let c = one_below t below (omega arith) in
-        let d = one_below t most l in omega arith)
+    let a = same_inside most t l drawn shares ends in
+    let b = once t in
+    let c = one_below t below (omega arith) in
+    let d = one_below t most l in omega arith)
     (λ (l : most ≤ t).
-        let a = none_outside most t l drawn shares ends in
-        let b = none_past t most l in omega arith)
+    let a = none_outside most t l drawn shares ends in
+    let b = none_past t most l in omega arith)
     (cases_lt t most)

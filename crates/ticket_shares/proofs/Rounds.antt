@@ -32,20 +32,20 @@ firsts_once (suc n) t =
     let b = firsts_once n t in
     ⊎_elim
     (λ (e : t ≡ n).
-        let c = one_if t n e in
-        let d = none_past t n (omega arith) in
-        let f = one_below t (suc n) (omega arith) in omega arith)
+    let c = one_if t n e in
+    let d = none_past t n (omega arith) in
+    let f = one_below t (suc n) (omega arith) in omega arith)
     (λ (e : t ≡ n → ⊥).
-        let c = none_if t n e in
-        ⊎_elim
-        (λ (l : t < n).
-            let d = one_below t n l in
-            let f = one_below t (suc n) (omega arith) in omega arith)
-        (λ (l : n ≤ t).
-            let d = none_past t n l in
-            let more : suc n ≤ t = omega arith in
-            let f = none_past t (suc n) more in omega arith)
-        (cases_lt t n))
+    let c = none_if t n e in
+    ⊎_elim
+    (λ (l : t < n).
+    let d = one_below t n l in
+    let f = one_below t (suc n) (omega arith) in omega arith)
+    (λ (l : n ≤ t).
+    let d = none_past t n l in
+    let more : suc n ≤ t = omega arith in
+    let f = none_past t (suc n) more in omega arith)
+    (cases_lt t n))
     (cases_eq t n)
 
 pub same_first : (f g : ℕ → ℕ) (n : ℕ) → ((i : ℕ) → i < n → f i ≡ g i)
@@ -98,7 +98,7 @@ module _ {A : Type 0} (none : A) where
       let e = ap (λ n. sum_by f (firsts n)) more in
       let next : (i : ℕ) → 1 + i ≡ suc i = λ i. omega arith in
       let g = same_first (λ i. f (1 + i)) (λ i. number (slice_index_or xs i none)) (length xs)
-          (λ i lt. ap f (next i)) in
+      (λ i lt. ap f (next i)) in
       let b = by_places number xs in
       let c = sum_by-cons number x xs in
       let d : sum_by f (firsts 1) ≡ 0 + number x = refl in omega arith
@@ -120,8 +120,8 @@ module _ {A : Type 0} (none : A) where
       let b = more_firsts f (r * length xs) (length xs) in
       let c = by_rounds number xs r in
       let d = same_first (λ i. f (r * length xs + i)) (λ i. number (slice_index_or xs i none))
-          (length xs)
-          (λ i lt. ap (λ j. number (slice_index_or xs j none)) (mod-mul-add r (length xs) i lt)) in
+      (length xs)
+      (λ i lt. ap (λ j. number (slice_index_or xs j none)) (mod-mul-add r (length xs) i lt)) in
       let g = by_places number xs in
       let h : suc r * sum_by number xs ≡ r * sum_by number xs + sum_by number xs = omega arith in
       omega arith
@@ -149,15 +149,15 @@ module _ {A : Type 0} (none : A) where
       let a = sum_by-cons (counted is xs rounds) t tickets in
       ⊎_elim
       (λ (e : is_last rounds xs t ≡ true).
-          let b = ap (λ (q : Bool). count_by is (map (file_of none xs) (cond q
-              (t ∷ filter (is_last rounds xs) tickets) (filter (is_last rounds xs) tickets)))) e in
-          let c = sum_by-cons (λ y. cond (is y) 1 0) (file_of none xs t)
-              (map (file_of none xs) (filter (is_last rounds xs) tickets)) in
-          let d = ap {B = ℕ} (λ (q : Bool). cond q (cond (is (file_of none xs t)) 1 0) 0) e in omega arith)
+      let b = ap (λ (q : Bool). count_by is (map (file_of none xs) (cond q
+      (t ∷ filter (is_last rounds xs) tickets) (filter (is_last rounds xs) tickets)))) e in
+      let c = sum_by-cons (λ y. cond (is y) 1 0) (file_of none xs t)
+      (map (file_of none xs) (filter (is_last rounds xs) tickets)) in
+      let d = ap {B = ℕ} (λ (q : Bool). cond q (cond (is (file_of none xs t)) 1 0) 0) e in omega arith)
       (λ (e : is_last rounds xs t ≡ false).
-          let b = ap (λ (q : Bool). count_by is (map (file_of none xs) (cond q
-              (t ∷ filter (is_last rounds xs) tickets) (filter (is_last rounds xs) tickets)))) e in
-          let d = ap {B = ℕ} (λ (q : Bool). cond q (cond (is (file_of none xs t)) 1 0) 0) e in omega arith)
+      let b = ap (λ (q : Bool). count_by is (map (file_of none xs) (cond q
+      (t ∷ filter (is_last rounds xs) tickets) (filter (is_last rounds xs) tickets)))) e in
+      let d = ap {B = ℕ} (λ (q : Bool). cond q (cond (is (file_of none xs t)) 1 0) 0) e in omega arith)
       (true_or_false (is_last rounds xs t))
 
   -- before the last round none, and in it each file
@@ -171,16 +171,16 @@ module _ {A : Type 0} (none : A) where
       let a = ap (λ m. sum_by f (firsts m)) e in
       let b = more_firsts f (r * n) n in
       let c = none_first f (r * n) (λ t lt.
-          let under = (div-lt_iff_lt-mul {k = n} {x = t} {y = r} (some_in r n t lt)).1 lt in
-          ap {B = ℕ} (λ (q : Bool). cond q (cond (is (file_of none xs t)) 1 0) 0)
-          (lt-leb (suc r - 1) (t / n) (omega arith))) in
+      let under = (div-lt_iff_lt-mul {k = n} {x = t} {y = r} (some_in r n t lt)).1 lt in
+      ap {B = ℕ} (λ (q : Bool). cond q (cond (is (file_of none xs t)) 1 0) 0)
+      (lt-leb (suc r - 1) (t / n) (omega arith))) in
       let d = same_first (λ i. f (r * n + i))
-          (λ i. cond (is (slice_index_or xs i none)) 1 0) n (λ i lt.
-          let over = div-mul-add r n i lt in
-          let here = ap {B = ℕ}
-              (λ (q : Bool). cond q (cond (is (file_of none xs (r * n + i))) 1 0) 0)
-              (le-leb (suc r - 1) ((r * n + i) / n) (omega arith)) in
-          here ∙ ap (λ j. cond {A = ℕ} (is (slice_index_or xs j none)) 1 0) (mod-mul-add r n i lt)) in
+      (λ i. cond (is (slice_index_or xs i none)) 1 0) n (λ i lt.
+      let over = div-mul-add r n i lt in
+      let here = ap {B = ℕ}
+      (λ (q : Bool). cond q (cond (is (file_of none xs (r * n + i))) 1 0) 0)
+      (le-leb (suc r - 1) ((r * n + i) / n) (omega arith)) in
+      here ∙ ap (λ j. cond {A = ℕ} (is (slice_index_or xs j none)) 1 0) (mod-mul-add r n i lt)) in
       let g = by_places (λ x. cond (is x) 1 0) xs in omega arith
 
   pub round_counts : (is : A → Bool) (xs : List A) (rounds : ℕ) (tickets : List ℕ) → 1 ≤ rounds
