@@ -9,8 +9,8 @@ TRY := cd crates/cdrc_words && echo 'nothing is proved here: make test proves ev
 help: ## says what each target does
 	@sed -n 's/^\([a-z]*\):.*## /make \1\t/p' Makefile | expand -t 16
 
-run: ## compiles the program, and prints the report of the sample file: half a minute, no proof
-	@$(TRY) words data/sample.txt
+run: ## compiles the program, and prints the report of two sample files on two lanes: no proof
+	@$(TRY) words --lanes 2 data/sample.txt data/second.txt
 
 script: ## the same with the sample script
 	@$(TRY) script data/sample.script
@@ -32,7 +32,7 @@ test: ## make docs, and then the merge gate, rt ci: every proof, must-fail edit,
 	rt ci
 
 allocations: $(PROGRAM) ## refuses each allocation of three runs of the program in turn: status 9, or the same end
-	tools/fail_allocations.py $(PROGRAM) words crates/cdrc_words/data/sample.txt
+	tools/fail_allocations.py $(PROGRAM) words crates/cdrc_words/data/sample.txt crates/cdrc_words/data/second.txt
 	tools/fail_allocations.py $(PROGRAM) script crates/cdrc_words/data/sample.script
 	tools/fail_allocations.py $(PROGRAM) steps crates/cdrc_words/data/sample.steps
 

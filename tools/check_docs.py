@@ -113,11 +113,8 @@ def outputs_of(commands):
             case, words = Path(folder) / f"case{n}", command.split()
             case.write_text("")
             for i, word in enumerate(words):
-                for place in (TOP / "crates/cdrc_words" / word, TOP / word):
-                    if "/" in word and place.is_file():
-                        shutil.copy(place, case)
-                        words[i] = "{}"
-                        break
+                places = [top / word for top in (TOP / "crates/cdrc_words", TOP) if "/" in word]
+                words[i] = next((str(place) for place in places if place.is_file()), word)
             case.with_name(f"case{n}.args").write_text("".join(word + "\n" for word in words))
         done = subprocess.run(["rt", "try", "--cases", folder], cwd=TOP / "crates/cdrc_words", capture_output=True,
                               text=True)

@@ -1,13 +1,21 @@
 -- What callers see of seat 0 when another seat has left.
 use Rattle.std.specs.Prelude.{ℕ, ◌≡◌, ◌↔◌, List, Option, Some, None, IsSome}
 use Rattle.atomic_table.specs.declared.shared.Seat.{Seat as TableSeat}
+use Rattle.plain_state.specs.declared.slot.SlotId.{SlotId}
+use Rattle.plain_protocol.specs.Owns.{HasSlot}
+use Rattle.core_events.specs.Shows.{show_seat}
 use Rattle.core_events.specs.Steps.{CanLeave}
 use Rattle.domain_rule.specs.declared.view.SeatView.{SeatView}
 use Rattle.domain_rule.specs.Opening.{joined_view}
 use Rattle.domain_rule.specs.Reading.{FoundIn}
-use Rattle.domain_rule.specs.Views.{IsAlone}
+use Rattle.domain_rule.specs.Views.{IsAlone, object_in}
 use Rattle.acquire_retire.specs.Domains.{DomainState}
 use Rattle.acquire_retire.specs.Seats.{IsSeated, SeatState}
+
+-- Of each slot that the one seat has the other knows the object in the same life.
+abbrev pub KnowsAlike : {V : Type 0} → SeatView V → SeatView V → Type 0
+KnowsAlike v new =
+    (s : SlotId) → HasSlot (show_seat v.core) s → (object_in new s).life ≡ (object_in v s).life
 
 module _ {P V : Type 0} where
   -- seat 0 takes over what the seat has, in the domain that was named
@@ -33,10 +41,11 @@ module _ {P V : Type 0} where
     pub knows : IsSome new.me.0.whole ↔ IsAlone new.me.0
     pub word : ℕ
     pub found : FoundIn fits d.shape d.terms new.me.0 0 word
+    pub alike : KnowsAlike root.me.0 new.me.0 × KnowsAlike v.me.0 new.me.0
 
   -- Seat 0 has taken over what a seat had that left. What its view tells is so in a state that events
   -- lead to, the leave the last of its own, and so all payloads fit there. It knows the whole core
-  -- exactly where it is alone now.
+  -- exactly where it is alone now. What either had it knows in the life in which that seat had it.
   pub record TookOver (d : DomainState P) (fits : List ℕ → Type 0) (joined : V → V → V)
       (root v new : SeatState V) : Type 0 where
     pub table : new.table ≡ root.table
@@ -44,3 +53,4 @@ module _ {P V : Type 0} where
     pub knows : IsSome new.view.whole ↔ IsAlone new.view
     pub word : ℕ
     pub found : FoundIn fits d.shape d.terms new.view 0 word
+    pub alike : KnowsAlike root.view new.view × KnowsAlike v.view new.view

@@ -1,100 +1,78 @@
--- The words of a command line name one task and one file.
-use Rattle.std.proofs.Common.{ℕ, ◌≡◌, ◌<◌, ◌≤◌, subst, ap, ◌∙◌, List, [], ◌∷◌, codes, get_or, length, map, inl, inr, refl, arith}
-use Rattle.cdrc_run.specs.declared.command.Task.{Task}
-use Rattle.cdrc_run.specs.declared.command.Task.TheVariants.{Words, Script, Steps}
-use Rattle.line_words.specs.Number.{IsNumber}
-use Rattle.line_words.proofs.Decimal.{one-number_of}
-use Rattle.cdrc_run.specs.declared.drawing.Draws.{Draws}
-use Rattle.cdrc_run.specs.Commands.{Asks, AsksText, IsDraws, IsOneFile, IsOperand, operands_of}
+-- What the words of a command line ask for is within ranges, and is one job.
+use Rattle.std.proofs.Common.{◌≡◌, ℕ, ◌≤◌, List, [], ◌∷◌, IfSome, length, sym, ap, subst, ◌∙◌, arith}
+use Rattle.std.specs.declared.option.Option.{Option}
+use Rattle.command_line.specs.Parts.{Text}
+use Rattle.command_line.specs.Requests.{AreDraws, Asks, IsSame}
+use Rattle.command_line.specs.Values.{IsNumberOr, IsSlots}
+use Rattle.command_line.specs.declared.asked.Draws.{Draws}
+use Rattle.command_line.specs.declared.asked.Request.{Request}
+use Rattle.command_line.specs.declared.asked.Request.TheVariants as request
+use Rattle.cdrc_run.specs.declared.outcome.End.{End}
+use Rattle.cdrc_run.specs.Ends.{Ends, SinkRun, SourceRun}
+use Rattle.cdrc_run.specs.Jobs.{AreInRange, AsksJob, HasRanges, Job, bulk, draw, job_of, script, steps}
+use Rattle.command_line.proofs.OneRequest.{one_request}
 
--- a list of two, from its items
-pub two_items : {A B : Type 0} (f : A → B) (xs : List A) (a b : A) → 2 ≤ length xs → length xs < 3 →
-    a ≡ get_or xs 0 a → b ≡ get_or xs 1 b → map f xs ≡ f a ∷ f b ∷ []
-two_items f [] a b least most first second = absurd (omega arith)
-two_items f (x ∷ []) a b least most first second = absurd (omega arith)
-two_items f (x ∷ y ∷ []) a b least most first second = cc
-two_items f (x ∷ y ∷ z ∷ rest) a b least most first second = absurd (omega arith)
+number_within : (default least most : ℕ) (values : List Text) (n : ℕ) → least ≤ default
+    → default ≤ most → IsNumberOr default least most values n → (least ≤ n) × (n ≤ most)
+number_within default least most [] n low high is = (omega arith, omega arith)
+number_within default least most (word ∷ []) n low high is = (is.1, is.2)
+number_within default least most (word ∷ more ∷ words) n low high is = absurd is
 
-dashes_are_no_file : IsOperand (codes "--") → ⊥
-dashes_are_no_file (inl short) = omega arith
-dashes_are_no_file (inr begun) = begun refl
+slots_within : (values : List Text) (slots : Option ℕ) → IsSlots values slots
+    → IfSome slots (λ n. (1 ≤ n) × (n ≤ 4194304))
+slots_within [] slots is = subst (λ (o : Option ℕ). IfSome o (λ n. (1 ≤ n) × (n ≤ 4194304))) (sym is) tt
+slots_within (word ∷ []) slots is =
+    subst (λ (o : Option ℕ). IfSome o (λ n. (1 ≤ n) × (n ≤ 4194304))) (sym is.1) (is.2.1, is.2.2)
+slots_within (word ∷ more ∷ words) slots is = absurd is
 
-no_dashes : (file : List ℕ) → file ≡ codes "--" → IsOperand file → ⊥
-no_dashes file is operand = dashes_are_no_file (subst (λ (word : List ℕ). IsOperand word) is operand)
+draws_within : (most : ℕ) (draws : Draws) (operands : List Text) → AreDraws most draws operands
+    → AreInRange most draws
+draws_within most draws operands are = record {
+  words = are.5.2;
+  least = are.6.1;
+  most_of = are.6.2;
+}
 
-one_file : (words : List (List ℕ)) (f g : List ℕ) → IsOneFile words f → IsOneFile words g → f ≡ g
-one_file words f g (inl (a, p)) (inl (b, q)) = cc (a, b)
-one_file words f g (inl (a, p)) (inr (inl b)) = absurd (cc (a, b))
-one_file words f g (inl (a, p)) (inr (inr (b, q))) = absurd (cc (a, b))
-one_file words f g (inr (inl a)) (inl (b, q)) = absurd (cc (a, b))
-one_file words f g (inr (inl a)) (inr (inl b)) = cc (a, b)
-one_file words f g (inr (inl a)) (inr (inr (b, q))) = absurd (no_dashes g (cc (a, b)) q)
-one_file words f g (inr (inr (a, p))) (inl (b, q)) = absurd (cc (a, b))
-one_file words f g (inr (inr (a, p))) (inr (inl b)) = absurd (no_dashes f (cc (a, b)) p)
-one_file words f g (inr (inr (a, p))) (inr (inr (b, q))) = cc (a, b)
+-- what is asked for is within ranges
+pub ranges : (line : List Text) (asked : Request) → Asks line asked → HasRanges asked
+ranges line (request.Words args) asks =
+    let are = asks.2.3 in
+    let names = ap length are.names in let some = are.some in (
+      record {
+        lanes = number_within 2 1 31 _ args.lanes (omega arith) (omega arith) are.lanes;
+        rounds = number_within 1 1 1000 _ args.rounds (omega arith) (omega arith) are.rounds;
+        slots = slots_within _ args.slots are.slots;
+      },
+      omega arith,
+    )
+ranges line (request.Script file) asks = tt
+ranges line (request.Steps file) asks = tt
+ranges line (request.Generate draws) asks = draws_within 1000000 draws _ asks.2.3
+ranges line (request.Bulk drawn) asks = (
+  draws_within 500000 drawn.draws _ asks.2.3.0,
+  (let r = number_within 2 1 31 _ drawn.lanes (omega arith) (omega arith) asks.2.3.1 in r.0),
+  (let r = number_within 2 1 31 _ drawn.lanes (omega arith) (omega arith) asks.2.3.1 in r.1),
+)
 
--- a letter of the first word tells which command it is
-abbrev letter : ℕ → List (List ℕ) → ℕ
-letter i [] = 0
-letter i (word ∷ words) = get_or word i 0
+same_job : (a b : Request) → IsSame a b → job_of a ≡ job_of b
+same_job (request.Words a) (request.Words b) same =
+    let names = same.0 in let lanes = same.1 in let rounds = same.2 in
+    let slots = same.3 in let double = same.4 in cc
+same_job (request.Script a) (request.Script b) same = ap script same
+same_job (request.Steps a) (request.Steps b) same = ap steps same
+same_job (request.Generate a) (request.Generate b) same = ap draw same
+same_job (request.Bulk a) (request.Bulk b) same = ap bulk same
+same_job _ _ same = absurd same
 
-words_or_script : (n : ℕ) → n ≡ 119 → n ≡ 115 → ⊥
-words_or_script n words script = omega arith
+-- the words ask for one job
+pub job_is_one : (line : List Text) (a b : Job) → AsksJob line a → AsksJob line b → a ≡ b
+job_is_one line a b first second =
+    sym first.2 ∙ same_job first.0 second.0 (one_request line first.0 second.0 first.1 second.1)
+    ∙ second.2
 
-script_or_steps : (n : ℕ) → n ≡ 99 → n ≡ 116 → ⊥
-script_or_steps n script steps = omega arith
-
-pub one_asked : (line : List (List ℕ)) (t u : Task) (f g : List ℕ) → Asks line t f → Asks line u g →
-    (t ≡ u) × (f ≡ g)
-one_asked line Words Words f g (a, p) (b, q) = (refl, cc (a, b))
-one_asked line Words Script f g (a, p) (rest, b, q) =
-    absurd (words_or_script (letter 0 line) (ap (letter 0) a) (ap (letter 0) b))
-one_asked line Words Steps f g (a, p) (rest, b, q) =
-    absurd (words_or_script (letter 0 line) (ap (letter 0) a) (ap (letter 0) b))
-one_asked line Script Words f g (rest, a, p) (b, q) =
-    absurd (words_or_script (letter 0 line) (ap (letter 0) b) (ap (letter 0) a))
-one_asked line Script Script f g (rest, a, p) (more, b, q) =
-    (refl, one_file rest f g p (subst (λ (words : List (List ℕ)). IsOneFile words g) (cc (a, b)) q))
-one_asked line Script Steps f g (rest, a, p) (more, b, q) =
-    absurd (script_or_steps (letter 1 line) (ap (letter 1) a) (ap (letter 1) b))
-one_asked line Steps Words f g (rest, a, p) (b, q) =
-    absurd (words_or_script (letter 0 line) (ap (letter 0) b) (ap (letter 0) a))
-one_asked line Steps Script f g (rest, a, p) (more, b, q) =
-    absurd (script_or_steps (letter 1 line) (ap (letter 1) b) (ap (letter 1) a))
-one_asked line Steps Steps f g (rest, a, p) (more, b, q) =
-    (refl, one_file rest f g p (subst (λ (words : List (List ℕ)). IsOneFile words g) (cc (a, b)) q))
-
-gen_or_words : (n : ℕ) → n ≡ 103 → n ≡ 119 → ⊥
-gen_or_words n draws words = omega arith
-
-gen_or_script : (n : ℕ) → n ≡ 103 → n ≡ 115 → ⊥
-gen_or_script n draws script = omega arith
-
--- words that ask for draws ask for no task
-pub text_or_task : (line : List (List ℕ)) (draws : Draws) (t : Task) (f : List ℕ) → AsksText line draws → Asks line t f → ⊥
-text_or_task line draws Words f (rest, a, p) (b, q) =
-    gen_or_words (letter 0 line) (ap (letter 0) a) (ap (letter 0) b)
-text_or_task line draws Script f (rest, a, p) (more, b, q) =
-    gen_or_script (letter 0 line) (ap (letter 0) a) (ap (letter 0) b)
-text_or_task line draws Steps f (rest, a, p) (more, b, q) =
-    gen_or_script (letter 0 line) (ap (letter 0) a) (ap (letter 0) b)
-
-one_draws : (operands : List (List ℕ)) (d e : Draws) → IsDraws operands d → IsDraws operands e → d ≡ e
-one_draws operands d e (a, b, c, is, seed, words, vocabulary) (x, y, z, are, first, second, third) =
-    let same : (a ≡ x) × (b ≡ y) × (c ≡ z) = (cc (is, are), cc (is, are), cc (is, are)) in
-    let seeds : d.seed ≡ e.seed = one-number_of x d.seed e.seed
-    (subst (λ (word : List ℕ). IsNumber word d.seed) same.0 seed.0) first.0 in
-    let words' : d.words ≡ e.words = one-number_of y d.words e.words
-    (subst (λ (word : List ℕ). IsNumber word d.words) same.1 words.0) second.0 in
-    let vocabularies : d.vocabulary ≡ e.vocabulary = one-number_of z d.vocabulary e.vocabulary
-    (subst (λ (word : List ℕ). IsNumber word d.vocabulary) same.2 vocabulary.0) third.0 in
-    let draws : ℕ → ℕ → ℕ → Draws = λ n many size. record { seed = n; words = many; vocabulary = size } in
-    ap (λ (n : ℕ). draws n d.words d.vocabulary) seeds
-    ∙ ap (λ (many : ℕ). draws e.seed many d.vocabulary) words'
-    ∙ ap (draws e.seed e.words) vocabularies
-
--- the words name one drawing
-pub one_text : (line : List (List ℕ)) (d e : Draws) → AsksText line d → AsksText line e → d ≡ e
-one_text line d e (rest, a, p) (more, b, q) =
-    let same : more ≡ rest = cc (a, b) in
-    one_draws (operands_of rest) d e p (subst (λ (words : List (List ℕ)). IsDraws (operands_of words) e) same q)
+-- so what holds of one holds of the other
+pub ends_as_asked : {fits : List ℕ → Type 0} {source : SourceRun} {sink : SinkRun} {end : End}
+    (line : List Text) (a b : Job) → AsksJob line a → AsksJob line b
+    → Ends fits a source sink end → Ends fits b source sink end
+ends_as_asked {fits} {source} {sink} {end} line a b first second ends =
+    subst (λ (j : Job). Ends fits j source sink end) (job_is_one line a b first second) ends

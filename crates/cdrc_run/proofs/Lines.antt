@@ -1,29 +1,55 @@
--- The lines of rows that one file holds.
-use Rattle.std.proofs.Common.{◌≡◌, ℕ, List, [], ◌∷◌, ◌++◌, length, map, refl, ap, sym, ◌∙◌}
+-- A text of counts ends in its three closing lines, behind whole lines.
+use Rattle.std.proofs.Common.{◌≡◌, ℕ, inl, inr, List, [], ◌∷◌, ◌++◌, length, codes, refl, sym, ap, ◌∙◌, append_assoc, append-nil}
+use Rattle.std.specs.Fmt.{decimal}
 use Rattle.std.specs.List.{flat_map}
-use Rattle.std.proofs.lemmas.List.{length-map}
-use Rattle.std.proofs.lemmas.List.Concat.{flat_map-cons}
-use Rattle.cdrc_text.specs.declared.row.Row.{Row}
 use Rattle.cdrc_text.specs.declared.row.Totals.{Totals}
-use Rattle.cdrc_text.specs.Report.{closing_lines, report_of, row_line, word_line}
-use Rattle.cdrc_run.specs.declared.counting.Counted.{Counted}
-use Rattle.cdrc_run.specs.Counted.{word_of}
-use Rattle.cdrc_run.specs.Reports.{held_row, one_file_text, one_file_totals}
+use Rattle.cdrc_text.specs.Fold.{File, holders_in, occurrences_in}
+use Rattle.cdrc_text.specs.Report.{closing_lines, word_line}
+use Rattle.cdrc_text.specs.Text.{IsReport, totals_in}
+use Rattle.cdrc_run.specs.Closings.{EndsInLines, IsWholeLines}
+use Rattle.cdrc_run.specs.Outputs.{IsClosing}
 
-lines_of : (list : List Counted) → flat_map row_line (map held_row list) ≡ flat_map (λ c. word_line c.occurrences 1 (word_of c)) list
-lines_of [] = refl
-lines_of (c ∷ list) =
-    let line : Counted → List ℕ = λ d. word_line d.occurrences 1 (word_of d) in
-    flat_map-cons row_line (held_row c) (map held_row list)
-    ∙ ap (λ (l : List ℕ). line c ++ l) (lines_of list)
-    ∙ sym (flat_map-cons line c list)
+-- lines behind a line that ends with a line feed
+line_before : (line rest : List ℕ) → IsWholeLines rest → IsWholeLines (line ++ codes "\n" ++ rest)
+line_before line rest (inl none) =
+    inr (line, ap (λ (xs : List ℕ). line ++ codes "\n" ++ xs) none ∙ append-nil (line ++ codes "\n"))
+line_before line rest (inr last) =
+    inr (
+      line ++ codes "\n" ++ last.0,
+      ap (λ (xs : List ℕ). line ++ codes "\n" ++ xs) last.1
+          ∙ sym (append_assoc (line ++ codes "\n") last.0 (10 ∷ [])),
+    )
 
--- a report of the held rows is the text of the one file
-pub report_held : (list : List Counted) (pieces : ℕ) (rows : List Row) (totals : Totals) → rows ≡ map held_row list → totals ≡ one_file_totals list pieces
-    → report_of rows totals ≡ one_file_text list pieces
-unfolding report_of
-report_held list pieces rows totals e f =
-    ap (λ (r : List Row). flat_map row_line r ++ closing_lines (length r) totals) e
-    ∙ ap (λ (l : List ℕ). l ++ closing_lines (length (map held_row list)) totals) (lines_of list)
-    ∙ ap (λ (n : ℕ). flat_map (λ c. word_line c.occurrences 1 (word_of c)) list ++ closing_lines n totals) (length-map list held_row)
-    ∙ ap (λ (t : Totals). flat_map (λ c. word_line c.occurrences 1 (word_of c)) list ++ closing_lines (length list) t) f
+word_lines : (occurrences holders : List ℕ → ℕ) (words : List (List ℕ))
+    → IsWholeLines (flat_map (λ w. word_line (occurrences w) (holders w) w) words)
+word_lines occurrences holders [] = inl refl
+word_lines occurrences holders (w ∷ ws) =
+    line_before (decimal (occurrences w) ++ codes " " ++ decimal (holders w) ++ codes " " ++ w)
+    (flat_map (λ w. word_line (occurrences w) (holders w) w) ws) (word_lines occurrences holders ws)
+
+module _ (files : List File) (rounds : ℕ) (text : List ℕ) (is : IsReport files rounds text) where
+  abbrev front : List ℕ
+  front = flat_map (λ w. word_line (occurrences_in w rounds files) (holders_in w files) w) is.words
+
+  pub whole : IsWholeLines front
+  whole = word_lines (λ w. occurrences_in w rounds files) (λ w. holders_in w files) is.words
+
+  pub ends_in_lines : EndsInLines text
+  ends_in_lines = record {
+    front = front;
+    whole = whole;
+    distinct = length is.words;
+    totals = totals_in is.words files;
+    is = is.written;
+  }
+
+  -- what is found behind whole lines is the closing
+  pub closing_is : (lines : List ℕ)
+      → ((front : List ℕ) (distinct : ℕ) (totals : Totals) → IsWholeLines front
+      → text ≡ front ++ closing_lines distinct totals → lines ≡ closing_lines distinct totals)
+      → IsClosing files lines
+  closing_is lines found = (
+    is.words,
+    is.distinct,
+    found front (length is.words) (totals_in is.words files) whole is.written,
+  )

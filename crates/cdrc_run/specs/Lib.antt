@@ -1,6 +1,5 @@
 pub mod Statuses
-pub mod Commands
-pub mod Counted
-pub mod Reports
-pub mod Outcomes
-pub mod Records
+pub mod Jobs
+pub mod Outputs
+pub mod Ends
+pub mod Closings

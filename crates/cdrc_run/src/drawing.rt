@@ -1,144 +1,96 @@
-//! The command that draws words.
-ghost use Rattle.std.specs.Prelude.{◌≡◌, ◌≤◌, ◌∷◌, [], ◌⊎◌, ℕ, List, IfErr, IfOk, IfSome, IsNone, OnOk, map, string_bytes, false};
-ghost use Rattle.lane_gate.specs.Causes.{Rose};
-ghost use Rattle.cdrc_run.specs.Commands.{AsksText, IsDraws, IsNumberWithin, operands_left, operands_of};
-ghost use Rattle.cdrc_run.specs.Outcomes.{EndsWith, TookAll, TookPart, text_of_draws};
-ghost use Rattle.cdrc_run.specs.declared.drawing.Draws.{Draws as Drawing};
-ghost use Rattle.cdrc_run.specs.declared.outcome.Refusal.TheVariants as refusal;
+//! The jobs that draw words.
+ghost use Rattle.std.specs.Prelude.{◌≡◌, ◌≤◌, [], ◌∷◌, IfErr, IfOk, List, ℕ};
+ghost use Rattle.cdrc_run.specs.Jobs.{AreInRange, bulk, draw, drawn_texts, next_draws, text_of_draws};
+ghost use Rattle.cdrc_run.specs.Outputs.{IsOutput, IsWhyNoOutput};
+ghost use Rattle.words_work.specs.Contents.{Told};
+ghost use Rattle.words_work.specs.Outcomes.{Counts, bytes_of};
 
-use crate::outcome::{End, Finished, Refusal, Why};
-use crate::output::write_all;
+use crate::closing::last_lines;
+use crate::outcome::{Output, Why};
 use cdrc_text::generate;
-use lane_gate::Sink;
-use line_words::number;
+use command_line::{Bulk, Draws};
+use deleter::Deleter;
+use directory_protocol::RecordKind;
+use lane_gate::Gate;
+use out_of_memory::OutOfMemory;
+use plain_state::PayloadKind;
+use protocol_pairs::PairKind;
+use queue_law::Form;
+use queue_protocol::NodeKind;
 use std::alloc::Global;
+use std::sync::Wait;
+use std::thread::Threads;
+use words_work::{Plan, WordsDone, WordsRefused, count_contents};
 
-/// The most words that are drawn, and that a vocabulary has.
-const MOST_WORDS: u64 = 1_000_000;
-
-/// So many words of a vocabulary of some size, drawn from a seed.
-#[derive(Clone, Copy, PartialEq, Eq, Debug, Drop)]
-pub struct Draws {
-    pub seed: u64,
-    pub words: u64,
-    pub vocabulary: u64,
-}
-
-/// The draws that the words ask for. None exactly where they ask for none.
-pub fn asked_draws(words: &[String]) -> Option<Draws>
-    ensures found { IfSome result (AsksText (map string_bytes words.now)) }
-    ensures none { IsNone result → (draws : Drawing) →
-        AsksText (map string_bytes words.now) draws → ⊥ }
+/// The text of drawn words.
+pub(crate) fn draw_words(alloc: Global, draws: Draws) -> Result<Output, OutOfMemory>
+    requires { AreInRange 1000000 draws }
+    ensures { IfOk result (λ output.
+        IsOutput (draw draws) [] output.text.items output.refused output.why) }
 {
-    match split_word(words)? {
-        ("gen", rest) => draws_of(rest),
-        _ => None,
-    }
-}
-
-/// The draws of the words after the command.
-fn draws_of(words: &[String]) -> Option<Draws>
-    ensures found { IfSome result (IsDraws (operands_of (map string_bytes words.now))) }
-    ensures none { IsNone result → (draws : Drawing) →
-        IsDraws (operands_of (map string_bytes words.now)) draws → ⊥ }
-{
-    let (seed, many, vocabulary) = three_operands(words)?;
-    let seed = number_within(seed, 0, u64::MAX)?;
-    let many = number_within(many, 0, MOST_WORDS)?;
-    let vocabulary = number_within(vocabulary, 1, MOST_WORDS)?;
-    Some(Draws {
-        seed,
-        words: many,
-        vocabulary,
+    let text = generate(alloc, draws.seed, draws.words, draws.vocabulary)?;
+    Ok(Output {
+        text,
+        refused: false,
+        why: Why::Nothing,
     })
 }
 
-/// The number within the bounds that the word spells. None exactly where it spells none.
-fn number_within(word: &str, least: u64, most: u64) -> Option<u64>
-    ensures found { IfSome result (IsNumberWithin least most word.now) }
-    ensures none { IsNone result → (n : ℕ) → IsNumberWithin least most word.now n → ⊥ }
+/// The draws from the next seed.
+fn next_draws(draws: Draws) -> Draws
+    ensures { result ≡ next_draws draws }
 {
-    let value = number(word.as_bytes())?;
-    if value < u128::from(least) || value > u128::from(most) {
-        return None;
-    }
-    Some(value as u64)
-}
-
-/// The three operands among the words. None exactly where there aren't three.
-fn three_operands(words: &[String]) -> Option<(&str, &str, &str)>
-    ensures found { IfSome result (λ found.
-        operands_of (map string_bytes words.now) ≡ found.0.now ∷ found.1.now ∷ found.2.now ∷ []) }
-    ensures none { IsNone result → (a b c : List ℕ) →
-        operands_of (map string_bytes words.now) ≡ a ∷ b ∷ c ∷ [] → ⊥ }
-{
-    let (first, rest, ended) = next_operand(words, false)?;
-    let (second, rest, ended) = next_operand(rest, ended)?;
-    let (third, rest, ended) = next_operand(rest, ended)?;
-    match next_operand(rest, ended) {
-        None => Some((first, second, third)),
-        Some(_) => None,
+    Draws {
+        seed: draws.seed.wrapping_add(1),
+        words: draws.words,
+        vocabulary: draws.vocabulary,
     }
 }
 
-/// The next operand, the words after it, and whether the word `--` is passed. None exactly where no operand is left.
-fn next_operand(words: &[String], ended: bool) -> Option<(&str, &[String], bool)>
-    ensures found { IfSome result (λ found.
-        operands_left ended (map string_bytes words.now)
-        ≡ found.0.now ∷ operands_left found.2 (map string_bytes found.1.now)) }
-    ensures none { IsNone result → operands_left ended (map string_bytes words.now) ≡ [] }
+/// The text of drawn words, and that from the next seed.
+fn draw_twice(alloc: Global, draws: Draws) -> Result<Vec<Vec<u8>>, OutOfMemory>
+    requires { AreInRange 1000000 draws }
+    ensures { IfOk result (λ texts.
+        bytes_of texts.items ≡ text_of_draws draws ∷ text_of_draws (next_draws draws) ∷ []) }
 {
-    let (word, rest) = split_word(words)?;
-    if !ended && word == "--" {
-        let (word, rest) = split_word(rest)?;
-        return Some((word, rest, true));
-    }
-    Some((word, rest, ended))
+    let next = next_draws(draws);
+    let first = generate(alloc, draws.seed, draws.words, draws.vocabulary)?;
+    let second = generate(alloc, next.seed, next.words, next.vocabulary)?;
+    Ok(vec![in alloc; first, second]?)
 }
 
-/// The first word, and those after it. None exactly where there is none.
-fn split_word(words: &[String]) -> Option<(&str, &[String])>
-    ensures found { IfSome result (λ found.
-        map string_bytes words.now ≡ found.0.now ∷ map string_bytes found.1.now) }
-    ensures none { IsNone result → map string_bytes words.now ≡ [] }
+/// The last three lines of what is told of two drawn texts. It may wait for other threads.
+pub(crate) fn count_drawn<R: Threads + Wait + Sync, G: Gate + Sync>(
+    rt: &R,
+    alloc: Global,
+    drawn: Bulk,
+    gate: &G,
+) -> Result<Output, WordsRefused>
+    requires draws { AreInRange 500000 drawn.draws }
+    requires lanes { (1 ≤ drawn.lanes) × (drawn.lanes ≤ 31) }
+    ensures output { IfOk result (λ output.
+        IsOutput (bulk drawn) [] output.text.items output.refused output.why) }
+    ensures why { IfErr result (λ error. (told : Told) → (counts : Counts) → IsWhyNoOutput
+        ⟦<PairKind<NodeKind, RecordKind> as PayloadKind>⟧.fits (bulk drawn) told counts error) }
 {
-    let (word, rest) = words.split_first()?;
-    Some((word.as_str(), rest))
-}
-
-/// Draws the words and offers their text to the sink.
-pub fn draw_words<K: Sink>(alloc: Global, draws: Draws, sink: &mut K) -> End
-    requires many { draws.words ≤ 1000000 }
-    requires least { 1 ≤ draws.vocabulary }
-    requires most { draws.vocabulary ≤ 1000000 }
-    ensures why { result.why ≡ Why.Nothing }
-    ensures ends { EndsWith (text_of_draws draws) result.status
-        (K.taken sink.old) (K.taken sink.new) }
-    ensures write { result.status ≡ 4 → Rose (K.faults sink.old) (K.faults sink.new) }
-{
-    End::of(write_words(alloc, draws, sink))
-}
-
-/// The same, before a status is made of it. No line is refused.
-fn write_words<K: Sink>(alloc: Global, draws: Draws, sink: &mut K) -> Result<Finished, Refusal>
-    requires many { draws.words ≤ 1000000 }
-    requires least { 1 ≤ draws.vocabulary }
-    requires most { draws.vocabulary ≤ 1000000 }
-    ensures ok { IfOk result (λ done. (done.refused ≡ false) × (done.why ≡ Why.Nothing)) }
-    ensures all { OnOk result
-        (TookAll (text_of_draws draws) (K.taken sink.old) (K.taken sink.new)) }
-    ensures write { result ≡ Err Refusal.Write → Rose (K.faults sink.old) (K.faults sink.new) }
-    ensures part { result ≡ Err Refusal.Write →
-        TookPart (text_of_draws draws) (K.taken sink.old) (K.taken sink.new) }
-    ensures memory { result ≡ Err Refusal.OutOfMemory →
-        (K.taken sink.new ≡ K.taken sink.old)
-        ⊎ TookPart (text_of_draws draws) (K.taken sink.old) (K.taken sink.new) }
-    ensures only { IfErr result (λ e. (e ≡ refusal.Write) ⊎ (e ≡ refusal.OutOfMemory)) }
-{
-    let text = generate(alloc, draws.seed, draws.words, draws.vocabulary)?;
-    write_all(sink, &text)?;
-    Ok(Finished {
+    let weigh: Deleter<PairKind<NodeKind, RecordKind>, _> = Deleter::keep(|payload: &[u64; 16]| {
+        <PairKind<NodeKind, RecordKind> as PayloadKind>::weigh(payload)
+    });
+    let texts = draw_twice(alloc, drawn.draws)?;
+    let plan = Plan {
+        lanes: drawn.lanes,
+        rounds: 1,
+        slots: None,
+        form: Form::Linked,
+    };
+    let WordsDone {
+        bytes,
+        root,
+        tallies,
+    } = count_contents(rt, alloc, plan, texts, gate, &weigh)?;
+    Ok(Output {
+        text: Vec::from_slice(alloc, last_lines(&bytes))?,
         refused: false,
-        why: Why::Nothing,
+        why: Why::Words(root, tallies),
     })
 }

@@ -1,15 +1,14 @@
-//! The program `cdrc_words` as a library: it counts the words of a file, with an audit of the heap of its records
-//! before and after all handles are dropped; runs a script of pointer commands; makes a list of atomic steps; and draws
-//! words to be counted.
+//! The program `cdrc_words` as a library: it counts the words of files on lanes, runs a script of pointer commands,
+//! makes a list of atomic steps, draws words, and counts words that it draws.
 //!
 //! The work is `run`, a call over any source, sink and gate, which answers a status. The rule that it keeps: with
-//! status 0 or 8 the bytes taken are the output that the words and the file's content mean, and every other status but
+//! status 0 or 8 the bytes taken are the output that the words and the files' contents mean, and every other status but
 //! that of no memory comes only where its cause is there. `start` is `run` for a process: it hands on the words after
 //! the program's name, the host's files and standard output, writes the line for the status to standard error, and
 //! answers the exit code.
 //!
-//! It doesn't promise that a run ends, since the gate may wait, nor when memory is enough. No clause says what the host
-//! gives and takes.
+//! It doesn't promise that a run ends, since lanes retry and the gate may wait, nor when memory is enough. No clause
+//! says what the host gives and takes.
 //!
 //! ```text
 //! fn main(rt: HostRuntime) -> ExitCode {
@@ -18,18 +17,15 @@
 //! ```
 #![tactic(auto)]
 
-mod command;
-mod counting;
+mod closing;
 mod drawing;
+mod ending;
 mod explaining;
-mod limits;
+mod jobs;
 mod outcome;
 mod output;
-mod records;
-mod report;
 mod running;
 mod starting;
-mod work;
 
 pub use explaining::{exit_status, explain};
 pub use outcome::{End, Why};
@@ -42,3 +38,5 @@ mod tests;
 mod tests_drawing;
 #[cfg(test)]
 mod tests_gate;
+#[cfg(test)]
+mod tests_words;

@@ -9,12 +9,12 @@ use std::test::Fail;
 use std::thread::Threads;
 
 /// The three lines of a file of no words.
-const NO_WORDS: &str = "files 1 pieces 0 distinct 0\n\
+pub const NO_WORDS: &str = "files 1 pieces 0 distinct 0\n\
                         held live 0 deferred 0 cyclic 0 bytes 0\n\
                         freed live 0 deferred 0 cyclic 0 bytes 0\n";
 
 /// The report of `a b a`.
-const A_B_A: &str = "2 1 a\n\
+pub const A_B_A: &str = "2 1 a\n\
                      1 1 b\n\
                      files 1 pieces 3 distinct 2\n\
                      held live 2 deferred 0 cyclic 0 bytes 2\n\
@@ -61,16 +61,18 @@ fn words_that_are_not_understood(rt: HostRuntime) -> Result<(), Fail> {
         "words",
         "word f",
         "Words f",
-        "words f g",
-        "words --lanes 2 f",
         "words --lanes 0 f",
         "words --lanes 32 f",
         "words --lanes 2 --lanes 2 f",
-        "words -- f",
         "words -x",
         "words --slots= f",
-        "words f --",
+        "words --",
+        "words --queue tree f",
+        "words --rounds 0 f",
+        "words --slots 4194305 f",
         "gen 1 2",
+        "bulk 1 500001 3",
+        "bulk 1 2 3 --lanes 0",
         "script",
         "script f g",
         "script --",
@@ -93,7 +95,15 @@ fn words_that_are_not_understood(rt: HostRuntime) -> Result<(), Fail> {
 
 #[test]
 fn operands_are_names(rt: HostRuntime) -> Result<(), Fail> {
-    for line in ["words -", "words g", "words words", "words "] {
+    for line in [
+        "words -",
+        "words g",
+        "words words",
+        "words ",
+        "words -- -x",
+        "words g --",
+        "words --lanes=31 --rounds 1000 --queue double g",
+    ] {
         let mut files = HonestFiles::new(file_of_bytes(rt.alloc(), b"a b a")?);
         let mut sink = HonestSink::new(rt.alloc());
         let status = status_of(&rt, rt.alloc(), line, &mut files, &mut sink)?;
@@ -167,50 +177,6 @@ fn scripts_and_steps(rt: HostRuntime) -> Result<(), Fail> {
 }
 
 #[test]
-fn reports_byte_for_byte(rt: HostRuntime) -> Result<(), Fail> {
-    for (content, report) in [
-        (b"".as_slice(), NO_WORDS.as_bytes()),
-        (b"a b a", A_B_A.as_bytes()),
-        (
-            b"xxxxxxxxxxxxxxxxxxxxxxxxxxxxxxxxxxxxxxxxxxxxxxxxxxxxxxxxxxxx\
-              xxxxxxxxxxxxxxxxxxxxxxxxxxxxxxxxxxxxxxxxxxxxxxxxxxxxxxxxxxxx",
-            b"1 1 xxxxxxxxxxxxxxxxxxxxxxxxxxxxxxxxxxxxxxxxxxxxxxxxxxxxxxxxxxxx\
-              xxxxxxxxxxxxxxxxxxxxxxxxxxxxxxxxxxxxxxxxxxxxxxxxxxxxxxxxxxxx\n\
-              files 1 pieces 1 distinct 1\n\
-              held live 1 deferred 0 cyclic 0 bytes 120\n\
-              freed live 0 deferred 0 cyclic 0 bytes 0\n",
-        ),
-        (
-            b"xxxxxxxxxxxxxxxxxxxxxxxxxxxxxxxxxxxxxxxxxxxxxxxxxxxxxxxxxxxx\
-              xxxxxxxxxxxxxxxxxxxxxxxxxxxxxxxxxxxxxxxxxxxxxxxxxxxxxxxxxxxxx",
-            b"1 1 x\n\
-              1 1 xxxxxxxxxxxxxxxxxxxxxxxxxxxxxxxxxxxxxxxxxxxxxxxxxxxxxxxxxxxx\
-              xxxxxxxxxxxxxxxxxxxxxxxxxxxxxxxxxxxxxxxxxxxxxxxxxxxxxxxxxxxx\n\
-              files 1 pieces 2 distinct 2\n\
-              held live 2 deferred 0 cyclic 0 bytes 121\n\
-              freed live 0 deferred 0 cyclic 0 bytes 0\n",
-        ),
-        // C2 85 is U+0085, which is white space; FF and FE are no UTF-8.
-        (
-            b"\xFF\xFE\xC2\x85a",
-            b"1 1 a\n\
-              1 1 \xFF\xFE\n\
-              files 1 pieces 2 distinct 2\n\
-              held live 2 deferred 0 cyclic 0 bytes 3\n\
-              freed live 0 deferred 0 cyclic 0 bytes 0\n",
-        ),
-    ] {
-        let mut files = HonestFiles::new(file_of_bytes(rt.alloc(), content)?);
-        let mut sink = HonestSink::new(rt.alloc());
-        let length = content.len();
-        let status = status_of(&rt, rt.alloc(), "words f", &mut files, &mut sink)?;
-        assert!(rt; status == 0, "of {length} bytes");
-        assert!(rt; sink.taken() == report, "of {length} bytes");
-    }
-    Ok(())
-}
-
-#[test]
 fn a_source_that_fails(rt: HostRuntime) -> Result<(), Fail> {
     let failing = vec![in rt.alloc(); 0u64]?;
     let mut files = MemFiles::new(file_of_bytes(rt.alloc(), b"a b a")?, failing);
@@ -239,24 +205,6 @@ fn a_sink_that_fails(rt: HostRuntime) -> Result<(), Fail> {
         0
     );
     assert_eq!(rt; slow.taken(), A_B_A.as_bytes());
-    Ok(())
-}
-
-#[test]
-fn contents_past_a_limit(rt: HostRuntime) -> Result<(), Fail> {
-    let mut pieces = Vec::new(rt.alloc());
-    for _ in 0..1_000_001 {
-        pieces.extend_from_slice(b"a ")?;
-    }
-    let long = vec![in rt.alloc(); b'a'; 67_108_865]?;
-    for content in [pieces, long] {
-        let mut files = HonestFiles::new(file_of_bytes(rt.alloc(), &content)?);
-        let mut sink = HonestSink::new(rt.alloc());
-        let length = content.len();
-        let status = status_of(&rt, rt.alloc(), "words f", &mut files, &mut sink)?;
-        assert!(rt; status == 5, "of {length} bytes");
-        assert!(rt; sink.taken().is_empty(), "of {length} bytes");
-    }
     Ok(())
 }
 

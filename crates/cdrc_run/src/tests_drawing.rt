@@ -31,6 +31,37 @@ fn words_are_drawn(rt: HostRuntime) -> Result<(), Fail> {
 }
 
 #[test]
+fn drawn_words_are_counted(rt: HostRuntime) -> Result<(), Fail> {
+    for (line, output) in [
+        (
+            "bulk 0 1 10",
+            "files 2 pieces 2 distinct 2\n\
+             held live 2 deferred 0 cyclic 0 bytes 4\n\
+             freed live 0 deferred 0 cyclic 0 bytes 0\n",
+        ),
+        (
+            "bulk 18446744073709551615 0 1 --lanes 3",
+            "files 2 pieces 0 distinct 0\n\
+             held live 0 deferred 0 cyclic 0 bytes 0\n\
+             freed live 0 deferred 0 cyclic 0 bytes 0\n",
+        ),
+        (
+            "bulk 5 300 1",
+            "files 2 pieces 600 distinct 1\n\
+             held live 1 deferred 0 cyclic 0 bytes 2\n\
+             freed live 0 deferred 0 cyclic 0 bytes 0\n",
+        ),
+    ] {
+        let mut files = HonestFiles::new(Vec::new(rt.alloc()));
+        let mut sink = HonestSink::new(rt.alloc());
+        let status = status_of(&rt, rt.alloc(), line, &mut files, &mut sink)?;
+        assert!(rt; status == 0, "{line}");
+        assert!(rt; sink.taken() == output.as_bytes(), "{line}");
+    }
+    Ok(())
+}
+
+#[test]
 fn draws_that_are_not_understood(rt: HostRuntime) -> Result<(), Fail> {
     let mut files = HonestFiles::new(Vec::new(rt.alloc()));
     let mut sink = HonestSink::new(rt.alloc());

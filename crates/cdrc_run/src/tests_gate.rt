@@ -27,8 +27,8 @@ impl Gate for Noted {
 #[test]
 fn the_gate_is_passed_once_for_each_piece(rt: HostRuntime) -> Result<(), Fail> {
     for (line, content, turns) in [
-        ("words f", "a b a", 3),
-        ("words f", "", 0),
+        ("words --lanes 1 f", "a b a", 3),
+        ("words --lanes 1 f", "", 0),
         ("script f", "heap 1 0 0\nmake a 1\n", 0),
         ("steps f", "shape 1 1 0 0 4\n0 claim 0\n", 0),
         ("gen 0 2 10", "a b a", 0),

@@ -9,8 +9,7 @@ use Rattle.std.specs.List.{All, Contains, count_by, sum_by}
 use Rattle.std.specs.Map.{keys_of, values_of}
 use Rattle.std.specs.Option.{unwrap_or}
 use Rattle.std.specs.Str.{bytes_eq}
-use Rattle.cdrc_text.specs.Fold.{IsWords, holders_of, occurrences_of, times}
-use Rattle.cdrc_text.specs.Pieces.{pieces_of}
+use Rattle.cdrc_text.specs.Fold.{AreDistinct, File, holders_in, occurrences_in, times}
 use Rattle.cdrc_text.specs.Tally.{ListsWords, count_of}
 use Rattle.cdrc_text.proofs.Unique.{Contains-first, Contains-later, cases-cons}
 
@@ -45,21 +44,21 @@ listed-above (e ∷ es) w above = by_test (bytes_eq w e.0) refl (λ later. liste
 
 -- ---- a word has a holder exactly where it occurs
 
-module _ (g : List ℕ → ℕ) where
+module _ (g : File → ℕ) where
   at-most : (n : ℕ) → cond (nat_lt 0 n) 1 0 ≤ n
   at-most n = grind (arith, nat_tests)
 
   none-left : (n : ℕ) → ◌≡◌ {A = ℕ} (cond (nat_lt 0 n) 1 0) 0 → n ≡ 0
   none-left n h = grind (arith, nat_tests)
 
-  holders-le : (xs : List (List ℕ)) → count_by (λ x. nat_lt 0 (g x)) xs ≤ sum_by g xs
+  holders-le : (xs : List File) → count_by (λ x. nat_lt 0 (g x)) xs ≤ sum_by g xs
   holders-le [] = omega arith
   holders-le (x ∷ xs) =
       let rest = holders-le xs in
       let first = at-most (g x) in
       omega (arith, sum_by-cons (λ y. cond (nat_lt 0 (g y)) 1 0) x xs, sum_by-cons g x xs)
 
-  none-held : (xs : List (List ℕ)) → count_by (λ x. nat_lt 0 (g x)) xs ≡ 0 → sum_by g xs ≡ 0
+  none-held : (xs : List File) → count_by (λ x. nat_lt 0 (g x)) xs ≡ 0 → sum_by g xs ≡ 0
   none-held [] none = refl
   none-held (x ∷ xs) none =
       let split = sum_by-cons (λ y. cond (nat_lt 0 (g y)) 1 0) x xs in
@@ -77,23 +76,21 @@ above-product a b above = elim (cases_lt 0 b) [
 product-above : (a b : ℕ) → 0 < a → 0 < b → 0 < a * b
 product-above a b h k = let one : 1 ≤ b = omega (arith, k) in omega (arith, h, mul-le-mul_left a one)
 
-held-occurs : (w : List ℕ) (rounds : ℕ) (files : List (List ℕ)) → 0 < rounds → 0 < holders_of w files → 0 < occurrences_of w rounds files
-unfolding holders_of occurrences_of
+pub held-occurs : (w : List ℕ) (rounds : ℕ) (files : List File) → 0 < rounds → 0 < holders_in w files → 0 < occurrences_in w rounds files
 held-occurs w rounds files some held =
-    let most = holders-le (λ file. times w (pieces_of file)) files in
-    product-above rounds (sum_by (λ file. times w (pieces_of file)) files) some (omega (arith, most, held))
+    let most = holders-le (λ (f : File). times w f) files in
+    product-above rounds (sum_by (λ (f : File). times w f) files) some (omega (arith, most, held))
 
-occurs-held : (w : List ℕ) (rounds : ℕ) (files : List (List ℕ)) → 0 < occurrences_of w rounds files → 0 < holders_of w files
-unfolding holders_of occurrences_of
+pub occurs-held : (w : List ℕ) (rounds : ℕ) (files : List File) → 0 < occurrences_in w rounds files → 0 < holders_in w files
 occurs-held w rounds files occurs =
-    let above = above-product rounds (sum_by (λ file. times w (pieces_of file)) files) occurs in
-    elim (cases_lt 0 (count_by (λ file. nat_lt 0 (times w (pieces_of file))) files)) [
+    let above = above-product rounds (sum_by (λ (f : File). times w f) files) occurs in
+    elim (cases_lt 0 (count_by (λ (f : File). nat_lt 0 (times w f)) files)) [
       | inl h ↦ h
-      | inr h ↦ absurd (omega (arith, above, none-held (λ file. times w (pieces_of file)) files (omega arith)))
+      | inr h ↦ absurd (omega (arith, above, none-held (λ (f : File). times w f) files (omega arith)))
     ]
 
-pub words-listed : (files : List (List ℕ)) (rounds : ℕ) (counted rows : List (List ℕ × ℕ)) → 0 < rounds
-    → ((w : List ℕ) → count_of counted w ≡ occurrences_of w rounds files) → ListsWords counted rows → IsWords files (keys_of rows)
+pub words-listed : (files : List File) (rounds : ℕ) (counted rows : List (List ℕ × ℕ)) → 0 < rounds
+    → ((w : List ℕ) → count_of counted w ≡ occurrences_in w rounds files) → ListsWords counted rows → AreDistinct files (keys_of rows)
 words-listed files rounds counted rows some counts lists = record {
   in_order = lists.in_order;
   held = λ w. (

@@ -111,7 +111,7 @@ texts-places_of bytes =
 pub length-places_of : (bytes : List ℕ) → length (places_of bytes) ≡ length (pieces_of bytes)
 length-places_of bytes = sym (length-map (places_of bytes) (bytes_at bytes)) ∙ ap length (texts-places_of bytes)
 
--- each place has 1 to 120 bytes, and lies within the text
+-- each place has 1 to 4,096 bytes, and lies within the text
 pub All-places_of : (bytes : List ℕ) → All (IsPlace (length bytes)) (places_of bytes)
 unfolding places_of
 All-places_of bytes =

@@ -18,7 +18,8 @@ use Rattle.std.specs.Option.{unwrap_or}
 use Rattle.std.specs.Ordering.{is_lt, nat_cmp, ordering_reverse, ordering_then}
 use Rattle.std.specs.Str.{bytes_eq}
 use Rattle.cdrc_text.specs.Fold.{IsInByteOrder}
-use Rattle.cdrc_text.specs.Tally.{count_of, ListsWords, entries_of, entry_of}
+use Rattle.cdrc_text.specs.Tally.{ListsWords, count_of, entries_of, entry_of, total_of}
+use Rattle.std.proofs.lemmas.Map.Entries.{sum_by_values_permutation}
 use Rattle.cdrc_text.proofs.Counts.{same_bytes, values-entries_of}
 
 -- ---- a count as a sum, which the order does not change
@@ -125,6 +126,7 @@ rows-more rows new left rest word copy n counted all step pushed copied =
 -- the rows have the entries of a map, and are sorted
 pub lists-sorted : (entries rows sorted : List (Vec ℕ Global × ℕ)) → entries_of rows ≡ entries_of entries → IsDistinct same_bytes (keys_of entries)
     → All (λ n. 0 < n) (values_of entries) → IsPermutation rows sorted → IsSorted entry_cmp sorted → ListsWords (entries_of entries) (entries_of sorted)
+unfolding total_of
 lists-sorted entries rows sorted same distinct positive moved in_order =
     let counted = entries_of entries in
     let listed = entries_of sorted in
@@ -136,5 +138,6 @@ lists-sorted entries rows sorted same distinct positive moved in_order =
           (IsDistinct-IsPermutation bytes_eq nat_list_eq_equiv.symm (keys_of counted) (keys_of listed)
           (IsPermutation-map (λ (e : List ℕ × ℕ). e.0) counted listed permuted) apart);
       counts = λ w. count_of-IsPermutation w counted listed permuted apart;
+      total = sum_by_values_permutation (λ (x : ℕ). x) counted listed permuted;
       positive = All-map-IsPermutation (λ (e : List ℕ × ℕ). e.1) (λ n. 0 < n) counted listed permuted above;
     }

@@ -7,8 +7,8 @@ use Rattle.std.specs.Cmp.Lexicographic.{slice_cmp}
 use Rattle.std.specs.declared.cmp.Ordering.TheVariants.{Less, Greater}
 use Rattle.std.specs.List.{Contains}
 use Rattle.std.specs.Ordering.{nat_cmp, ordering_reverse}
-use Rattle.cdrc_text.specs.Fold.{IsInByteOrder, IsWords}
-use Rattle.cdrc_text.specs.Text.{IsText, text_of}
+use Rattle.cdrc_text.specs.Fold.{AreDistinct, File, IsInByteOrder}
+use Rattle.cdrc_text.specs.Text.{IsReport, report_in}
 
 -- the first element, or one of the others
 first_or_later : (x : List ℕ) (xs : List (List ℕ)) (y : List ℕ) (k : ℕ) → k < length (x ∷ xs) → get_or (x ∷ xs) k y ≡ y → (x ≡ y) ⊎ Contains xs y
@@ -25,13 +25,13 @@ pub Contains-later : (x : List ℕ) (xs : List (List ℕ)) (y : List ℕ) → Co
 Contains-later x xs y has = let fits : suc has.0 < length (x ∷ xs) = omega (arith, has.1) in (suc has.0, fits, has.2)
 
 -- a word is below each that follows it
-below-later : (x : List ℕ) (xs : List (List ℕ)) (y : List ℕ) → IsInByteOrder (x ∷ xs) → Contains xs y → slice_cmp nat_cmp x y ≡ Less
+pub below-later : (x : List ℕ) (xs : List (List ℕ)) (y : List ℕ) → IsInByteOrder (x ∷ xs) → Contains xs y → slice_cmp nat_cmp x y ≡ Less
 below-later x xs y sorted has =
     All-contains (λ v. slice_cmp nat_cmp x v ≡ Less) xs y
     (All-from_recursion (λ v. slice_cmp nat_cmp x v ≡ Less) xs (sorted_head (slice_cmp nat_cmp) x xs sorted)) has
 
 -- no two words are each below the other
-not-both : (x y : List ℕ) → slice_cmp nat_cmp x y ≡ Less → slice_cmp nat_cmp y x ≡ Less → ⊥
+pub not-both : (x y : List ℕ) → slice_cmp nat_cmp x y ≡ Less → slice_cmp nat_cmp y x ≡ Less → ⊥
 not-both x y first second =
     let turned : Less ≡ Greater = sym first ∙ nat_list_cmp_total.antisymm x y ∙ ap ordering_reverse second in
     cc
@@ -66,11 +66,11 @@ same-in_order (x ∷ xs) (y ∷ ys) left right there here =
     (λ w has. tail-contains y x ys xs w right (sym same) has (here w (Contains-later y ys w has))) in
     cc
 
-pub same-words : (files words others : List (List ℕ)) → IsWords files words → IsWords files others → words ≡ others
+pub same-words : (files : List File) (words others : List (List ℕ)) → AreDistinct files words → AreDistinct files others → words ≡ others
 same-words files words others first second =
     same-in_order words others first.in_order second.in_order
     (λ w has. (second.held w).1 ((first.held w).0 has)) (λ w has. (first.held w).1 ((second.held w).0 has))
 
-pub same-text : (files : List (List ℕ)) (rounds : ℕ) (bytes others : List ℕ) → IsText files rounds bytes → IsText files rounds others → bytes ≡ others
+pub same-text : (files : List File) (rounds : ℕ) (bytes others : List ℕ) → IsReport files rounds bytes → IsReport files rounds others → bytes ≡ others
 same-text files rounds bytes others first second =
-    first.written ∙ ap (λ words. text_of words files rounds) (same-words files first.words second.words first.distinct second.distinct) ∙ sym second.written
+    first.written ∙ ap (λ words. report_in words files rounds) (same-words files first.words second.words first.distinct second.distinct) ∙ sym second.written

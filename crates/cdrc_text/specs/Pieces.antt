@@ -15,9 +15,9 @@ spans_of bytes = spans_from 0 (characters_of bytes)
 unfoldable pub fields_of : List ℕ → List (List ℕ)
 fields_of bytes = fields_acc is_whitespace bytes None (spans_of bytes)
 
--- a field cut into consecutive runs of 120 bytes, the last of which is the rest
+-- a field cut into consecutive runs of 4,096 bytes, the last of which is the rest
 unfoldable pub cut : List ℕ → List (List ℕ)
-cut field = map (slice_chunk field 120) (range_with_len 0 (div_ceil (length field) 120))
+cut field = map (slice_chunk field 4096) (range_with_len 0 (div_ceil (length field) 4096))
 
 -- the pieces: every field, cut
 unfoldable pub pieces_of : List ℕ → List (List ℕ)
@@ -34,11 +34,11 @@ field_ends (Some field) (c ∷ rest) =
 
 -- the first byte and the length of run k of a field, from the field's first byte and its end
 abbrev pub run_place : ℕ × ℕ → ℕ → ℕ × ℕ
-run_place field k = (field.0 + k * 120, min 120 (field.1 - (field.0 + k * 120)))
+run_place field k = (field.0 + k * 4096, min 4096 (field.1 - (field.0 + k * 4096)))
 
--- the first byte and the length of each run of 120 bytes of a field
+-- the first byte and the length of each run of 4,096 bytes of a field
 unfoldable pub cut_places : ℕ × ℕ → List (ℕ × ℕ)
-cut_places field = map (run_place field) (range_with_len 0 (div_ceil (field.1 - field.0) 120))
+cut_places field = map (run_place field) (range_with_len 0 (div_ceil (field.1 - field.0) 4096))
 
 -- the places of the pieces: the first byte and the length of each, in the pieces' order
 unfoldable pub places_of : List ℕ → List (ℕ × ℕ)
@@ -48,9 +48,9 @@ places_of bytes = flat_map cut_places (field_ends None (spans_of bytes))
 abbrev pub bytes_at : List ℕ → ℕ × ℕ → List ℕ
 bytes_at bytes place = take place.1 (drop place.0 bytes)
 
--- a place of 1 to 120 bytes that lies within n bytes
+-- a place of 1 to 4,096 bytes that lies within n bytes
 abbrev pub IsPlace : ℕ → ℕ × ℕ → Type 0
-IsPlace n place = (0 < place.1) × (place.1 ≤ 120) × (place.0 + place.1 ≤ n)
+IsPlace n place = (0 < place.1) × (place.1 ≤ 4096) × (place.0 + place.1 ≤ n)
 
 -- the first byte of the piece after the first `limit` pieces
 abbrev pub place_over : List ℕ → ℕ → ℕ

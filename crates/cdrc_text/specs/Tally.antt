@@ -31,4 +31,5 @@ pub record CountsOneMore (before after : List (List ℕ × ℕ)) (w : List ℕ) 
 pub record ListsWords (counted rows : List (List ℕ × ℕ)) : Type 0 where
   pub in_order : IsInByteOrder (keys_of rows)
   pub counts : (w : List ℕ) → count_of rows w ≡ count_of counted w
+  pub total : total_of rows ≡ total_of counted
   pub positive : All (λ count. 0 < count) (values_of rows)

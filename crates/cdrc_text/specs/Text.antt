@@ -1,38 +1,53 @@
 -- The whole text that a count of words gives.
-use Rattle.std.specs.Prelude.{◌≡◌, ℕ, List, ◌++◌, length}
+use Rattle.std.specs.Prelude.{◌≡◌, ℕ, List, ◌++◌, length, map}
+use Rattle.std.specs.Int.{div_ceil}
 use Rattle.std.specs.List.{flat_map, sum_by}
 use Rattle.cdrc_text.specs.declared.row.Row.{Row}
 use Rattle.cdrc_text.specs.declared.row.Totals.{Totals}
-use Rattle.cdrc_text.specs.Fold.{IsWords, holders_of, occurrences_of, pieces_in}
+use Rattle.cdrc_text.specs.Fold.{AreDistinct, File, holders_in, occurrences_in}
+use Rattle.cdrc_text.specs.Pieces.{pieces_of}
 use Rattle.cdrc_text.specs.Report.{closing_lines, word_line}
 
--- the totals of the files with these distinct words: each is live once, and nothing is left then
-abbrev pub totals_of : List (List ℕ) → List (List ℕ) → Totals
-totals_of words files = record {
+-- the slots of a word's record: one for each 120 bytes
+abbrev pub slots_of_word : List ℕ → ℕ
+slots_of_word w = div_ceil (length w) 120
+
+-- each distinct word has one record while they are held, and nothing is left then
+abbrev pub totals_in : List (List ℕ) → List File → Totals
+totals_in words files = record {
   files = length files;
-  pieces = pieces_in files;
-  held = record { live = length words; deferred = 0; cyclic = 0; bytes = sum_by length words };
+  pieces = sum_by (λ (f : File). length f) files;
+  held = record {
+    live = sum_by slots_of_word words;
+    deferred = 0;
+    cyclic = 0;
+    bytes = sum_by (λ (w : List ℕ). length w) words;
+  };
   freed = record { live = 0; deferred = 0; cyclic = 0; bytes = 0 };
 }
 
--- the text with these distinct words: a line for each, and the closing lines
-unfoldable pub text_of : List (List ℕ) → List (List ℕ) → ℕ → List ℕ
-text_of words files rounds =
-    flat_map (λ w. word_line (occurrences_of w rounds files) (holders_of w files) w) words
-    ++ closing_lines (length words) (totals_of words files)
+-- the report with these distinct words: a line for each, and the closing lines
+abbrev pub report_in : List (List ℕ) → List File → ℕ → List ℕ
+report_in words files rounds =
+    flat_map (λ w. word_line (occurrences_in w rounds files) (holders_in w files) w) words
+    ++ closing_lines (length words) (totals_in words files)
 
--- the bytes are the text of the files' distinct words
-pub record IsText (files : List (List ℕ)) (rounds : ℕ) (bytes : List ℕ) : Type 0 where
+-- the bytes are the report of the files' distinct words
+pub record IsReport (files : List File) (rounds : ℕ) (bytes : List ℕ) : Type 0 where
   pub words : List (List ℕ)
-  pub distinct : IsWords files words
-  pub written : bytes ≡ text_of words files rounds
+  pub distinct : AreDistinct files words
+  pub written : bytes ≡ report_in words files rounds
+
+-- the same of files that are told by their bytes: the text of some contents
+abbrev pub IsText : List (List ℕ) → ℕ → List ℕ → Type 0
+IsText contents rounds bytes = IsReport (map pieces_of contents) rounds bytes
 
 -- the word of a row
 abbrev pub word_of : Row → List ℕ
 word_of row = row.word.items
 
 -- the row has the numbers of its word
-abbrev pub IsRowOf : List (List ℕ) → ℕ → Row → Type 0
+abbrev pub IsRowOf : List File → ℕ → Row → Type 0
 IsRowOf files rounds row =
-    (row.occurrences ≡ occurrences_of (word_of row) rounds files)
-    × (row.holders ≡ holders_of (word_of row) files)
+    (row.occurrences ≡ occurrences_in (word_of row) rounds files)
+    × (row.holders ≡ holders_in (word_of row) files)

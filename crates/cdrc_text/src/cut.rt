@@ -11,10 +11,10 @@ use bstr::ByteSlice;
 use std::alloc::Global;
 
 /// The most bytes of a piece.
-const LONGEST: usize = 120;
+const LONGEST: usize = 4096;
 
 /// The places of the pieces of a text, in its order: of its fields, the maximal runs of bytes without
-/// White_Space, each cut into consecutive runs of 120 bytes. Bytes that aren't UTF-8 count as no space.
+/// White_Space, each cut into consecutive runs of 4,096 bytes. Bytes that aren't UTF-8 count as no space.
 /// Linear in the bytes.
 ///
 /// It is refused exactly where there are more than `limit` pieces, with the place of the first piece over the

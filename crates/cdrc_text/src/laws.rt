@@ -7,13 +7,13 @@ ghost use Rattle.bstr.specs.Fields.{SpanChain};
 ghost use Rattle.bstr.specs.Text.{part};
 ghost use Rattle.cdrc_text.specs.declared.row.Row.{Row};
 ghost use Rattle.cdrc_text.specs.declared.row.Totals.{Totals};
-ghost use Rattle.cdrc_text.specs.Fold.{IsWords, occurrences_of};
+ghost use Rattle.cdrc_text.specs.Fold.{AreDistinct, File, occurrences_in};
 ghost use Rattle.cdrc_text.specs.Generated.{generated_text};
-ghost use Rattle.cdrc_text.specs.Pieces.{fields_of, pieces_of, places_of, spans_of};
+ghost use Rattle.cdrc_text.specs.Pieces.{cut, fields_of, pieces_of, places_of, spans_of};
 ghost use Rattle.cdrc_text.specs.Report.{report_of};
 ghost use Rattle.cdrc_text.specs.Runs.{AreMaximalRuns, field_places};
 ghost use Rattle.cdrc_text.specs.Tally.{ListsWords, count_of};
-ghost use Rattle.cdrc_text.specs.Text.{IsRowOf, IsText, text_of, totals_of, word_of};
+ghost use Rattle.cdrc_text.specs.Text.{IsReport, IsRowOf, report_in, totals_in, word_of};
 
 /// The fields of a text, which are cut into the pieces, are its maximal runs without white space, in their order: the
 /// bytes at each field's place are the field, and the places are those of the runs. The characters of the text follow
@@ -25,52 +25,57 @@ pub fn fields_are_maximal_runs()
     ensures characters { (bytes : List ℕ) → SpanChain 0 (length bytes) (spans_of bytes) }
 {}
 
-/// The files and the rounds determine the text.
+/// The files and the rounds determine the text. A file is told by its pieces.
 pub fn text_is_one()
-    ensures { (files : List (List ℕ)) (rounds : ℕ) (bytes others : List ℕ)
-        → IsText files rounds bytes → IsText files rounds others → bytes ≡ others }
+    ensures { (files : List File) (rounds : ℕ) (bytes others : List ℕ)
+        → IsReport files rounds bytes → IsReport files rounds others → bytes ≡ others }
 {}
 
 /// A report is the text of the files if its rows are their distinct words in byte order, each with its numbers, and its
 /// totals are theirs.
 pub fn report_is_text()
-    ensures { (files : List (List ℕ)) (rounds : ℕ) (rows : List Row) (totals : Totals)
-        → IsWords files (map word_of rows) → All (IsRowOf files rounds) rows
-        → totals ≡ totals_of (map word_of rows) files
-        → IsText files rounds (report_of rows totals) }
+    ensures { (files : List File) (rounds : ℕ) (rows : List Row) (totals : Totals)
+        → AreDistinct files (map word_of rows) → All (IsRowOf files rounds) rows
+        → totals ≡ totals_in (map word_of rows) files
+        → IsReport files rounds (report_of rows totals) }
 {}
 
 /// The words of a tally are the distinct words of the files, if it counted each as often as it occurs in them.
 pub fn tally_gives_words()
-    ensures { (files : List (List ℕ)) (rounds : ℕ) (counted rows : List (List ℕ × ℕ)) → 0 < rounds
-        → ((w : List ℕ) → count_of counted w ≡ occurrences_of w rounds files)
-        → ListsWords counted rows → IsWords files (keys_of rows) }
+    ensures { (files : List File) (rounds : ℕ) (counted rows : List (List ℕ × ℕ)) → 0 < rounds
+        → ((w : List ℕ) → count_of counted w ≡ occurrences_in w rounds files)
+        → ListsWords counted rows → AreDistinct files (keys_of rows) }
 {}
 
-/// Worked pieces: words of one byte, a field of 120 bytes and one of 121, and bytes that aren't UTF-8 before U+0085,
+/// Worked pieces: words of one byte, a field of 121 bytes and one of 4,097, and bytes that aren't UTF-8 before U+0085,
 /// which is White_Space.
 pub fn worked_pieces()
     ensures places { places_of (codes "a b c") ≡ (0, 1) ∷ (2, 1) ∷ (4, 1) ∷ [] }
-    ensures full { pieces_of (replicate 120 120) ≡ replicate 120 120 ∷ [] }
-    ensures longer { pieces_of (replicate 121 120) ≡ replicate 120 120 ∷ (120 ∷ []) ∷ [] }
+    ensures one { pieces_of (replicate 121 120) ≡ replicate 121 120 ∷ [] }
+    ensures long { cut (replicate 4097 120) ≡ replicate 4096 120 ∷ (120 ∷ []) ∷ [] }
     ensures bytes { pieces_of (255 ∷ 254 ∷ 194 ∷ 133 ∷ 97 ∷ [])
         ≡ (255 ∷ 254 ∷ []) ∷ (97 ∷ []) ∷ [] }
 {}
 
-/// Worked texts: of `a b a`, of one file named twice, and of two files that share a word, in three rounds.
+/// Worked texts: of `a b a`, of one file named twice, of two files that share a word, in three rounds, and of a word of
+/// 121 bytes, whose record has two slots.
 pub fn worked_texts()
-    ensures one { text_of (codes "a" ∷ codes "b" ∷ []) (codes "a b a" ∷ []) 1
+    ensures one { report_in (codes "a" ∷ codes "b" ∷ []) (pieces_of (codes "a b a") ∷ []) 1
         ≡ codes "2 1 a\n1 1 b\nfiles 1 pieces 3 distinct 2\n"
         ++ codes "held live 2 deferred 0 cyclic 0 bytes 2\n"
         ++ codes "freed live 0 deferred 0 cyclic 0 bytes 0\n" }
-    ensures twice { text_of (codes "x" ∷ []) (codes "x" ∷ codes "x" ∷ []) 1
+    ensures twice { report_in (codes "x" ∷ []) (map pieces_of (codes "x" ∷ codes "x" ∷ [])) 1
         ≡ codes "2 2 x\nfiles 2 pieces 2 distinct 1\n"
         ++ codes "held live 1 deferred 0 cyclic 0 bytes 1\n"
         ++ codes "freed live 0 deferred 0 cyclic 0 bytes 0\n" }
-    ensures rounds { text_of (codes "a" ∷ codes "b" ∷ codes "c" ∷ [])
-        (codes "a b" ∷ codes "b b c" ∷ []) 3
+    ensures rounds { report_in (codes "a" ∷ codes "b" ∷ codes "c" ∷ [])
+        (map pieces_of (codes "a b" ∷ codes "b b c" ∷ [])) 3
         ≡ codes "3 1 a\n9 2 b\n3 1 c\nfiles 2 pieces 5 distinct 3\n"
         ++ codes "held live 3 deferred 0 cyclic 0 bytes 3\n"
+        ++ codes "freed live 0 deferred 0 cyclic 0 bytes 0\n" }
+    ensures parts { report_in (replicate 121 120 ∷ []) ((replicate 121 120 ∷ []) ∷ []) 1
+        ≡ codes "1 1 " ++ replicate 121 120 ++ codes "\nfiles 1 pieces 1 distinct 1\n"
+        ++ codes "held live 2 deferred 0 cyclic 0 bytes 121\n"
         ++ codes "freed live 0 deferred 0 cyclic 0 bytes 0\n" }
 {}
 

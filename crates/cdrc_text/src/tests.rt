@@ -17,21 +17,23 @@ fn are(found: &Pieces, places: &[(u64, u64)]) -> bool {
 }
 
 #[test]
-fn pieces_are_fields_cut_at_120_bytes(rt: HostRuntime) -> Result<(), Fail> {
+fn pieces_are_fields_cut_at_4096_bytes(rt: HostRuntime) -> Result<(), Fail> {
     let alloc = rt.alloc();
-    let full = vec![in alloc; b'x'; 120]?;
-    let longer = vec![in alloc; b'x'; 121]?;
+    let full = vec![in alloc; b'x'; 4096]?;
+    let longer = vec![in alloc; b'x'; 4097]?;
+    let part = vec![in alloc; b'x'; 121]?;
     let mut every = Vec::new(alloc);
     for byte in 0..=255u8 {
         every.push(byte)?;
     }
-    let table: [(&[u8], &[(u64, u64)]); 10] = [
+    let table: [(&[u8], &[(u64, u64)]); 11] = [
         (b"", &[]),
         (b" \t\r\n", &[]),
         (b"a b c", &[(0, 1), (2, 1), (4, 1)]),
         (b"  the cat\n", &[(2, 3), (6, 3)]),
-        (full.as_slice(), &[(0, 120)]),
-        (longer.as_slice(), &[(0, 120), (120, 1)]),
+        (part.as_slice(), &[(0, 121)]),
+        (full.as_slice(), &[(0, 4096)]),
+        (longer.as_slice(), &[(0, 4096), (4096, 1)]),
         // FF and FE are never UTF-8, and C2 85 is U+0085, which is White_Space.
         (b"\xFF\xFE\xC2\x85\x61", &[(0, 2), (4, 1)]),
         // E3 80 80 is U+3000, which is White_Space; cut short it is no character.
@@ -39,7 +41,7 @@ fn pieces_are_fields_cut_at_120_bytes(rt: HostRuntime) -> Result<(), Fail> {
         // 80 alone is no character, and A0 alone is not U+00A0.
         (b"a\x80 \xA0b", &[(0, 2), (3, 2)]),
         // White space is 9 to 13 and 32, and no byte from 128 on begins a character that is whole here.
-        (every.as_slice(), &[(0, 9), (14, 18), (33, 120), (153, 103)]),
+        (every.as_slice(), &[(0, 9), (14, 18), (33, 223)]),
     ];
     for (row, (text, places)) in table.iter().enumerate() {
         let Ok(found) = pieces(alloc, text, 4) else {
@@ -57,11 +59,11 @@ fn too_many_pieces_are_refused_at_the_first_over_the_limit(rt: HostRuntime) -> R
     assert!(rt; matches!(pieces(alloc, b"a b c", 3), Ok(_)));
     assert!(rt; matches!(pieces(alloc, b" a", 0), Err(PiecesError::TooMany(1))));
     assert!(rt; matches!(pieces(alloc, b" ", 0), Ok(_)));
-    let longer = vec![in alloc; b'x'; 121]?;
+    let longer = vec![in alloc; b'x'; 4097]?;
     assert!(rt;
         matches!(
             pieces(alloc, longer.as_slice(), 1),
-            Err(PiecesError::TooMany(120))
+            Err(PiecesError::TooMany(4096))
         )
     );
     Ok(())
@@ -71,15 +73,15 @@ fn too_many_pieces_are_refused_at_the_first_over_the_limit(rt: HostRuntime) -> R
 fn a_field_of_a_mebibyte_is_cut(rt: HostRuntime) -> Result<(), Fail> {
     let alloc = rt.alloc();
     let text = vec![in alloc; b'x'; 1_048_576]?;
-    let Ok(found) = pieces(alloc, text.as_slice(), 8739) else {
+    let Ok(found) = pieces(alloc, text.as_slice(), 256) else {
         panic!(rt; "refused")
     };
-    assert_eq!(rt; found.len(), 8739);
-    assert!(rt; 8738 < found.len() && found.get(8738) == (1_048_560, 16));
+    assert_eq!(rt; found.len(), 256);
+    assert!(rt; 255 < found.len() && found.get(255) == (1_044_480, 4096));
     assert!(rt;
         matches!(
-            pieces(alloc, text.as_slice(), 8738),
-            Err(PiecesError::TooMany(1_048_560))
+            pieces(alloc, text.as_slice(), 255),
+            Err(PiecesError::TooMany(1_044_480))
         )
     );
     Ok(())

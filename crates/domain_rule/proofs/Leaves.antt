@@ -1,8 +1,8 @@
 -- Seat 0 keeps the rule where it takes over what another seat has, and that seat leaves.
 use Rattle.std.proofs.Common.{◌≡◌, ◌≢◌, ◌⊎◌, inl, inr, ⊎_elim, ℕ, ◌+◌, ◌<◌, ◌≤◌, Bool, true, false, List, [], ◌∷◌, ◌++◌, length, get_or, set, refl, ap, sym, ◌∙◌, subst, arith}
-use Rattle.std.specs.Prelude.{slice_index, if◌then◌else◌}
+use Rattle.std.specs.Prelude.{None, slice_index, if◌then◌else◌}
 use Rattle.std.proofs.lemmas.List.{length-set, length-map, set-get_or, get_or_past}
-use Rattle.std.proofs.lemmas.Bool.{cases_lt}
+use Rattle.std.proofs.lemmas.Bool.{cases_eq, cases_lt, eq-eqb, ne_eqb}
 use Rattle.std.proofs.lemmas.Bool.Decides.{nat_tests}
 use mathlib.Core.Option.{some}
 use lib.ListN.{get_elem?}
@@ -12,7 +12,10 @@ use Rattle.plain_state.specs.declared.act.PlainAct.TheVariants as plain
 use Rattle.plain_state.specs.declared.act.EventPlace.{EventPlace}
 use Rattle.plain_state.specs.declared.act.EventPlace.TheVariants.{Cell, Field, WeakCell, WeakField}
 use Rattle.plain_state.specs.declared.slot.SlotId.{SlotId}
-use Rattle.plain_state.specs.Lists.{times}
+use Rattle.plain_state.specs.declared.slot.Kind.{Kind}
+use Rattle.plain_state.specs.declared.slot.Kind.TheVariants.{Strong, Weak, Disposal}
+use Rattle.plain_state.specs.Lists.{entry_times, times}
+use Rattle.plain_state.specs.References.{held_in}
 use Rattle.plain_state.specs.State.{Plain, slot_at}
 use Rattle.plain_state.specs.Steps.{Does}
 use Rattle.plain_protocol.specs.Laws.{Meets, KeptByLeave}
@@ -26,8 +29,10 @@ use Rattle.core_events.specs.declared.view.CoreView.{CoreView}
 use Rattle.core_events.specs.Words.{field_at, weak_field_at}
 use Rattle.core_events.specs.Steps.{CanLeave, noted}
 use Rattle.core_events.specs.Runs.{Core, view_at, taken_over, left_behind, Enabled, after}
-use Rattle.core_events.specs.Shows.{show_seat, shows}
+use Rattle.core_events.specs.Shows.{filled, show_seat, shows}
+use Rattle.core_events.specs.Views.{snapshots}
 use Rattle.core_invariant.specs.Sound.{Sound}
+use Rattle.core_invariant.proofs.Held.{valid_find}
 use Rattle.core_invariant.proofs.Joined.{parts, is_j, is_0, is_m}
 use Rattle.core_shows.proofs.Bridge.{shown_past}
 use Rattle.core_shows.proofs.Events.{event_shows}
@@ -35,7 +40,7 @@ use Rattle.core_shows.proofs.Lawful.{shows_lawful}
 use Rattle.core_invariant.proofs.Each.{length_each, get_each}
 use Rattle.domain_rule.specs.declared.view.Known.{Known}
 use Rattle.domain_rule.specs.declared.view.SeatView.{SeatView}
-use Rattle.domain_rule.specs.Opening.{joined_view, gone_view, merged_objects}
+use Rattle.domain_rule.specs.Opening.{joined_view, gone_view, merged_object, merged_objects, same_object}
 use Rattle.domain_rule.specs.Rule.{IsCleared, IsTrueOf, Tells, Kept, clients}
 use Rattle.domain_rule.specs.Views.{Stands, object_in, known_of, no_object}
 use Rattle.domain_rule.proofs.Padding.{at_less, clients_length, client_at, clients_set}
@@ -45,6 +50,37 @@ use Rattle.domain_rule.proofs.Telling.{kept_sound, in_seats, true_of, number_of,
 other_has : (root v : CoreView) (s : SlotId) → HasSlot (show_seat (taken_over root v)) s
     → has_slot (show_seat root) s ≡ false → HasSlot (show_seat v) s
 other_has root v s has not_root = let p = parts root v s in grind (arith, nat_tests)
+
+held_none : (s : SlotId) → held_in s None ≡ 0
+unfolding held_in
+held_none s = refl
+
+-- and what either had it has then
+pub other_had : (root v : CoreView) → CanLeave v → (s : SlotId) → HasSlot (show_seat v) s
+    → HasSlot (show_seat (taken_over root v)) s
+other_had root v can s has =
+    let p = parts root v s in
+    let fills = ap (λ x. held_in s (filled x)) can.0.0 ∙ held_none s in
+    let strong = none Strong in
+    let weak = none Weak in
+    let disposal = none Disposal in
+    let held : 0 < times s v.owned + times s v.weaks + times s v.dying =
+    grind (arith, nat_tests) in grind (arith, nat_tests)
+  where
+    none : (k : Kind) → entry_times k s (snapshots v) ≡ 0
+    none k = ⊎_elim
+        (λ (some : 0 < entry_times k s (snapshots v)).
+        let at = valid_find k s v.notes some in absurd (cc (at.2, can.2 at.0)))
+        (λ (few : entry_times k s (snapshots v) ≤ 0). omega arith)
+        (cases_lt 0 (entry_times k s (snapshots v)))
+
+pub root_has : (root v : CoreView) (s : SlotId) → HasSlot (show_seat root) s
+    → HasSlot (show_seat (taken_over root v)) s
+root_has root v s has = let p = parts root v s in grind (arith, nat_tests)
+
+-- what is known of one object twice is what is known of it
+same_alone : (it : Object) → same_object it it ≡ it
+same_alone it = rw (eq-eqb it.life it.life refl) refl
 
 -- what stands in two lists together stands in one of them
 stands_in : (ps qs : List EventPlace) (p : EventPlace) → Stands p (ps ++ qs)
@@ -68,16 +104,30 @@ cleared_moves z c d v u grows same (WeakField s) cl =
 module _ {V : Type 0} (root v : SeatView V) (z : Shape) (same : root.core.shape ≡ z) (s : SlotId)
   where
     abbrev known : ℕ → Known
-    known x =
-        let t : SlotId = record { 0 = x } in
-        known_of (if has_slot (show_seat root.core) t then object_in root t else object_in v t)
+    known x = known_of (merged_object root v (record { 0 = x }))
 
     -- what seat 0 has of each slot's object then
-    merged_at : s.0 < z.slots → get_or (merged_objects root v) s.0 no_object ≡ known s.0
+    pub merged_at : s.0 < z.slots → get_or (merged_objects root v) s.0 no_object ≡ known s.0
     merged_at hs =
         let n = ap (λ (y : Shape). y.slots) same in
         let e : 0 + s.0 ≡ s.0 = omega arith in
         get_each 0 root.core.shape.slots s.0 known no_object (omega arith) ∙ ap known e
+
+    -- seat 0 has 16 payload words of what both had only where both knew it in one life
+    pub alike : s.0 < z.slots → HasSlot (show_seat root.core) s → HasSlot (show_seat v.core) s
+        → length (get_or (merged_objects root v) s.0 no_object).payload ≡ 16
+        → (object_in root s).life ≡ (object_in v s).life
+    alike hs mine others words = ⊎_elim (λ e. e)
+        (λ apart. let none = ap (λ (o : Known). length o.payload) (merged_at hs ∙ both_known) in
+        let no = ne_eqb (object_in root s).life (object_in v s).life apart in
+        absurd (differs (none ∙ rw no refl) words))
+        (cases_eq (object_in root s).life (object_in v s).life)
+      where
+        differs : {n : ℕ} → n ≡ 0 → n ≡ 16 → ⊥
+        differs e f = omega arith
+
+        both_known : known s.0 ≡ known_of (same_object (object_in root s) (object_in v s))
+        both_known = rw mine (rw others refl)
 
     merged_past : z.slots ≤ s.0 → get_or (merged_objects root v) s.0 no_object ≡ no_object
     merged_past le =
@@ -183,9 +233,20 @@ module _ {V : Type 0} (law : Plain → List V → Type 0) (first : ℕ → V) (f
             let h = so.shape.0 in
             ap (λ (u : CoreView). u.shape) true0.core ∙ (so.seats 0 (omega arith)).same_shape
 
+        held : Object
+        held = object_of (slot_at (shows z k.core) x)
+
+        two : (b : Bool) → has_slot (show_seat w.core) x ≡ b → HasSlot (show_seat v.core) x
+            → (if b then same_object (object_in v x) (object_in w x) else object_in v x) ≡ held
+        two true is mine =
+            (λ i. same_object (true0.objects x mine i) (truej.objects x is i)) ∙ same_alone held
+        two false is mine = true0.objects x mine
+
         go : (b : Bool) → has_slot (show_seat v.core) x ≡ b
-            → (if b then object_in v x else object_in w x) ≡ object_of (slot_at (shows z k.core) x)
-        go true is = true0.objects x is
+            → (if b then (if has_slot (show_seat w.core) x
+            then same_object (object_in v x) (object_in w x) else object_in v x)
+            else object_in w x) ≡ held
+        go true is = two (has_slot (show_seat w.core) x) refl is
         go false is = truej.objects x (other_has v.core w.core x has is)
 
     words_same : (i : ℕ) → slice_index d.words i ≡ slice_index c.words i

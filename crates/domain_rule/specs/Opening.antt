@@ -2,7 +2,7 @@
 use Rattle.std.specs.Prelude.{ℕ, ◌+◌, ◌==◌, true, false, List, [], ◌++◌, Some, None, if◌then◌else◌}
 use Rattle.plain_state.specs.declared.slot.SlotId.{SlotId}
 use Rattle.plain_state.specs.State.{empty}
-use Rattle.plain_protocol.specs.Owns.{has_slot}
+use Rattle.plain_protocol.specs.Owns.{Object, has_slot}
 use Rattle.core_events.specs.declared.act.Act.TheVariants as act
 use Rattle.core_events.specs.declared.outcome.Outcome.TheVariants as outcome
 use Rattle.core_events.specs.declared.shape.Shape.{Shape}
@@ -15,6 +15,11 @@ use Rattle.core_events.specs.Views.{first_view, no_view}
 use Rattle.domain_rule.specs.declared.view.Known.{Known}
 use Rattle.domain_rule.specs.declared.view.SeatView.{SeatView}
 use Rattle.domain_rule.specs.Views.{known_of, object_in, objects_of, quota_at, whole_of}
+
+-- what two seats know of the object of one slot, which is one: were its lives different, its payload would be none
+abbrev pub same_object : Object → Object → Object
+same_object mine other =
+    record mine { payload = if mine.life == other.life then mine.payload else [] }
 
 module _ {V : Type 0} where
   -- the view of seat n as it is opened; a domain of one seat begins with a seat that is alone
@@ -39,12 +44,17 @@ module _ {V : Type 0} where
   abbrev pub opened_more : SeatView V → SeatView V
   opened_more v = record v { opened = v.opened + 1 }
 
-  -- what seat 0 has of each slot's object when it takes over what another seat has
+  -- what seat 0 has of a slot's object when it takes over what another seat has
+  abbrev pub merged_object : SeatView V → SeatView V → SlotId → Object
+  merged_object root v s =
+      if has_slot (show_seat root.core) s
+      then (if has_slot (show_seat v.core) s then same_object (object_in root s) (object_in v s)
+      else object_in root s)
+      else object_in v s
+
   abbrev pub merged_objects : SeatView V → SeatView V → List Known
   merged_objects root v =
-      each_from 0 root.core.shape.slots
-      (λ x. let s : SlotId = record { 0 = x } in
-      known_of (if has_slot (show_seat root.core) s then object_in root s else object_in v s))
+      each_from 0 root.core.shape.slots (λ x. known_of (merged_object root v (record { 0 = x })))
 
   -- seat 0 has taken over what the seat has
   abbrev pub joined_view : (V → V → V) → SeatView V → SeatView V → SeatView V

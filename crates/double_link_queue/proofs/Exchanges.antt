@@ -1,6 +1,6 @@
 -- The exchange of the tail cell, and the link that follows it: what their deeds ask, and what they leave.
-use Rattle.std.proofs.Common.{◌≡◌, ℕ, ◌+◌, ◌-◌, ◌<◌, Bool, true, false, [], ◌∷◌, ◌++◌, refl, ap, sym, ◌∙◌, subst, arith, List}
-use Rattle.std.specs.Prelude.{◌==◌, Option, Some, None, cond, if◌then◌else◌}
+use Rattle.std.proofs.Common.{◌≡◌, ℕ, ◌+◌, ◌-◌, ◌<◌, Bool, true, false, [], ◌∷◌, ◌++◌, refl, ap, sym, ◌∙◌, arith, List}
+use Rattle.std.specs.Prelude.{◌==◌, Some, None, cond, if◌then◌else◌}
 use Rattle.plain_state.specs.declared.act.EventPlace.TheVariants.{Cell, Field}
 use Rattle.plain_state.specs.declared.act.PlainAct.TheVariants as plain
 use Rattle.plain_state.specs.declared.slot.SlotId.{SlotId}
@@ -11,14 +11,13 @@ use Rattle.core_events.specs.declared.outcome.Outcome.TheVariants as outcome
 use Rattle.core_events.specs.declared.view.CoreView.{CoreView}
 use Rattle.core_events.specs.Views.{without}
 use Rattle.core_events.specs.Words.{slot_in}
-use Rattle.core_shows.proofs.ShownPlaces.{slot_word}
 use Rattle.domain_rule.specs.Views.{object_in, own_of}
 use Rattle.acquire_retire.specs.Calls.{IsReady, IsSameView, same_view}
 use Rattle.acquire_retire.specs.Domains.{DomainState}
 use Rattle.acquire_retire.specs.Seats.{SeatState}
 use Rattle.control_word.specs.Calls.{DropsStrong, GainsStrong, without_strong}
 use Rattle.control_word.specs.Moves.{KnowsStill}
-use Rattle.retiring_stores.specs.Exchanging.{Loses, LosesTo, Replaces}
+use Rattle.retiring_stores.specs.Exchanging.{LosesTo, Replaces}
 use Rattle.queue_law.specs.declared.view.Form.TheVariants.{Double}
 use Rattle.queue_law.specs.declared.view.View.{View}
 use Rattle.queue_law.specs.Lessons.{TellsNothing}
@@ -31,7 +30,7 @@ use Rattle.linked_queue.proofs.Leavings.{copy_leaves, drop_leaves, leaves_same}
 use Rattle.linked_queue.proofs.Linkings.{lost_keeps}
 use Rattle.linked_queue.proofs.Owning.{has_owned, own_life, own_payload, still_owned, through}
 use Rattle.linked_queue.proofs.Takings.{is_done}
-use Rattle.double_link_queue.specs.Pushes.{CanExchange, IsInFlight, LostTail}
+use Rattle.double_link_queue.specs.Pushes.{CanExchange, IsInFlight}
 
 -- EXCHANGE
 module _ (fits : List ℕ → Type 0) (d : DomainState QueueLaw) (last node : SlotId)
@@ -157,21 +156,6 @@ module _ (fits : List ℕ → Type 0) (d : DomainState QueueLaw) (last node : Sl
             ∙ ap (λ c. if c then outcome.Done else outcome.LostTo (slot_in
             loses.loses.becomes.walks.1.word)) test in
             absurd (cc (is))
-
-    pub lost_tail : (seen : ℕ) → seen ≡ last.0 + 1 → LostTail fits d seen now
-    lost_tail seen is = (
-      Some node,
-      copied,
-      lost',
-      subst (λ (e : Option SlotId × Option SlotId).
-          Loses fits d exchange_next TellsNothing (Cell d.protocol.tail) (Some node) e.0 e.1
-          copied lost')
-          (λ i. (
-            sym (ap slot_in is ∙ slot_word (Some last)) i,
-            sym (ap slot_in loses.word ∙ slot_word loses.found) i,
-          ))
-          loses.loses,
-    )
 
 -- LAND
 pub land_ready : (d : DomainState QueueLaw) (last node : SlotId) (seat : SeatState View)

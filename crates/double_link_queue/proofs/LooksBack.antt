@@ -32,7 +32,8 @@ use Rattle.linked_queue.specs.Queues.{beside_eyes, ends_of}
 use Rattle.linked_queue.specs.Seeing.{IsWhyUnread}
 use Rattle.linked_queue.proofs.Owning.{has_owned, own_life}
 use Rattle.double_link_queue.specs.Leaving.{LeavesBoth}
-use Rattle.double_link_queue.specs.Pushes.{PushDiffers, SeesBack, weakly_found_by}
+use Rattle.double_link_queue.specs.Pushes.{SeesBack, weakly_found_by}
+use Rattle.double_link_queue.specs.Steps.{MissesBack}
 use Rattle.double_link_queue.proofs.Backs.{tail_kept}
 use Rattle.double_link_queue.proofs.Leavings.{both_as, both_same}
 
@@ -166,7 +167,7 @@ module _ (fits : List ℕ → Type 0) (d : DomainState QueueLaw) (last : SlotId)
           → Misses fits d 0 (WeakField last) before_next TellsNothing (slot_in seen) (slot_in now)
           old new) where
         pub looked_back : Kept (weakly_found_by r)
-            × IfErr r (λ error. IsWhyUnread (PushDiffers fits d) error old)
+            × IfErr r (λ error. IsWhyUnread (λ seen now. MissesBack fits d last seen now old new) error old)
             × IfOk r (λ found. named found ≡ None → new.view.client.eyes.helped ≡ true)
             × IfOk r (λ found. IfSome found (λ back. SeesBack last back.slot new))
         looked_back = go r refl loads
@@ -175,7 +176,7 @@ module _ (fits : List ℕ → Type 0) (d : DomainState QueueLaw) (last : SlotId)
                 → IfOk o (λ found. Loads fits d (WeakField last) before_next TellsNothing
                 (named found) old new)
                 → Kept (weakly_found_by o)
-                × IfErr o (λ error. IsWhyUnread (PushDiffers fits d) error old)
+                × IfErr o (λ error. IsWhyUnread (λ seen now. MissesBack fits d last seen now old new) error old)
                 × IfOk o (λ found. named found ≡ None → new.view.client.eyes.helped ≡ true)
                 × IfOk o (λ found. IfSome found (λ back. SeesBack last back.slot new))
             go (Ok None) is l = (on_null l, tt, (λ none. null_helped l), tt)
@@ -184,7 +185,7 @@ module _ (fits : List ℕ → Type 0) (d : DomainState QueueLaw) (last : SlotId)
             go (Err unloaded.Spent) is l = (on_spent (same is), spent is, tt, tt)
             go (Err (unloaded.Moved seen now)) is l = (
               on_missed (slot_in seen) (slot_in now) (moved seen now is),
-              inr (inl (last, (old, new, moved seen now is))),
+              moved seen now is,
               tt,
               tt,
             )

@@ -1,10 +1,16 @@
 //! A node that leads back to the one that the tail cell held.
-ghost use Rattle.std.specs.Prelude.{◌≡◌, ◌<◌, ◌≤◌, ◌+◌, IfErr, IfOk, OnErr};
+ghost use Rattle.std.specs.Prelude.{◌≡◌, ◌<◌, ◌≤◌, ◌+◌, IfErr, IfOk, OnErr, Some};
 ghost use Rattle.plain_state.specs.Lists.{times};
 ghost use Rattle.core_events.specs.Steps.{HasRoom};
 ghost use Rattle.core_events.specs.Views.{without};
 ghost use Rattle.control_word.specs.Resting.{IsAtRest, IsSpent};
-ghost use Rattle.part_calls.specs.Parts.{HasBeside, seen_by};
+ghost use Rattle.part_calls.specs.Parts.{HasBeside, as_part, seen_by};
+ghost use Rattle.plain_state.specs.declared.act.EventPlace.TheVariants.{WeakField};
+ghost use Rattle.retiring_stores.specs.Exchanging.{Stores};
+ghost use Rattle.queue_law.specs.Lessons.{TellsNothing};
+ghost use Rattle.queue_law.specs.Nodes.{back_next};
+ghost use Rattle.linked_queue.specs.UnlessRipe.{next_unless};
+ghost use Rattle.double_link_queue.specs.Steps.{LinksBack};
 ghost use Rattle.queue_law.specs.Views.{first_view};
 ghost use Rattle.linked_queue.specs.Pushes.{HasLoad, SeesTail};
 ghost use Rattle.double_link_queue.specs.Leaving.{LeavesBoth};
@@ -27,6 +33,8 @@ pub(crate) fn link_back<S, P: HasQueue<S>>(
     requires room { HasRoom seat.old.view.core }
     requires tail { SeesTail last.now.slot (seen_by P.seen seat.old) }
     requires load { HasLoad node (seen_by P.seen seat.old) }
+    ensures events { IfOk result (λ done. LinksBack P.Kind.fits (as_part P.part domain.now)
+        last.now.slot node (seen_by P.seen seat.old) (seen_by P.seen seat.new)) }
     ensures backed { IfOk result (λ done. (P.seen seat.new.view.client)
         ≡ backed_in last.now.slot (P.seen seat.old.view.client)) }
     ensures refused { OnErr result ((P.seen seat.new.view.client) ≡ (P.seen seat.old.view.client)) }
@@ -51,6 +59,8 @@ fn set_back<S, P: HasQueue<S>>(domain: &Domain<P>, seat: &mut Seat<P>, node: Slo
     requires room { HasRoom seat.old.view.core }
     requires load { HasLoad node (seen_by P.seen seat.old) }
     requires owned { 0 < times back.slot seat.old.view.core.weaks }
+    ensures events { Stores P.Kind.fits (as_part P.part domain.now) (next_unless back_next)
+        TellsNothing (WeakField node) (Some back.slot) (seen_by P.seen seat.old) (seen_by P.seen seat.new) }
     ensures backed { (P.seen seat.new.view.client)
         ≡ backed_in back.slot (P.seen seat.old.view.client) }
     ensures adds { seat.new.view.core.adds ≡ seat.old.view.core.adds }

@@ -9,10 +9,11 @@ ghost use Rattle.queue_law.specs.declared.view.Form.TheVariants.{Double};
 ghost use Rattle.queue_law.specs.Pushes.{carried_item};
 ghost use Rattle.queue_law.specs.Views.{first_view};
 ghost use Rattle.linked_queue.specs.Leaving.{handle_by, with_found};
-ghost use Rattle.linked_queue.specs.Pushes.{HasLoad, SeesTail, pushed_too};
+ghost use Rattle.linked_queue.specs.Pushes.{HasLoad, IsWhyUnlinked, SeesTail, pushed_too};
 ghost use Rattle.linked_queue.specs.Queues.{IsAttached, deeds_in};
 ghost use Rattle.double_link_queue.specs.Leaving.{LeavesBoth};
-ghost use Rattle.double_link_queue.specs.Pushes.{IsInFlight, IsWhyUnlinked, beside_back, landed_in};
+ghost use Rattle.double_link_queue.specs.Pushes.{IsInFlight, beside_back, landed_in};
+ghost use Rattle.double_link_queue.specs.Steps.{LosesLast, LosesNode, LosesTake, PushesNode, TakesLast, TakesTail};
 
 use crate::backing::link_back;
 use crate::exchanging::{exchange, land, load_tail};
@@ -46,9 +47,12 @@ pub(crate) fn push_node<S, P: HasQueue<S>>(
     ensures makes { seat.new.view.core.makes ≡ seat.old.view.core.makes }
     ensures leaves { LeavesBoth (without node.slot seat.old.view.core.owned)
         seat.old.view.core.weaks (seen_by P.seen seat.old) (seen_by P.seen seat.new) }
-    ensures why { IfErr result
-        (λ error. IsWhyUnlinked P.Kind.fits (as_part P.part domain.now) 5 error
-        (seen_by P.seen seat.old)) }
+    ensures events { IfOk result (λ done. PushesNode P.Kind.fits (as_part P.part domain.now)
+        node.slot (seen_by P.seen seat.old) (seen_by P.seen seat.new)) }
+    ensures why { IfErr result (λ error. IsWhyUnlinked (λ seen now.
+        LosesNode P.Kind.fits (as_part P.part domain.now) node.slot seen now
+        (seen_by P.seen seat.old) (seen_by P.seen seat.new)) 5
+        error (seen_by P.seen seat.old)) }
     ensures spent { IfErr result (λ error. error ≡ unloaded.Spent → IsSpent seat.new.view.core) }
     ensures beside_part { HasBeside P.with_seen first_view seat.old seat.new }
     ensures room { HasRoom seat.new.view.core }
@@ -93,9 +97,12 @@ pub(crate) fn take_last<S, P: HasQueue<S>>(
     ensures makes { seat.new.view.core.makes ≡ seat.old.view.core.makes }
     ensures leaves { LeavesBoth (with_found (handle_by result) seat.old.view.core.owned)
         seat.old.view.core.weaks (seen_by P.seen seat.old) (seen_by P.seen seat.new) }
-    ensures why { IfErr result
-        (λ error. IsWhyUnlinked P.Kind.fits (as_part P.part domain.now) 5 error
-        (seen_by P.seen seat.old)) }
+    ensures events { IfOk result (λ last. TakesLast P.Kind.fits (as_part P.part domain.now)
+        last.slot node (seen_by P.seen seat.old) (seen_by P.seen seat.new)) }
+    ensures why { IfErr result (λ error. IsWhyUnlinked (λ seen now.
+        LosesLast P.Kind.fits (as_part P.part domain.now) node seen now
+        (seen_by P.seen seat.old) (seen_by P.seen seat.new)) 5
+        error (seen_by P.seen seat.old)) }
     ensures spent { IfErr result (λ error. error ≡ unloaded.Spent → IsSpent seat.new.view.core) }
     ensures beside_part { HasBeside P.with_seen first_view seat.old seat.new }
     ensures room { HasRoom seat.new.view.core }
@@ -142,9 +149,12 @@ fn take_tail<S, P: HasQueue<S>>(
     ensures makes { seat.new.view.core.makes ≡ seat.old.view.core.makes }
     ensures leaves { LeavesBoth seat.old.view.core.owned seat.old.view.core.weaks
         (seen_by P.seen seat.old) (seen_by P.seen seat.new) }
-    ensures why { IfErr result
-        (λ error. IsWhyUnlinked P.Kind.fits (as_part P.part domain.now) 4 error
-        (seen_by P.seen seat.old)) }
+    ensures events { IfOk result (λ done. TakesTail P.Kind.fits (as_part P.part domain.now)
+        last.now.slot node (seen_by P.seen seat.old) (seen_by P.seen seat.new)) }
+    ensures why { IfErr result (λ error. IsWhyUnlinked (λ seen now.
+        LosesTake P.Kind.fits (as_part P.part domain.now) last.now.slot node seen now
+        (seen_by P.seen seat.old) (seen_by P.seen seat.new)) 4
+        error (seen_by P.seen seat.old)) }
     ensures spent { IfErr result (λ error. error ≡ unloaded.Spent → IsSpent seat.new.view.core) }
     ensures beside_part { HasBeside P.with_seen first_view seat.old seat.new }
     ensures room { HasRoom seat.new.view.core }
@@ -153,6 +163,8 @@ fn take_tail<S, P: HasQueue<S>>(
     let Ok(()) = link_back(domain, seat, last, node) else {
         return Err(LoadError::Spent);
     };
-    help(domain, seat, last)?;
+    if let Err(error) = help(domain, seat, last) {
+        return Err(error);
+    }
     exchange(domain, seat, tail, last.slot(), node)
 }

@@ -10,10 +10,12 @@ ghost use Rattle.queue_law.specs.declared.view.Form.TheVariants.{Double};
 ghost use Rattle.queue_law.specs.Pushes.{carried_item, flying_view};
 ghost use Rattle.queue_law.specs.Views.{first_view};
 ghost use Rattle.linked_queue.specs.Leaving.{Leaves, found_by, with_found};
-ghost use Rattle.linked_queue.specs.Pushes.{SeesTail};
+ghost use Rattle.linked_queue.specs.PushLosses.{MissesTail};
+ghost use Rattle.linked_queue.specs.Pushes.{IsWhyUnlinked, SeesTail};
 ghost use Rattle.linked_queue.specs.Queues.{IsAttached, beside_eyes};
 ghost use Rattle.linked_queue.specs.Seeing.{IsWhyUnread};
-ghost use Rattle.double_link_queue.specs.Pushes.{CanExchange, IsInFlight, IsWhyUnlinked, PushDiffers, landed_in};
+ghost use Rattle.double_link_queue.specs.Pushes.{CanExchange, IsInFlight, landed_in};
+ghost use Rattle.double_link_queue.specs.Steps.{ExchangesTail, Lands, LoadsTail, LosesExchange};
 
 use acquire_retire::{Domain, Seat, SlotId};
 use core_functions::held_as;
@@ -42,8 +44,11 @@ pub(crate) fn load_tail<S, P: HasQueue<S>>(
     ensures makes { seat.new.view.core.makes ≡ seat.old.view.core.makes }
     ensures leaves { Leaves (with_found (found_by result) seat.old.view.core.owned)
         (seen_by P.seen seat.old) (seen_by P.seen seat.new) }
-    ensures why { IfErr result
-        (λ error. IsWhyUnread (PushDiffers P.Kind.fits (as_part P.part domain.now)) error
+    ensures events { IfOk result (λ found. LoadsTail P.Kind.fits (as_part P.part domain.now)
+        (named found) (seen_by P.seen seat.old) (seen_by P.seen seat.new)) }
+    ensures why { IfErr result (λ error. IsWhyUnread (λ seen now.
+        MissesTail P.Kind.fits (as_part P.part domain.now) seen now
+        (seen_by P.seen seat.old) (seen_by P.seen seat.new)) error
         (seen_by P.seen seat.old)) }
     ensures spent { IfErr result (λ error. error ≡ unloaded.Spent → IsSpent seat.new.view.core) }
     ensures beside_part { HasBeside P.with_seen first_view seat.old seat.new }
@@ -77,9 +82,12 @@ pub(crate) fn exchange<S, P: HasQueue<S>>(
     ensures makes { seat.new.view.core.makes ≡ seat.old.view.core.makes }
     ensures leaves { Leaves seat.old.view.core.owned (seen_by P.seen seat.old)
         (seen_by P.seen seat.new) }
-    ensures why { IfErr result
-        (λ error. IsWhyUnlinked P.Kind.fits (as_part P.part domain.now) 0 error
-        (seen_by P.seen seat.old)) }
+    ensures events { IfOk result (λ done. ExchangesTail P.Kind.fits (as_part P.part domain.now)
+        last node (seen_by P.seen seat.old) (seen_by P.seen seat.new)) }
+    ensures why { IfErr result (λ error. IsWhyUnlinked (λ seen now.
+        LosesExchange P.Kind.fits (as_part P.part domain.now) last node seen now
+        (seen_by P.seen seat.old) (seen_by P.seen seat.new)) 0
+        error (seen_by P.seen seat.old)) }
     ensures spent { IfErr result (λ error. error ≡ unloaded.Spent → IsSpent seat.new.view.core) }
     ensures beside_part { HasBeside P.with_seen first_view seat.old seat.new }
     ensures room { HasRoom seat.new.view.core }
@@ -118,6 +126,8 @@ pub(crate) fn land<S, P: HasQueue<S>>(
     requires rest { IsAtRest domain.now seat.old }
     requires room { HasRoom seat.old.view.core }
     requires flight { IsInFlight last node.slot (seen_by P.seen seat.old) }
+    ensures events { Lands P.Kind.fits (as_part P.part domain.now) last node.slot
+        (seen_by P.seen seat.old) (seen_by P.seen seat.new) }
     ensures landed { (P.seen seat.new.view.client) ≡ landed_in (P.seen seat.old.view.client) }
     ensures makes { seat.new.view.core.makes ≡ seat.old.view.core.makes }
     ensures leaves { Leaves (without node.slot seat.old.view.core.owned) (seen_by P.seen seat.old)

@@ -11,10 +11,11 @@ ghost use Rattle.queue_law.specs.declared.view.Form.TheVariants.{Double};
 ghost use Rattle.queue_law.specs.Pushes.{helped_view};
 ghost use Rattle.queue_law.specs.Views.{first_view};
 ghost use Rattle.linked_queue.specs.Leaving.{Leaves};
-ghost use Rattle.linked_queue.specs.Pushes.{SeesTail};
+ghost use Rattle.linked_queue.specs.Pushes.{IsWhyUnlinked, SeesTail};
 ghost use Rattle.linked_queue.specs.Queues.{IsAttached, beside_eyes};
 ghost use Rattle.double_link_queue.specs.Leaving.{LeavesBoth};
-ghost use Rattle.double_link_queue.specs.Pushes.{IsWhyUnlinked, NotesHelp, SeesBefore, SeesNodeBefore};
+ghost use Rattle.double_link_queue.specs.Pushes.{NotesHelp, SeesBefore, SeesNodeBefore};
+ghost use Rattle.double_link_queue.specs.Steps.{Helps, HelpsAt, LooksBefore, MissesBack, SetsLink};
 
 use crate::deeds::SeeSet;
 use crate::looking_back::find_before;
@@ -42,9 +43,12 @@ pub(crate) fn help<S, P: HasQueue<S>>(
     ensures makes { seat.new.view.core.makes ≡ seat.old.view.core.makes }
     ensures leaves { LeavesBoth seat.old.view.core.owned seat.old.view.core.weaks
         (seen_by P.seen seat.old) (seen_by P.seen seat.new) }
-    ensures why { IfErr result
-        (λ error. IsWhyUnlinked P.Kind.fits (as_part P.part domain.now) 2 error
-        (seen_by P.seen seat.old)) }
+    ensures events { IfOk result (λ done. Helps P.Kind.fits (as_part P.part domain.now)
+        last.now.slot (seen_by P.seen seat.old) (seen_by P.seen seat.new)) }
+    ensures why { IfErr result (λ error. IsWhyUnlinked (λ seen now.
+        MissesBack P.Kind.fits (as_part P.part domain.now) last.now.slot seen now
+        (seen_by P.seen seat.old) (seen_by P.seen seat.new)) 2
+        error (seen_by P.seen seat.old)) }
     ensures spent { IfErr result (λ error. error ≡ unloaded.Spent → IsSpent seat.new.view.core) }
     ensures beside_part { HasBeside P.with_seen first_view seat.old seat.new }
     ensures room { HasRoom seat.new.view.core }
@@ -74,6 +78,8 @@ fn help_at<S, P: HasQueue<S>>(
     requires room { HasRoom seat.old.view.core }
     requires queue { (P.part domain.now.protocol).form ≡ Double }
     requires before { SeesBefore last.now.slot before (seen_by P.seen seat.old) }
+    ensures events { IfOk result (λ done. HelpsAt P.Kind.fits (as_part P.part domain.now)
+        last.now.slot before (seen_by P.seen seat.old) (seen_by P.seen seat.new)) }
     ensures helped { IfOk result (λ done. (P.seen seat.new.view.client).eyes.helped ≡ true) }
     ensures tail { SeesTail last.now.slot (seen_by P.seen seat.new) }
     ensures adds { seat.new.view.core.adds ≤ seat.old.view.core.adds + 1 }
@@ -106,6 +112,8 @@ fn is_set<S, P: HasQueue<S>>(
     requires room { HasRoom seat.old.view.core }
     requires queue { (P.part domain.now.protocol).form ≡ Double }
     requires before { SeesBefore last before (seen_by P.seen seat.old) }
+    ensures events { LooksBefore P.Kind.fits (as_part P.part domain.now) before
+        (seen_by P.seen seat.old) (seen_by P.seen seat.new) }
     ensures set { result ≡ true → (P.seen seat.new.view.client).eyes.helped ≡ true }
     ensures before { SeesNodeBefore last before (seen_by P.seen seat.new) }
     ensures adds { seat.new.view.core.adds ≡ seat.old.view.core.adds }
@@ -130,6 +138,8 @@ fn set_link<S, P: HasQueue<S>>(domain: &Domain<P>, seat: &mut Seat<P>, before: S
     requires room { HasRoom seat.old.view.core }
     requires queue { (P.part domain.now.protocol).form ≡ Double }
     requires before { SeesNodeBefore last.slot before (seen_by P.seen seat.old) }
+    ensures events { SetsLink P.Kind.fits (as_part P.part domain.now) last.slot before
+        (seen_by P.seen seat.old) (seen_by P.seen seat.new) }
     ensures client { (P.seen seat.new.view.client) ≡ helped_view (P.seen seat.old.view.client) }
     ensures adds { seat.new.view.core.adds ≡ seat.old.view.core.adds }
     ensures makes { seat.new.view.core.makes ≡ seat.old.view.core.makes }

@@ -18,6 +18,7 @@
 //! queue.attach(&rt, &domain, &mut seat);                       // this seat may push and pop then
 //! queue.push(&rt, &domain, &mut seat, item)?;                  // or PushRefused, with the item back
 //! let Some(item) = queue.try_pop(&domain, &mut seat)? else { .. };     // nothing was linked; or Again, Spent
+//! let found = queue.try_pop_with(&domain, &mut seat, 0)?;      // an item, with what its field 0 held before
 //! queue.shut(&domain, &mut root);                              // once every other seat has left
 //! ```
 #![tactic(auto)]
@@ -35,11 +36,11 @@ mod popping;
 mod pushing;
 mod pushing_waits;
 mod queue;
-mod seeing;
 mod shutting;
-mod taking;
 #[cfg(test)]
 mod tests;
+#[cfg(test)]
+mod tests_threads;
 mod waiting;
 
 pub use counted_handles::{Spent, Strong};

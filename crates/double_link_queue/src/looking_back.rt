@@ -12,11 +12,12 @@ ghost use Rattle.part_calls.specs.Parts.{HasBeside, as_part, seen_by};
 ghost use Rattle.queue_law.specs.declared.view.Form.TheVariants.{Double};
 ghost use Rattle.queue_law.specs.Views.{first_view};
 ghost use Rattle.linked_queue.specs.Leaving.{found_by, with_found};
-ghost use Rattle.linked_queue.specs.Pushes.{SeesTail};
+ghost use Rattle.linked_queue.specs.Pushes.{IsWhyUnlinked, SeesTail};
 ghost use Rattle.linked_queue.specs.Queues.{IsAttached, beside_eyes};
 ghost use Rattle.linked_queue.specs.Seeing.{IsWhyUnread};
 ghost use Rattle.double_link_queue.specs.Leaving.{LeavesBoth};
-ghost use Rattle.double_link_queue.specs.Pushes.{IsWhyUnlinked, PushDiffers, SeesBack, SeesBefore, weakly_found_by};
+ghost use Rattle.double_link_queue.specs.Pushes.{SeesBack, SeesBefore, weakly_found_by};
+ghost use Rattle.double_link_queue.specs.Steps.{CountsBefore, FindsBefore, LoadsBack, MissesBack, UpgradesBack};
 
 use acquire_retire::{Domain, Seat, SlotId};
 use counted_handles::{LoadError, Strong, Weak, WeakPlace};
@@ -45,9 +46,12 @@ pub(crate) fn find_before<S, P: HasQueue<S>>(
     ensures makes { seat.new.view.core.makes ≡ seat.old.view.core.makes }
     ensures leaves { LeavesBoth (with_found (found_by result) seat.old.view.core.owned)
         seat.old.view.core.weaks (seen_by P.seen seat.old) (seen_by P.seen seat.new) }
-    ensures why { IfErr result
-        (λ error. IsWhyUnlinked P.Kind.fits (as_part P.part domain.now) 1 error
-        (seen_by P.seen seat.old)) }
+    ensures events { IfOk result (λ found. FindsBefore P.Kind.fits (as_part P.part domain.now)
+        last (named found) (seen_by P.seen seat.old) (seen_by P.seen seat.new)) }
+    ensures why { IfErr result (λ error. IsWhyUnlinked (λ seen now.
+        MissesBack P.Kind.fits (as_part P.part domain.now) last seen now
+        (seen_by P.seen seat.old) (seen_by P.seen seat.new)) 1
+        error (seen_by P.seen seat.old)) }
     ensures spent { IfErr result (λ error. error ≡ unloaded.Spent → IsSpent seat.new.view.core) }
     ensures beside_part { HasBeside P.with_seen first_view seat.old seat.new }
     ensures room { HasRoom seat.new.view.core }
@@ -82,8 +86,11 @@ fn load_back<S, P: HasQueue<S>>(
     ensures leaves { LeavesBoth seat.old.view.core.owned
         (with_found (weakly_found_by result) seat.old.view.core.weaks)
         (seen_by P.seen seat.old) (seen_by P.seen seat.new) }
-    ensures why { IfErr result
-        (λ error. IsWhyUnread (PushDiffers P.Kind.fits (as_part P.part domain.now)) error
+    ensures events { IfOk result (λ found. LoadsBack P.Kind.fits (as_part P.part domain.now)
+        last (weakly_named found) (seen_by P.seen seat.old) (seen_by P.seen seat.new)) }
+    ensures why { IfErr result (λ error. IsWhyUnread (λ seen now.
+        MissesBack P.Kind.fits (as_part P.part domain.now) last seen now
+        (seen_by P.seen seat.old) (seen_by P.seen seat.new)) error
         (seen_by P.seen seat.old)) }
     ensures spent { IfErr result (λ error. error ≡ unloaded.Spent → IsSpent seat.new.view.core) }
     ensures beside_part { HasBeside P.with_seen first_view seat.old seat.new }
@@ -117,8 +124,9 @@ fn upgrade_back<S, P: HasQueue<S>>(
     ensures leaves { LeavesBoth (with_found (found_by result) seat.old.view.core.owned)
         (without back.slot seat.old.view.core.weaks) (seen_by P.seen seat.old)
         (seen_by P.seen seat.new) }
-    ensures why { IfErr result
-        (λ error. IsWhyUnlinked P.Kind.fits (as_part P.part domain.now) 0 error
+    ensures events { IfOk result (λ found. UpgradesBack P.Kind.fits (as_part P.part domain.now)
+        back.slot (named found) (seen_by P.seen seat.old) (seen_by P.seen seat.new)) }
+    ensures why { IfErr result (λ error. IsWhyUnlinked (λ seen now. ⊥) 0 error
         (seen_by P.seen seat.old)) }
     ensures spent { IfErr result (λ error. error ≡ unloaded.Spent → IsSpent seat.new.view.core) }
     ensures beside_part { HasBeside P.with_seen first_view seat.old seat.new }
@@ -153,8 +161,9 @@ fn count_before<S, P: HasQueue<S>>(
     ensures makes { seat.new.view.core.makes ≡ seat.old.view.core.makes }
     ensures leaves { LeavesBoth (with_found (found_by result) seat.old.view.core.owned)
         seat.old.view.core.weaks (seen_by P.seen seat.old) (seen_by P.seen seat.new) }
-    ensures why { IfErr result
-        (λ error. IsWhyUnlinked P.Kind.fits (as_part P.part domain.now) 0 error
+    ensures events { IfOk result (λ found. CountsBefore P.Kind.fits (as_part P.part domain.now)
+        back.now.slot (named found) (seen_by P.seen seat.old) (seen_by P.seen seat.new)) }
+    ensures why { IfErr result (λ error. IsWhyUnlinked (λ seen now. ⊥) 0 error
         (seen_by P.seen seat.old)) }
     ensures spent { IfErr result (λ error. error ≡ unloaded.Spent → IsSpent seat.new.view.core) }
     ensures beside_part { HasBeside P.with_seen first_view seat.old seat.new }

@@ -18,8 +18,9 @@ ghost use Rattle.linked_queue.specs.Pops.{item_in};
 ghost use Rattle.linked_queue.specs.Pushes.{HasLoad, IsWhyRefused, LoadsNode, UsesNone, back_of, cause_of, pushed_too};
 ghost use Rattle.linked_queue.specs.Queues.{IsAttached, deeds_in};
 ghost use Rattle.double_link_queue.specs.Leaving.{LeavesBoth};
-ghost use Rattle.double_link_queue.specs.NotPushed.{IsWhyNotPushed, cause_in};
-ghost use Rattle.double_link_queue.specs.Pushes.{IsWhyUnpushed, Pushes, PushesNothing, landed_in};
+ghost use Rattle.double_link_queue.specs.NotPushed.{IsWhyNotPushed, IsWhyUnpushed, cause_in};
+ghost use Rattle.double_link_queue.specs.Pushes.{Pushes, PushesNothing, landed_in};
+ghost use Rattle.double_link_queue.specs.Steps.{PushesBy, PushesCopy};
 ghost use Rattle.double_link_queue.specs.Queues.{IsDoubleOf};
 
 use crate::carrying::carry;
@@ -53,6 +54,8 @@ impl DoubleQueue {
         requires item { 0 < times item.slot seat.old.view.core.owned }
         requires may { P.may_push domain.now.protocol seat.old.view.client
             (item_in (seen_by P.seen seat.old) item.slot) }
+        ensures events { IfOk result (λ done. PushesBy P.Kind.fits (as_part P.part domain.now)
+            item.slot (seen_by P.seen seat.old) (seen_by P.seen seat.new)) }
         ensures pushed { IfOk result
             (λ done. Pushes item.slot (seen_by P.seen seat.old) (seen_by P.seen seat.new)) }
         ensures refused { OnErr result
@@ -62,8 +65,8 @@ impl DoubleQueue {
         ensures owned { IfErr result (λ error.
             0 < times (back_of error).slot seat.new.view.core.owned) }
         ensures why { IfErr result
-            (λ error. IsWhyUnpushed P.Kind.fits (as_part P.part domain.now) error
-            (seen_by P.seen seat.old)) }
+            (λ error. IsWhyUnpushed P.Kind.fits (as_part P.part domain.now) item.slot error
+            (seen_by P.seen seat.old) (seen_by P.seen seat.new)) }
         ensures spent { IfErr result (λ error. cause_of error ≡ Some refused.AddsSpent
             → IsSpent seat.new.view.core) }
         ensures makes_kept { seat.old.view.core.makes ≤ seat.new.view.core.makes }
@@ -94,6 +97,8 @@ fn push_item<S, P: HasQueue<S>>(
     requires item { 0 < times item.slot seat.old.view.core.owned }
     requires may { P.may_push domain.now.protocol seat.old.view.client
         (item_in (seen_by P.seen seat.old) item.slot) }
+    ensures events { IfOk result (λ done. PushesBy P.Kind.fits (as_part P.part domain.now)
+        item.slot (seen_by P.seen seat.old) (seen_by P.seen seat.new)) }
     ensures pushed { IfOk result
         (λ done. Pushes item.slot (seen_by P.seen seat.old) (seen_by P.seen seat.new)) }
     ensures refused { OnErr result
@@ -101,8 +106,8 @@ fn push_item<S, P: HasQueue<S>>(
     ensures makes { seat.new.view.core.makes ≤ seat.old.view.core.makes + 1 }
     ensures back { IfErr result (λ error. back_of error ≡ item) }
     ensures why { IfErr result
-        (λ error. IsWhyUnpushed P.Kind.fits (as_part P.part domain.now) error
-        (seen_by P.seen seat.old)) }
+        (λ error. IsWhyUnpushed P.Kind.fits (as_part P.part domain.now) item.slot error
+        (seen_by P.seen seat.old) (seen_by P.seen seat.new)) }
     ensures spent { IfErr result (λ error. cause_of error ≡ Some refused.AddsSpent
         → IsSpent seat.new.view.core) }
     ensures makes_kept { seat.old.view.core.makes ≤ seat.new.view.core.makes }
@@ -148,6 +153,8 @@ fn push_copy<S, P: HasQueue<S>>(
     requires item { 0 < times item.now.slot seat.old.view.core.owned }
     requires may { P.may_push domain.now.protocol seat.old.view.client
         (item_in (seen_by P.seen seat.old) item.now.slot) }
+    ensures events { IfOk result (λ done. PushesCopy P.Kind.fits (as_part P.part domain.now)
+        item.now.slot (seen_by P.seen seat.old) (seen_by P.seen seat.new)) }
     ensures pushed { IfOk result (λ done. deeds_in (P.seen seat.new.view.client)
         ≡ pushed_too (item_in (seen_by P.seen seat.old) item.now.slot)
         (landed_in (deeds_in (P.seen seat.old.view.client)))) }
@@ -157,8 +164,8 @@ fn push_copy<S, P: HasQueue<S>>(
     ensures leaves { LeavesBoth seat.old.view.core.owned seat.old.view.core.weaks
         (seen_by P.seen seat.old) (seen_by P.seen seat.new) }
     ensures why { IfErr result
-        (λ not. IsWhyNotPushed P.Kind.fits (as_part P.part domain.now) not
-        (seen_by P.seen seat.old)) }
+        (λ not. IsWhyNotPushed P.Kind.fits (as_part P.part domain.now) item.now.slot not
+        (seen_by P.seen seat.old) (seen_by P.seen seat.new)) }
     ensures spent { IfErr result (λ not. cause_in not ≡ Some refused.AddsSpent
         → IsSpent seat.new.view.core) }
     ensures makes_kept { seat.old.view.core.makes ≤ seat.new.view.core.makes }
@@ -202,7 +209,7 @@ pub(crate) fn load_node<S, P: HasQueue<S>>(
         (seen_by P.seen seat.old) (seen_by P.seen seat.new) }
     ensures why { IfErr result
         (λ error. IsWhyRefused P.Kind.fits (as_part P.part domain.now) 1 error
-        (seen_by P.seen seat.old)) }
+        (seen_by P.seen seat.old) (seen_by P.seen seat.new)) }
     ensures spent { IfErr result (λ error. error ≡ refused.AddsSpent → IsSpent seat.new.view.core) }
     ensures makes_kept { seat.old.view.core.makes ≤ seat.new.view.core.makes }
     ensures unmade { IfErr result

@@ -15,6 +15,7 @@ ghost use Rattle.linked_queue.specs.Queues.{IsAttached, deeds_in};
 ghost use Rattle.double_link_queue.specs.Leaving.{LeavesBoth};
 ghost use Rattle.double_link_queue.specs.Pushes.{IsInFlight, Pushes, PushesNothing, beside_back, landed_in};
 ghost use Rattle.double_link_queue.specs.Queues.{IsDoubleOf};
+ghost use Rattle.double_link_queue.specs.Waits.{PushesAtLast, PushesNodeAtLast, TakesAtLast};
 ghost use Rattle.linked_queue.specs.Waits.{IsWhyNeverPushed};
 
 use crate::chaining::take_last;
@@ -51,6 +52,8 @@ impl DoubleQueue {
         requires item { 0 < times item.slot seat.old.view.core.owned }
         requires may { P.may_push domain.now.protocol seat.old.view.client
             (item_in (seen_by P.seen seat.old) item.slot) }
+        ensures events { IfOk result (λ done. PushesAtLast P.Kind.fits (as_part P.part domain.now)
+            item.slot (seen_by P.seen seat.old) (seen_by P.seen seat.new)) }
         ensures pushed { IfOk result (λ done. Pushes item.slot (seen_by P.seen seat.old)
             (seen_by P.seen seat.new)) }
         ensures refused { OnErr result (PushesNothing (seen_by P.seen seat.old)
@@ -102,6 +105,8 @@ fn push_at_last<S, P: HasQueue<S>, R: Wait>(
     requires load { HasLoad node.slot (seen_by P.seen seat.old) }
     requires may { P.may_push domain.now.protocol seat.old.view.client
         (carried_item (P.seen seat.old.view.client)) }
+    ensures events { IfOk result (λ done. PushesNodeAtLast P.Kind.fits (as_part P.part domain.now)
+        node.slot (seen_by P.seen seat.old) (seen_by P.seen seat.new)) }
     ensures pushed { IfOk result (λ done. deeds_in (P.seen seat.new.view.client)
         ≡ pushed_too (carried_item (P.seen seat.old.view.client))
         (landed_in (deeds_in (P.seen seat.old.view.client)))) }
@@ -145,6 +150,8 @@ fn take_at_last<S, P: HasQueue<S>, R: Wait>(
     requires load { HasLoad node (seen_by P.seen seat.old) }
     requires may { P.may_push domain.now.protocol seat.old.view.client
         (carried_item (P.seen seat.old.view.client)) }
+    ensures events { IfOk result (λ last. TakesAtLast P.Kind.fits (as_part P.part domain.now)
+        last.slot node (seen_by P.seen seat.old) (seen_by P.seen seat.new)) }
     ensures pushed { IfOk result (λ last. landed_in (deeds_in (P.seen seat.new.view.client))
         ≡ pushed_too (carried_item (P.seen seat.old.view.client))
         (landed_in (deeds_in (P.seen seat.old.view.client)))) }

@@ -10,8 +10,10 @@ use Rattle.queue_law.specs.declared.view.View.{View}
 use Rattle.queue_protocol.specs.declared.law.QueueLaw.{QueueLaw}
 use Rattle.linked_queue.specs.declared.queue.PushError.{PushError}
 use Rattle.linked_queue.specs.declared.queue.PushError.TheVariants as unpushed
+use Rattle.linked_queue.specs.PushLosses as losses
 use Rattle.linked_queue.specs.Pushes as linked
 use Rattle.linked_queue.specs.Pushes.{IsWhyRefused}
+use Rattle.double_link_queue.specs.NotPushed as double_losses
 use Rattle.double_link_queue.specs.Pushes as double
 use Rattle.double_link_queue.specs.Pushes.{landed_in}
 use Rattle.double_link_queue.proofs.Owning.{both_of}
@@ -40,18 +42,19 @@ linked_nothing old new nothing = record {
   deeds = nothing.deeds;
 }
 
-module _ (fits : List ℕ → Type 0) (d : DomainState QueueLaw) (old : SeatState View) where
+module _ (fits : List ℕ → Type 0) (d : DomainState QueueLaw) (item : SlotId)
+    (old new : SeatState View) where
   -- WHY nothing was pushed
-  pub linked_why : d.protocol.form ≡ Linked → (e : PushError) → linked.IsWhyUnpushed fits d e old
-      → IsWhyUnpushed fits d e old
+  pub linked_why : d.protocol.form ≡ Linked → (e : PushError)
+      → losses.IsWhyUnpushed fits d item e old new → IsWhyUnpushed fits d item e old new
   linked_why form (unpushed.Again seen now back) why =
-      subst (λ (f : Form). DiffersIn fits d f seen now) (sym form) why
+      subst (λ (f : Form). DiffersIn fits d f item seen now old new) (sym form) why
   linked_why form (unpushed.Refused r) why =
-      subst (λ (f : Form). IsWhyRefused fits d (most_adds f) r.why old) (sym form) why
+      subst (λ (f : Form). IsWhyRefused fits d (most_adds f) r.why old new) (sym form) why
 
-  pub double_why : d.protocol.form ≡ Double → (e : PushError) → double.IsWhyUnpushed fits d e old
-      → IsWhyUnpushed fits d e old
+  pub double_why : d.protocol.form ≡ Double → (e : PushError)
+      → double_losses.IsWhyUnpushed fits d item e old new → IsWhyUnpushed fits d item e old new
   double_why form (unpushed.Again seen now back) why =
-      subst (λ (f : Form). DiffersIn fits d f seen now) (sym form) why
+      subst (λ (f : Form). DiffersIn fits d f item seen now old new) (sym form) why
   double_why form (unpushed.Refused r) why =
-      subst (λ (f : Form). IsWhyRefused fits d (most_adds f) r.why old) (sym form) why
+      subst (λ (f : Form). IsWhyRefused fits d (most_adds f) r.why old new) (sym form) why

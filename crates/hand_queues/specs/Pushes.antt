@@ -12,12 +12,12 @@ use Rattle.queue_protocol.specs.declared.law.QueueLaw.{QueueLaw}
 use Rattle.linked_queue.specs.declared.queue.PushError.{PushError}
 use Rattle.linked_queue.specs.declared.queue.PushError.TheVariants as unpushed
 use Rattle.linked_queue.specs.Pops.{item_in}
+use Rattle.linked_queue.specs.PushLosses.{LosesPush}
 use Rattle.linked_queue.specs.Pushes.{IsWhyRefused, pushed_too}
-use Rattle.linked_queue.specs.Pushes as linked
 use Rattle.linked_queue.specs.Queues.{deeds_in}
 use Rattle.double_link_queue.specs.Leaving.{LeavesBoth}
 use Rattle.double_link_queue.specs.Pushes.{landed_in}
-use Rattle.double_link_queue.specs.Pushes as double
+use Rattle.double_link_queue.specs.Steps as double
 
 -- all of a view but its notes on single nodes, those of a push in flight too: what the seat pushed and popped, who it
 -- is, and how far it has laid the queue
@@ -38,13 +38,14 @@ most_adds Linked = 5
 most_adds Double = 7
 
 module _ (fits : List ℕ → Type 0) (d : DomainState QueueLaw) where
-  -- a place of a queue of this form held `seen`, and then `now`, which is another content
-  abbrev pub DiffersIn : Form → ℕ → ℕ → Type 0
-  DiffersIn Linked = linked.PushDiffers fits d
-  DiffersIn Double = double.PushDiffers fits d
+  -- all events of a push that was lost, on a queue of this form: a place showed `seen` and then `now` to two of them
+  abbrev pub DiffersIn : Form → SlotId → ℕ → ℕ → SeatState View → SeatState View → Type 0
+  DiffersIn Linked item seen now old new = LosesPush fits d item seen now old new
+  DiffersIn Double item seen now old new = double.LosesPush fits d item seen now old new
 
   -- why nothing was pushed: another seat was quicker, or `make` has refused, or the adds that were left were too few
-  abbrev pub IsWhyUnpushed : PushError → SeatState View → Type 0
-  IsWhyUnpushed (unpushed.Again seen now back) old = DiffersIn d.protocol.form seen now
-  IsWhyUnpushed (unpushed.Refused r) old =
-      IsWhyRefused fits d (most_adds d.protocol.form) r.why old
+  abbrev pub IsWhyUnpushed : SlotId → PushError → SeatState View → SeatState View → Type 0
+  IsWhyUnpushed item (unpushed.Again seen now back) old new =
+      DiffersIn d.protocol.form item seen now old new
+  IsWhyUnpushed item (unpushed.Refused r) old new =
+      IsWhyRefused fits d (most_adds d.protocol.form) r.why old new

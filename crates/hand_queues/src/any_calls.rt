@@ -83,6 +83,22 @@ impl HandQueue for AnyQueue {
         }
     }
 
+    fn try_pop_with<S, P: HasQueue<S>>(
+        &self,
+        domain: &Domain<P>,
+        seat: &mut Seat<P>,
+        field: u32,
+    ) -> Result<Option<(Strong, Option<Strong>)>, PopError> {
+        match self {
+            AnyQueue::Linked(queue) => {
+                <LinkedQueue as HandQueue>::try_pop_with::<S, P>(queue, domain, seat, field)
+            }
+            AnyQueue::Double(queue) => {
+                <DoubleQueue as HandQueue>::try_pop_with::<S, P>(queue, domain, seat, field)
+            }
+        }
+    }
+
     fn pop<S, P: HasQueue<S>, R: Wait>(
         &self,
         rt: &R,

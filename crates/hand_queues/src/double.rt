@@ -47,6 +47,15 @@ impl HandQueue for DoubleQueue {
         DoubleQueue::try_pop::<S, P>(self, domain, seat)
     }
 
+    fn try_pop_with<S, P: HasQueue<S>>(
+        &self,
+        domain: &Domain<P>,
+        seat: &mut Seat<P>,
+        field: u32,
+    ) -> Result<Option<(Strong, Option<Strong>)>, PopError> {
+        DoubleQueue::try_pop_with::<S, P>(self, domain, seat, field)
+    }
+
     fn pop<S, P: HasQueue<S>, R: Wait>(
         &self,
         rt: &R,

@@ -1,5 +1,5 @@
 //! What each call on a queue tells, whichever form the queue has.
-ghost use Rattle.std.specs.Prelude.{◌≡◌, ◌≤◌, ◌<◌, ◌+◌, if◌then◌else◌, IfErr, IfOk, IfSome, OnErr, Some};
+ghost use Rattle.std.specs.Prelude.{◌≡◌, ◌≤◌, ◌<◌, ◌+◌, if◌then◌else◌, IfErr, IfOk, IfSome, OnErr, None, Some};
 ghost use Rattle.plain_state.specs.Lists.{times};
 ghost use Rattle.core_events.specs.Steps.{HasRoom};
 ghost use Rattle.domain_rule.specs.Views.{IsAlone};
@@ -12,7 +12,8 @@ ghost use Rattle.queue_protocol.specs.declared.law.QueueLaw.{QueueLaw};
 ghost use Rattle.linked_queue.specs.declared.queue.PopError.TheVariants as unpopped;
 ghost use Rattle.linked_queue.specs.Attaching.{LooksAtHead, attached_in, is_slot};
 ghost use Rattle.linked_queue.specs.Leaving.{Leaves, found_by};
-ghost use Rattle.linked_queue.specs.Pops.{IsWhyUnpopped, Pops, PopsAtHead, item_in};
+ghost use Rattle.linked_queue.specs.Losses.{IsWhyUnpopped};
+ghost use Rattle.linked_queue.specs.Pops.{OwnsBoth, Pops, PopsAtHead, PopsAtHeadWith, PopsWith, both_by, item_in, named_both};
 ghost use Rattle.linked_queue.specs.Pushes.{UsesNone, back_of, cause_of};
 ghost use Rattle.linked_queue.specs.Queues.{IsAttached, ends_of};
 ghost use Rattle.linked_queue.specs.Shuts.{CanShut, Shuts, shut_in};
@@ -93,8 +94,8 @@ pub trait HandQueue {
         ensures owned { IfErr result (λ error.
             0 < times (back_of error).slot seat.new.view.core.owned) }
         ensures why { IfErr result
-            (λ error. IsWhyUnpushed P.Kind.fits (as_part P.part domain.now) error
-            (seen_by P.seen seat.old)) }
+            (λ error. IsWhyUnpushed P.Kind.fits (as_part P.part domain.now) item.slot error
+            (seen_by P.seen seat.old) (seen_by P.seen seat.new)) }
         ensures spent { IfErr result (λ error. cause_of error ≡ Some refused.AddsSpent
             → IsSpent seat.new.view.core) }
         ensures makes { seat.new.view.core.makes ≤ seat.old.view.core.makes + 1 }
@@ -145,9 +146,10 @@ pub trait HandQueue {
         ensures rest { IsAtRest domain.now seat.new };
 
     /// Takes the first item off the queue, in one try, and answers a reference to it. `None` only where nothing was
-    /// linked behind the head's node at a step of this call. `Again` only where a place of the queue changed
-    /// meanwhile, which this call didn't change, and `Spent` only where at most three adds were left, and none is left
-    /// now. Then nothing is taken, and the seat has what it had. No make. At most 29 steps, and two collects.
+    /// linked behind the head's node at a step of this call. `Again` only where a place of the queue changed meanwhile,
+    /// which this call didn't change: it showed `seen` and then `now` to events of this call. `Spent` only where at
+    /// most three adds were left, and none is left now. Then nothing is taken, and the seat has what it had. No make.
+    /// At most 29 steps, and two collects.
     fn try_pop<S, P: HasQueue<S>>(
         &self,
         domain: &Domain<P>,
@@ -165,8 +167,42 @@ pub trait HandQueue {
         ensures owned { IfOk result (λ found. IfSome found (λ item.
             0 < times item.slot seat.new.view.core.owned)) }
         ensures why { IfErr result
-            (λ error. IsWhyUnpopped P.Kind.fits (as_part P.part domain.now) 3 error
-            (seen_by P.seen seat.old)) }
+            (λ error. IsWhyUnpopped P.Kind.fits (as_part P.part domain.now) None 3 error
+            (seen_by P.seen seat.old) (seen_by P.seen seat.new)) }
+        ensures spent { IfErr result
+            (λ error. error ≡ unpopped.Spent → IsSpent seat.new.view.core) }
+        ensures makes { seat.new.view.core.makes ≡ seat.old.view.core.makes }
+        ensures attached { IsAttached (P.seen seat.new.view.client) }
+        ensures beside { StaysBeside P.seen P.with_seen seat.old seat.new }
+        ensures room { HasRoom seat.new.view.core }
+        ensures rest { IsAtRest domain.now seat.new };
+
+    /// Takes the first item off the queue, in one try, and answers a reference to it and one to what this field of it
+    /// held, or `None` in its place where that was null. The field, 0 or 1, is read before the item is taken, so the
+    /// content is that at a step of this call, and where no add is left for it the item stays. `None` and `Spent` as in
+    /// `try_pop`, with four adds in place of three; the place of `Again` may be that field too. No make. At most 35
+    /// steps, and two collects.
+    fn try_pop_with<S, P: HasQueue<S>>(
+        &self,
+        domain: &Domain<P>,
+        seat: &mut Seat<P>,
+        field: u32,
+    ) -> Result<Option<(Strong, Option<Strong>)>, PopError>
+        requires rest { IsAtRest domain.now seat.old }
+        requires room { HasRoom seat.old.view.core }
+        requires queue { is_on self.now (as_part P.part domain.now) }
+        requires attached { IsAttached (P.seen seat.old.view.client) }
+        requires field { field < 2 }
+        ensures events { IfOk result
+            (λ found. PopsAtHeadWith P.Kind.fits (as_part P.part domain.now) (Some field)
+            (named_both found) (seen_by P.seen seat.old) (seen_by P.seen seat.new)) }
+        ensures popped { PopsWith (both_by result) (seen_by P.seen seat.old)
+            (seen_by P.seen seat.new) }
+        ensures owned { IfOk result (λ found. IfSome found (λ pair.
+            OwnsBoth pair seat.new.view.core)) }
+        ensures why { IfErr result
+            (λ error. IsWhyUnpopped P.Kind.fits (as_part P.part domain.now) (Some field) 4 error
+            (seen_by P.seen seat.old) (seen_by P.seen seat.new)) }
         ensures spent { IfErr result
             (λ error. error ≡ unpopped.Spent → IsSpent seat.new.view.core) }
         ensures makes { seat.new.view.core.makes ≡ seat.old.view.core.makes }

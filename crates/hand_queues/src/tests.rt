@@ -87,6 +87,30 @@ fn push_then_pop<S, P: HasQueue<S>, H: HandQueue>(
     queue.try_pop::<S, P>(domain, seat).ok()?
 }
 
+/// The same, where the pop reads field 0 of the item. Whether that was null.
+fn push_then_read<S, P: HasQueue<S>, H: HandQueue>(
+    domain: &Domain<P>,
+    seat: &mut Seat<P>,
+    queue: &H,
+    item: Strong,
+) -> Option<bool>
+    requires rest { IsAtRest domain.now seat.old }
+    requires room { HasRoom seat.old.view.core }
+    requires queue { H.is_on queue.now (as_part P.part domain.now) }
+    requires attached { IsAttached (P.seen seat.old.view.client) }
+    requires item { 0 < times item.slot seat.old.view.core.owned }
+    requires may { P.may_push domain.now.protocol seat.old.view.client
+        (item_in (seen_by P.seen seat.old) item.slot) }
+{
+    if queue.try_push::<S, P>(domain, seat, item).is_err() {
+        return None;
+    }
+    let Ok(Some((_item, content))) = queue.try_pop_with::<S, P>(domain, seat, 0) else {
+        return None;
+    };
+    Some(content.is_none())
+}
+
 /// Pushes a new item, and tells its slot.
 fn push_new<H: HandQueue, R: Wait>(
     rt: &R,
@@ -210,5 +234,21 @@ fn an_item_goes_on_and_comes_back_in_two_tries(rt: HostRuntime) -> Result<(), Fa
         panic!(rt; "an item")
     };
     assert_eq!(rt; back.slot(), slot);
+    Ok(())
+}
+
+#[test]
+fn a_pop_reads_a_field_on_both_forms(rt: HostRuntime) -> Result<(), Fail> {
+    for form in [Form::Linked, Form::Double] {
+        let (domain, mut seat) = open_alone(rt.alloc(), form)?;
+        let Ok(queue) = AnyQueue::lay(&domain, &mut seat, form, 0, 1) else {
+            panic!(rt; "a queue")
+        };
+        let item = make_item(&domain, &mut seat).expect(&rt, "a free slot");
+        assert_eq!(rt;
+            push_then_read(&domain, &mut seat, &queue, item),
+            Some(true)
+        );
+    }
     Ok(())
 }

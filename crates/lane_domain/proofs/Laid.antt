@@ -1,6 +1,6 @@
 -- Seat 0 of a domain that was just opened lays the queue.
-use Rattle.std.proofs.Common.{◌≡◌, ◌≢◌, ⊎_elim, ℕ, ◌+◌, ◌<◌, ◌≤◌, ◌^◌, List, [], refl, sym, ap, subst, ◌∙◌, arith}
-use Rattle.std.specs.Prelude.{length, slice_index_or}
+use Rattle.std.proofs.Common.{◌≡◌, ⊎_elim, ℕ, ◌+◌, ◌<◌, ◌≤◌, List, [], refl, sym, ap, subst, ◌∙◌, arith}
+use Rattle.std.specs.Prelude.{slice_index_or}
 use Rattle.std.proofs.lemmas.List.FromFn.{get_or-map-range_with_len}
 use Rattle.plain_state.specs.declared.slot.SlotId.{SlotId}
 use Rattle.plain_state.specs.Lists.{times}
@@ -9,28 +9,26 @@ use Rattle.core_events.specs.declared.shape.Shape.{Shape}
 use Rattle.core_events.specs.declared.view.CoreView.{CoreView}
 use Rattle.core_events.specs.Runs.{IsShape}
 use Rattle.core_events.specs.Steps.{HasMake, HasRoom}
-use Rattle.core_events.specs.Views.{Terms, granted}
+use Rattle.core_events.specs.Views.{Terms}
 use Rattle.core_invariant.proofs.Each.{get_each, length_each}
 use Rattle.domain_rule.specs.Views.{quota_at}
 use Rattle.acquire_retire.specs.Domains.{DomainState}
-use Rattle.acquire_retire.specs.Openings.{begun_seat, opened_seats}
+use Rattle.acquire_retire.specs.Openings.{begun_seat}
 use Rattle.acquire_retire.specs.Seats.{SeatState}
 use Rattle.control_word.proofs.Beginning.{all_at_rest}
-use Rattle.control_word.specs.Resting.{IsAtRest, IsSpent}
+use Rattle.control_word.specs.Resting.{IsAtRest}
 use Rattle.claim_law.specs.Claims.{makes_given}
 use Rattle.slot_store.specs.Calls.{HasNoMake}
 use Rattle.slot_store.specs.declared.making.MakeError.{MakeError}
 use Rattle.slot_store.specs.declared.making.MakeError.TheVariants as unmade
 use Rattle.slot_store.proofs.Exhausting.{more_makes}
-use Rattle.part_calls.specs.Parts.{StaysBeside, as_part}
+use Rattle.part_calls.specs.Parts.{StaysBeside}
 use Rattle.queue_law.specs.declared.view.Form.{Form}
 use Rattle.queue_law.specs.declared.view.Form.TheVariants.{Linked, Double}
-use Rattle.queue_law.specs.declared.view.View.{View as QueueView}
 use Rattle.queue_law.specs.Views.{view_of}
 use Rattle.directory_law.specs.declared.view.GivenTo.{GivenTo}
 use Rattle.directory_law.specs.Cells.{seat_interns, ticket_interns}
 use Rattle.directory_law.specs.Views as directory
-use Rattle.directory_calls.specs.declared.directory.Directory.{Directory}
 use Rattle.text_reading.specs.Reading.{HasTwoFree}
 use Rattle.linked_queue.specs.Leaving.{Leaves}
 use Rattle.linked_queue.specs.Nodes.{IsWhyUnlaid, laid_in}
@@ -46,7 +44,7 @@ use Rattle.word_lanes.specs.Whys.{of_queue, queue_of}
 use Rattle.word_lanes.proofs.Kept.{free_still, owns_queue}
 use Rattle.lane_files.specs.declared.work.Work.{Work}
 use Rattle.lane_files.specs.Lanes.{HasGrants}
-use Rattle.lane_domain.specs.Opened.{FindsNoSlot, HasOnlyLaid, IsDomainFor, IsDomainForSome, IsQueueHere, fresh_seat, root_quota, shape_for, terms_for}
+use Rattle.lane_domain.specs.Opened.{FindsNoSlot, HasOnlyLaid, IsDomainFor, IsDomainForSome, IsQueueHere, fresh_seat, root_quota}
 use Rattle.lane_domain.specs.Sizes.{interns_of}
 use Rattle.lane_domain.proofs.Shapes.{in_shape}
 

@@ -2,3 +2,9 @@ pub mod Sums
 pub mod Limits
 pub mod Shapes
 pub mod Laid
+pub mod SeatsOpened
+pub mod Begun
+pub mod Ended
+pub mod Listed
+pub mod Threads
+pub mod Enough

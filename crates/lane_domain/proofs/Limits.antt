@@ -1,11 +1,12 @@
 -- How many pieces and slots the files of some work have at most.
-use Rattle.std.proofs.Common.{◌≡◌, ℕ, ◌+◌, ◌*◌, ◌/◌, ◌%◌, ◌^◌, ◌<◌, ◌≤◌, List, [], sym, subst, ap, arith}
+use Rattle.std.proofs.Common.{◌≡◌, ℕ, ◌+◌, ◌*◌, ◌%◌, ◌<◌, ◌≤◌, List, [], subst, arith}
 use Rattle.std.specs.Prelude.{All, length, slice_index_or, sum_by, take}
 use Rattle.std.proofs.lemmas.List.{get_or_default, length-map}
 use Rattle.std.proofs.lemmas.List.Elements.{All-get_or, All-map}
 use Rattle.std.proofs.lemmas.List.Sums.{sum_by-le, sum_by-take-le, sum_by_more}
 use Rattle.std.proofs.lemmas.Nat.{mul-le}
-use Rattle.words_law.specs.Fold.{File, slots_of_word}
+use Rattle.cdrc_text.specs.Fold.{File}
+use Rattle.cdrc_text.specs.Text.{slots_of_word}
 use Rattle.lane_files.specs.declared.file.FileText.{FileText}
 use Rattle.lane_files.specs.declared.work.Work.{Work}
 use Rattle.lane_files.specs.Files.{HasPieces, pieces_in}

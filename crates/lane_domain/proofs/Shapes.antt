@@ -1,6 +1,6 @@
 -- The shape of the domain, its quotas and its grants are in their ranges.
-use Rattle.std.proofs.Common.{◌≡◌, ℕ, ◌+◌, ◌*◌, ◌^◌, ◌<◌, ◌≤◌, List, [], ◌∷◌, refl, sym, ap, subst, ◌∙◌, arith}
-use Rattle.std.specs.Prelude.{All, length, replicate, sum, sum_by}
+use Rattle.std.proofs.Common.{◌≡◌, ℕ, ◌+◌, ◌*◌, ◌<◌, ◌≤◌, List, ◌∷◌, ap, subst, ◌∙◌, arith}
+use Rattle.std.specs.Prelude.{length, replicate, sum}
 use Rattle.std.proofs.lemmas.List.{length-replicate}
 use Rattle.std.proofs.lemmas.List.Elements.{All-cons, All-replicate}
 use Rattle.std.proofs.lemmas.List.Folds.{sum_by-replicate}
@@ -14,7 +14,7 @@ use Rattle.core_functions.specs.Fields.{IsFirstBad, IsInRange}
 use Rattle.acquire_retire.specs.Domains.{DomainState}
 use Rattle.words_protocol.specs.declared.law.WordsLaw.{WordsLaw}
 use Rattle.claim_law.specs.Claims.{makes_given}
-use Rattle.words_law.specs.Fold.{File}
+use Rattle.cdrc_text.specs.Fold.{File}
 use Rattle.lane_files.specs.declared.work.Work.{Work}
 use Rattle.lane_files.specs.Work.{all_tickets}
 use Rattle.queue_law.specs.declared.view.Form.{Form}

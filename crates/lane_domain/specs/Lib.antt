@@ -1,2 +1,5 @@
 pub mod Sizes
 pub mod Opened
+pub mod Beginning
+pub mod Ending
+pub mod Jobs

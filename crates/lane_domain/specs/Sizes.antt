@@ -1,7 +1,8 @@
 -- How much of a domain some work takes.
 use Rattle.std.specs.Prelude.{ℕ, ◌+◌, ◌*◌, ◌≤◌, List, length, map, sum_by}
 use Rattle.std.specs.List.{range_with_len}
-use Rattle.words_law.specs.Fold.{File, slots_of_word}
+use Rattle.cdrc_text.specs.Fold.{File}
+use Rattle.cdrc_text.specs.Text.{slots_of_word}
 use Rattle.lane_files.specs.declared.file.FileText.{FileText}
 use Rattle.lane_files.specs.declared.work.Work.{Work}
 use Rattle.lane_files.specs.Files.{pieces_in}

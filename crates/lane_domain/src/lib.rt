@@ -2,7 +2,8 @@
 //! many cells and makes as the files need.
 //!
 //! The rule that is kept is the law of `words_law`, between any two steps of all seats. Here stands what the domain is
-//! opened with: each ticket of a file grants an intern for each piece, and a make for each slot that the piece may take.
+//! opened with: each ticket of a file grants an intern for each piece, and a make for each slot that the piece may take. So
+//! no lane stops for want of a make, and none since each slot is taken unless there are fewer slots than makes.
 //!
 //! It isn't promised that there is memory, nor, where there are fewer slots than makes, that the queue is laid.
 //!
@@ -13,13 +14,24 @@
 //! ```
 #![tactic(auto)]
 
+mod ending;
+mod jobs;
+mod laws;
 mod opened;
 mod opening;
+mod running;
 mod sizes;
 #[cfg(test)]
 mod tests;
+#[cfg(test)]
+mod tests_threads;
 mod tickets;
 
+pub use ending::LaneEnd;
+pub use laws::{
+    attached_seats_have_makes, full_domains_lack_slots, lanes_have_makes, opened_seats_can_begin,
+};
 pub use opened::{OpenLanesError, Opened, Unlaid};
 pub use opening::open_lanes;
+pub use running::run_lanes;
 pub use sizes::{count_parts, count_pieces, count_slots, is_within_limits};

@@ -3,6 +3,7 @@ ghost use Rattle.std.specs.Prelude.{◌≡◌, ◌≤◌, ◌<◌, ◌*◌, ◌�
 ghost use Rattle.claim_law.specs.Claims.{makes_given};
 ghost use Rattle.word_lanes.specs.Ready.{IsReady};
 ghost use Rattle.lane_files.specs.Lanes.{HasGrants};
+ghost use Rattle.lane_files.specs.Makes.{GrantsMakes};
 ghost use Rattle.lane_files.specs.Work.{IsWork};
 ghost use Rattle.lane_domain.specs.Opened.{FindsNoSlot, HasOnlyLaid, IsDirectoryFor, IsDomainFor, IsDomainForSome, IsQueueHere, IsWhyNotOpened, fresh_lanes, fresh_seat, lane_quota, root_quota};
 ghost use Rattle.lane_domain.specs.Sizes.{IsWithinLimits, all_pieces};
@@ -160,6 +161,7 @@ pub fn open_lanes(
     ensures domain { IfOk result (λ opened.
         IsDomainFor work.now lanes slots form opened.domain) }
     ensures grants { IfOk result (λ opened. HasGrants opened.domain work.now) }
+    ensures makes { IfOk result (λ opened. GrantsMakes opened.domain.terms.grants work.now) }
     ensures ready { IfOk result (λ opened. IsReady opened.domain opened.shared opened.root) }
     ensures root { IfOk result (λ opened. HasOnlyLaid form opened.root) }
     ensures seats { IfOk result (λ opened. opened.seats.items

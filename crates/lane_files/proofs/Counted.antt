@@ -20,6 +20,7 @@ use Rattle.lane_files.specs.declared.refusal.FileError.{FileError}
 use Rattle.lane_files.specs.declared.refusal.FileError.TheVariants as refused
 use Rattle.lane_files.specs.Keeping.{has, slots_of}
 use Rattle.lane_files.specs.Next.{CountsNext}
+use Rattle.lane_files.proofs.Making.{makes_more, makes_none}
 use Rattle.lane_files.proofs.Records.{keeps_more, keeps_none, marks_more}
 
 -- pushes and pops after others
@@ -47,6 +48,7 @@ counts_nothing a before after tally kept = record {
   owns = owns_as (a.view.core.owned ++ []) a a (owns_none a)
       (λ x. ap (times x) (sym (append-nil a.view.core.owned)));
   interns = uses_none a.view.client a.view.client refl;
+  makes = let n = makes_none in omega arith;
 }
 
 -- so many words are counted, and the marks are those of what is kept
@@ -110,6 +112,7 @@ module _ (ws : List (List ℕ)) (w : List ℕ) (a b c : SeatState View) (la lb l
     interns = subst (λ n. UsesInterns n a.view.client c.view.client)
         (sym (length-append ws (w ∷ [])))
         (uses_then (length ws) 1 a.view.client b.view.client c.view.client so_far.interns next.interns);
+    makes = let m = makes_more ws w in let f = so_far.makes in let n = next.makes in omega arith;
   }
 
   marks_on : (s : SlotId) → has lc.keeper s ≡ nat_lt 0 (times s (slots_of all_more))
@@ -139,6 +142,7 @@ begun w b c lane turn lc next = record {
   marks = next.marks;
   owns = next.owns;
   interns = next.interns;
+  makes = next.makes;
 }
 
 pub stopped_begun : (fits : List ℕ → Type 0) (d : DomainState WordsLaw) (w : List ℕ) (error : FileError)

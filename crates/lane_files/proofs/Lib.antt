@@ -1,8 +1,10 @@
 pub mod Counted
 pub mod Drawn
+pub mod Enough
 pub mod Giving
 pub mod Keeping
 pub mod Kept
+pub mod Making
 pub mod Nexts
 pub mod Pieces
 pub mod Records

@@ -1,11 +1,12 @@
 -- One piece that was counted, whose record was kept or given up, and then what ended was destroyed.
-use Rattle.std.proofs.Common.{◌≡◌, ℕ, ◌<◌, Bool, true, List, [], ◌∷◌, ◌++◌, refl, sym, subst, ◌∙◌}
+use Rattle.std.proofs.Common.{◌≡◌, ℕ, ◌+◌, ◌<◌, ◌≤◌, Bool, true, List, [], ◌∷◌, ◌++◌, refl, sym, subst, ◌∙◌}
 use Rattle.std.specs.Prelude.{cond}
 use Rattle.plain_state.specs.declared.slot.SlotId.{SlotId}
 use Rattle.plain_state.specs.Lists.{times}
 use Rattle.counted_handles.specs.Handles.{Handle}
 use Rattle.acquire_retire.specs.Seats.{SeatState}
 use Rattle.weak_intern.specs.Knowing.{KnowsRecord}
+use Rattle.cdrc_text.specs.Text.{slots_of_word}
 use Rattle.words_law.specs.Views.{View}
 use Rattle.word_lanes.specs.Counting.{Takes, UsesInterns}
 use Rattle.word_lanes.specs.Ready.{Owns}
@@ -25,7 +26,8 @@ module _ (w : List ℕ) (h : Handle) (b m k c : SeatState View) (before after : 
     (same_keep : k.view.client ≡ m.view.client)
     (tidies : Owns k.view.core.owned k c)
     (same_tidy : c.view.client ≡ k.view.client)
-    (held : (s : SlotId) → has before.keeper s ≡ true → 0 < times s b.view.core.owned) where
+    (held : (s : SlotId) → has before.keeper s ≡ true → 0 < times s b.view.core.owned)
+    (makes : c.view.core.makes ≤ b.view.core.makes + slots_of_word w + 1) where
   same_view : c.view.client ≡ m.view.client
   same_view = same_tidy ∙ same_keep
 
@@ -43,4 +45,5 @@ module _ (w : List ℕ) (h : Handle) (b m k c : SeatState View) (before after : 
     marks = keeps.marks;
     owns = owns_next h b.view.core.owned keeps.more b m k c first (λ x. refl) keeps.owns tidies;
     interns = subst (λ (v : View). UsesInterns 1 b.view.client v) (sym same_view) interns;
+    makes = makes;
   }

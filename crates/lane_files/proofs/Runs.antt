@@ -21,9 +21,11 @@ use Rattle.lane_files.specs.declared.refusal.LaneStop.TheVariants as stopped
 use Rattle.lane_files.specs.declared.work.Work.{Work}
 use Rattle.lane_files.specs.Counting.{StopsInFile}
 use Rattle.lane_files.specs.Lanes.{CountsTickets, RunsLane, StopsLane}
+use Rattle.lane_files.specs.Makes.{makes_for}
 use Rattle.lane_files.specs.Work.{IsWork, all_tickets, words_of, words_of_all}
 use Rattle.lane_files.proofs.Drawn.{after_draw, after_none, takes_draw}
-use Rattle.lane_files.proofs.Tickets.{tickets_none, tickets_then}
+use Rattle.lane_files.proofs.Making.{makes_both, makes_next}
+use Rattle.lane_files.proofs.Tickets.{tickets_none, tickets_then, words_both, words_one}
 
 -- the lane drew and counted so many tickets, each of a file
 pub record HasRun (work : Work) (n : ℕ) (a b : SeatState View) (la lb : Lane) : Type 0 where
@@ -36,7 +38,7 @@ pub record HasRun (work : Work) (n : ℕ) (a b : SeatState View) (la lb : Lane) 
 pub has_none : (work : Work) (a : SeatState View) (lane : Lane) → HasRun work 0 a a lane lane
 has_none work a lane = record {
   tickets = [];
-  counts = tickets_none work a a lane (takes_none a.view.client lane.tally) (after_none a);
+  counts = tickets_none work a a lane (takes_none a.view.client lane.tally) (after_none a) refl;
   inside = λ k e less. absurd (omega (arith, less));
   many = refl;
   drawn = sym (append-nil a.view.core.tickets);
@@ -49,7 +51,8 @@ module _ (d : DomainState WordsLaw) (work : Work) (n : ℕ) (a b c : SeatState V
   counts_drawn : CountsTickets work run.tickets a c la lb
   counts_drawn = subst (λ ts. CountsTickets work ts a c la lb) (append-nil run.tickets)
       (tickets_then work run.tickets [] a b c la lb lb run.counts
-      (tickets_none work b c lb (takes_draw d ticket b c draws lb.tally) (after_draw d ticket b c draws)))
+      (tickets_none work b c lb (takes_draw d ticket b c draws lb.tally) (after_draw d ticket b c draws)
+      (ap (λ (v : CoreView). v.makes) draws.core)))
 
   drawn_now : c.view.core.tickets ≡ a.view.core.tickets ++ (run.tickets ++ ticket ∷ [])
   drawn_now =
@@ -90,6 +93,15 @@ module _ (d : DomainState WordsLaw) (work : Work) (n : ℕ) (a b c : SeatState V
       lane = lb;
       counts = counts_drawn;
       why = (ticket, inside, why);
+      drawn = ap (λ (v : CoreView). v.tickets) why.owns.same
+          ∙ (ap (λ (v : CoreView). v.tickets) why.counts.owns.same ∙ drawn_now);
+      makes = let all = counts_drawn.makes in let first = why.counts.makes in
+          let last = why.makes in
+          let next = makes_next (words_of work ticket) why.done why.fewer in
+          let one = ap makes_for (words_one work ticket) in
+          let sum = ap makes_for (words_both work run.tickets (ticket ∷ [])) in
+          let both = makes_both (words_of_all work run.tickets) (words_of_all work (ticket ∷ [])) in
+          omega arith;
     }
 
 -- no add was left for a ticket
@@ -105,6 +117,10 @@ runs_spent fits d work n a b c la lb run spent same =
       lane = lb;
       counts = run.counts;
       why = (spent, refl, refl);
+      drawn = run.drawn ∙ ap (λ ts. a.view.core.tickets ++ ts) (sym (append-nil run.tickets));
+      makes = let m = run.counts.makes in
+          let e = ap (λ ts. makes_for (words_of_all work ts)) (append-nil run.tickets) in
+          omega arith;
     })
 
 -- more tickets of files than there are

@@ -22,9 +22,11 @@ use Rattle.lane_files.specs.declared.refusal.FileError.{FileError}
 use Rattle.lane_files.specs.Counting.{CountsFile, KeepsRecords, StopsInFile}
 use Rattle.lane_files.specs.Keeping.{slots_of}
 use Rattle.lane_files.specs.Lanes.{CountsTickets, KeepsFiles, OwnsAfter}
+use Rattle.lane_files.specs.Makes.{makes_for}
 use Rattle.lane_files.specs.Work.{is_last, kept_files, words_of, words_of_all}
 use Rattle.lane_files.proofs.Counted.{takes_after}
 use Rattle.lane_files.proofs.Drawn.{after_as, after_then}
+use Rattle.lane_files.proofs.Making.{makes_both}
 use Rattle.lane_files.proofs.Records.{knows_each_on}
 
 -- KEPT FILES, whose objects the seat has all the time
@@ -71,7 +73,7 @@ keeps_files_both (words ∷ files) more kept others seat (own, rest, records, ke
 )
 
 -- TICKETS
-words_both : (work : Work) (ts us : List ℕ)
+pub words_both : (work : Work) (ts us : List ℕ)
     → words_of_all work (ts ++ us) ≡ words_of_all work ts ++ words_of_all work us
 unfolding words_of_all
 words_both work ts us = flat_map-append (words_of work) ts us
@@ -86,15 +88,16 @@ words_none : (work : Work) → words_of_all work [] ≡ []
 unfolding words_of_all
 words_none work = refl
 
-words_one : (work : Work) (t : ℕ) → words_of_all work (t ∷ []) ≡ words_of work t
+pub words_one : (work : Work) (t : ℕ) → words_of_all work (t ∷ []) ≡ words_of work t
 unfolding words_of_all
 words_one work t = append-nil (words_of work t)
 
 -- no ticket
 pub tickets_none : (work : Work) (a b : SeatState View) (lane : Lane)
     → Takes [] 0 a.view.client b.view.client lane.tally lane.tally
-    → OwnsAfter a.view.core.owned a b → CountsTickets work [] a b lane lane
-tickets_none work a b lane takes owns = record {
+    → OwnsAfter a.view.core.owned a b → b.view.core.makes ≡ a.view.core.makes
+    → CountsTickets work [] a b lane lane
+tickets_none work a b lane takes owns makes = record {
   taken = 0;
   most = omega arith;
   takes = subst (λ ws. Takes ws 0 a.view.client b.view.client lane.tally lane.tally)
@@ -104,6 +107,7 @@ tickets_none work a b lane takes owns = record {
   records = refl;
   owns = after_as (a.view.core.owned ++ []) a b owns
       (λ x. ap (times x) (sym (append-nil a.view.core.owned)));
+  makes = omega (arith, makes);
 }
 
 -- one file, whose records are kept
@@ -126,6 +130,9 @@ module _ (work : Work) (t : ℕ) (a b c : SeatState View) (la lb lc : Lane)
   most_one : counts.taken ≤ length (words_of_all work (t ∷ []))
   most_one = let m = counts.most in let e = ap length (words_one work t) in omega arith
 
+  makes_one : b.view.core.makes ≤ a.view.core.makes + makes_for (words_of_all work (t ∷ []))
+  makes_one = let m = counts.makes in let e = ap makes_for (words_one work t) in omega arith
+
   pub ticket_kept : OwnsAfter (a.view.core.owned ++ slots_of counts.more) a b
       → is_last work t ≡ true → CountsTickets work (t ∷ []) a b la lb
   ticket_kept owns is = record {
@@ -137,12 +144,14 @@ module _ (work : Work) (t : ℕ) (a b c : SeatState View) (la lb lc : Lane)
     records = subst (λ fs. KeepsFiles fs (slots_of counts.more) b) (sym (files_of true is))
         (slots_of counts.more, [], counts.records, refl, sym (append-nil (slots_of counts.more)));
     owns = owns;
+    makes = makes_one;
   }
 
   pub ticket_given : OwnsAfter a.view.core.owned a c → is_last work t ≡ false
       → c.view.client ≡ b.view.client → lc.tally ≡ lb.tally
-      → lc.keeper.kept.items ≡ la.keeper.kept.items → CountsTickets work (t ∷ []) a c la lc
-  ticket_given owns is view tally kept = record {
+      → lc.keeper.kept.items ≡ la.keeper.kept.items
+      → c.view.core.makes ≡ b.view.core.makes → CountsTickets work (t ∷ []) a c la lc
+  ticket_given owns is view tally kept makes = record {
     taken = counts.taken;
     most = most_one;
     takes = subst (λ ts. Takes (words_of_all work (t ∷ [])) counts.taken a.view.client c.view.client
@@ -154,6 +163,7 @@ module _ (work : Work) (t : ℕ) (a b c : SeatState View) (la lb lc : Lane)
     records = subst (λ fs. KeepsFiles fs [] c) (sym (files_of false is)) refl;
     owns = after_as (a.view.core.owned ++ []) a c owns
         (λ x. ap (times x) (sym (append-nil a.view.core.owned)));
+    makes = let m = makes_one in omega (arith, makes);
   }
 
 -- one after the other
@@ -206,6 +216,9 @@ module _ (work : Work) (ts us : List ℕ) (a b c : SeatState View) (la lb lc : L
         let r = ap (times x) (ap (λ ss. a.view.core.owned ++ ss) all_slots) in
         let u = times_append x a.view.core.owned (slots_of first.more ++ slots_of second.more) in
         let v = times_append x (slots_of first.more) (slots_of second.more) in omega arith);
+    makes = let m = first.makes in let n = second.makes in
+        let e = ap makes_for (words_both work ts us) in
+        let b = makes_both (words_of_all work ts) (words_of_all work us) in omega arith;
   }
 
 -- a file by its words

@@ -41,6 +41,13 @@ module _ (fits : List ℕ → Type 0) (d : DomainState WordsLaw) (a b : SeatStat
       → KnowsBoth a b → Owns a.view.core.owned a b
   owns_reap weight answer got knows = owns_rest a b (reap_rest weight answer got) knows
 
+  pub makes_collect : Collected fits d a b → b.view.core.makes ≡ a.view.core.makes
+  makes_collect c = ap (λ (v : CoreView). v.makes) c.collects.goes.rest
+
+  pub makes_reap : (weight : List ℕ → ℕ) (answer : Option ℕ) → Answers fits d weight answer a b
+      → b.view.core.makes ≡ a.view.core.makes
+  makes_reap weight answer got = ap (λ (v : CoreView). v.makes) (reap_rest weight answer got)
+
 module _ {fits : List ℕ → Type 0} {d : DomainState WordsLaw} {on : Shared} (a b : SeatState View)
     (ready : IsReady d on a) (c : Collected fits d a b) where
   pub collect_same : b.view.client ≡ a.view.client

@@ -1,20 +1,23 @@
 -- What a lane does for a file, and why it goes no further.
-use Rattle.std.specs.Prelude.{ℕ, ◌≡◌, ◌<◌, ◌≤◌, ◌++◌, Bool, cond, List, [], ◌∷◌, length, slice_index_or, take}
+use Rattle.std.specs.Prelude.{ℕ, ◌≡◌, ◌<◌, ◌≤◌, ◌+◌, ◌++◌, Bool, cond, List, [], ◌∷◌, length, slice_index_or, take}
 use Rattle.plain_state.specs.declared.slot.SlotId.{SlotId}
 use Rattle.plain_state.specs.Lists.{times}
 use Rattle.counted_handles.specs.Handles.{Handle}
 use Rattle.acquire_retire.specs.Domains.{DomainState}
 use Rattle.acquire_retire.specs.Seats.{SeatState}
 use Rattle.weak_intern.specs.Knowing.{KnowsRecord}
+use Rattle.cdrc_text.specs.Text.{slots_of_word}
 use Rattle.words_law.specs.Views.{View}
 use Rattle.words_protocol.specs.declared.law.WordsLaw.{WordsLaw}
 use Rattle.word_lanes.specs.Counting.{Takes, UsesInterns}
+use Rattle.word_lanes.specs.Makes.{LacksMake}
 use Rattle.word_lanes.specs.Pieces.{IsWhyNotCounted}
 use Rattle.word_lanes.specs.Ready.{Owns}
 use Rattle.lane_files.specs.declared.lane.Lane.{Lane}
 use Rattle.lane_files.specs.declared.refusal.FileError.{FileError}
 use Rattle.lane_files.specs.declared.refusal.FileError.TheVariants as refused
 use Rattle.lane_files.specs.Keeping.{IsSameKeeper, slots_of}
+use Rattle.lane_files.specs.Makes.{cause_at, makes_for}
 
 -- the seat knows that these slots have records of these words, in order
 abbrev pub KnowsEach : List (List ℕ) → List SlotId → SeatState View → Type 0
@@ -34,7 +37,8 @@ pub record KeepsRecords (words : List (List ℕ)) (kept : List SlotId) (seat : S
   pub only : (s : SlotId) → times s slots ≡ 0 → times s kept ≡ 0
 
 -- The lane pushed an item of each of these words, in order, popped at most as many items, and counted the words of
--- these. It keeps one reference more to the record of each word, and used an intern for each.
+-- these. It keeps one reference more to the record of each word, and used an intern for each. It made a node for each
+-- word, and at most the slots of its record.
 pub record CountsFile (words : List (List ℕ)) (old new : SeatState View) (before after : Lane)
     : Type 0 where
   pub taken : ℕ
@@ -46,6 +50,7 @@ pub record CountsFile (words : List (List ℕ)) (old new : SeatState View) (befo
   pub records : KeepsRecords words (slots_of more) new
   pub owns : Owns (old.view.core.owned ++ slots_of more) old new
   pub interns : UsesInterns (length words) old.view.client new.view.client
+  pub makes : new.view.core.makes ≤ old.view.core.makes + makes_for words
 
 module _ (fits : List ℕ → Type 0) (d : DomainState WordsLaw) where
   -- Why a word wasn't counted: as `count_piece` tells it; or it was, and there was no memory to keep its record. The
@@ -58,7 +63,8 @@ module _ (fits : List ℕ → Type 0) (d : DomainState WordsLaw) where
       (one : Bool) × Takes (word ∷ []) (cond one 1 0) old.view.client new.view.client
       before.tally after.tally
 
-  -- it counted some of these words, and stopped at the next one
+  -- It counted some of these words, and stopped at the next one. For that it used at most the makes of the others, and
+  -- one less where a make was refused.
   pub record StopsInFile (words : List (List ℕ)) (error : FileError) (old new : SeatState View)
       (before after : Lane) : Type 0 where
     pub done : ℕ
@@ -70,3 +76,9 @@ module _ (fits : List ℕ → Type 0) (d : DomainState WordsLaw) where
         IsWhyStopped (slice_index_or words done []) error last new lane after
     pub keeps : IsSameKeeper lane.keeper after.keeper
     pub owns : Owns last.view.core.owned last new
+    pub makes :
+        new.view.core.makes
+        ≤ last.view.core.makes + slots_of_word (slice_index_or words done []) + 1
+    pub lacks :
+        LacksMake d (slots_of_word (slice_index_or words done [])) (cause_at error)
+        last.view.core new.view.core

@@ -1,5 +1,5 @@
 -- What a lane does for the files whose tickets it draws.
-use Rattle.std.specs.Prelude.{ℕ, ◌≡◌, ◌⊎◌, ◌≤◌, ◌<◌, ◌++◌, All, List, [], ◌∷◌, length, slice_index_or}
+use Rattle.std.specs.Prelude.{ℕ, ◌≡◌, ◌⊎◌, ◌≤◌, ◌<◌, ◌+◌, ◌++◌, All, List, [], ◌∷◌, length, slice_index_or}
 use Rattle.plain_state.specs.declared.slot.SlotId.{SlotId}
 use Rattle.plain_state.specs.Lists.{times}
 use Rattle.core_events.specs.declared.view.CoreView.{CoreView}
@@ -20,6 +20,7 @@ use Rattle.lane_files.specs.declared.refusal.LaneStop.{LaneStop}
 use Rattle.lane_files.specs.declared.refusal.LaneStop.TheVariants as stopped
 use Rattle.lane_files.specs.Counting.{KeepsRecords, StopsInFile}
 use Rattle.lane_files.specs.Keeping.{slots_of}
+use Rattle.lane_files.specs.Makes.{makes_for}
 use Rattle.lane_files.specs.Work.{all_tickets, kept_files, words_of, words_of_all}
 
 -- references to the records of some files, those of one file after those of the other
@@ -45,7 +46,8 @@ pub record OwnsAfter (owned : List SlotId) (old new : SeatState View) : Type 0 w
       → object_in new.view x ≡ object_in old.view x
 
 -- The lane pushed an item of each word of the files of these tickets, in order, popped at most as many, and counted the
--- words of these. Of each file in the last round it keeps one reference to the record of each word.
+-- words of these. Of each file in the last round it keeps one reference to the record of each word. It made a node for
+-- each word, and at most the slots of its record.
 pub record CountsTickets (work : Work) (tickets : List ℕ) (old new : SeatState View)
     (before after : Lane) : Type 0 where
   pub taken : ℕ
@@ -57,6 +59,8 @@ pub record CountsTickets (work : Work) (tickets : List ℕ) (old new : SeatState
   pub kept : after.keeper.kept.items ≡ before.keeper.kept.items ++ more
   pub records : KeepsFiles (kept_files work tickets) (slots_of more) new
   pub owns : OwnsAfter (old.view.core.owned ++ slots_of more) old new
+  pub makes :
+      new.view.core.makes ≤ old.view.core.makes + makes_for (words_of_all work tickets)
 
 -- The tickets end with one of no file, or there are more of them than tickets that stand for a file: which can't be,
 -- since each ticket is drawn once, and who knows the tickets of all seats knows that.
@@ -83,7 +87,14 @@ module _ (fits : List ℕ → Type 0) (d : DomainState WordsLaw) where
       (ticket : ℕ) × (ticket < all_tickets work)
       × StopsInFile fits d (words_of work ticket) error old new before after
 
-  -- it drew some tickets and counted their files, and stopped then
+  -- the ticket at whose file it stopped, if it had drawn one
+  abbrev pub stopped_at : (work : Work) (stop : LaneStop) (old new : SeatState View)
+      (before after : Lane) → IsWhyStopped work stop old new before after → List ℕ
+  stopped_at work stopped.Spent old new before after why = []
+  stopped_at work (stopped.File error) old new before after why = why.0 ∷ []
+
+  -- It drew some tickets and counted their files, and stopped then. It used at most the makes for the files of all
+  -- tickets that it drew.
   pub record StopsLane (work : Work) (stop : LaneStop) (old new : SeatState View)
       (before after : Lane) : Type 0 where
     pub tickets : List ℕ
@@ -92,6 +103,13 @@ module _ (fits : List ℕ → Type 0) (d : DomainState WordsLaw) where
     pub lane : Lane
     pub counts : CountsTickets work tickets old last before lane
     pub why : IsWhyStopped work stop last new lane after
+    pub drawn :
+        new.view.core.tickets
+        ≡ old.view.core.tickets ++ (tickets ++ stopped_at work stop last new lane after why)
+    pub makes :
+        new.view.core.makes
+        ≤ old.view.core.makes
+        + makes_for (words_of_all work (tickets ++ stopped_at work stop last new lane after why))
 
 -- who draws a ticket has an intern for each word of its file
 abbrev pub HasGrants : DomainState WordsLaw → Work → Type 0

@@ -1,9 +1,10 @@
 -- What a lane does for one piece.
-use Rattle.std.specs.Prelude.{ℕ, ◌==◌, ◌++◌, Bool, true, cond, List, [], ◌∷◌, ◌≡◌}
+use Rattle.std.specs.Prelude.{ℕ, ◌==◌, ◌++◌, ◌+◌, ◌≤◌, Bool, true, cond, List, [], ◌∷◌, ◌≡◌}
 use Rattle.plain_state.specs.declared.slot.SlotId.{SlotId}
 use Rattle.counted_handles.specs.Handles.{Handle}
 use Rattle.acquire_retire.specs.Seats.{SeatState}
 use Rattle.weak_intern.specs.Knowing.{KnowsRecord}
+use Rattle.cdrc_text.specs.Text.{slots_of_word}
 use Rattle.words_law.specs.Views.{View}
 use Rattle.word_lanes.specs.Counting.{Takes, UsesInterns}
 use Rattle.word_lanes.specs.Ready.{Owns}
@@ -11,7 +12,7 @@ use Rattle.lane_files.specs.declared.lane.Lane.{Lane}
 use Rattle.lane_files.specs.Keeping.{has, slots_of}
 
 -- It pushed an item of the word and popped one, or none. Where no reference to the slot of the word's record was kept
--- for the file, one is kept now.
+-- for the file, one is kept now. It made a node, and at most the slots of one record.
 pub record CountsNext (word : List ℕ) (old new : SeatState View) (before after : Lane) : Type 0 where
   pub one : Bool
   pub takes :
@@ -27,3 +28,4 @@ pub record CountsNext (word : List ℕ) (old new : SeatState View) (before after
       ≡ cond (handle.slot.0 == s.0) true (has before.keeper s)
   pub owns : Owns (old.view.core.owned ++ slots_of more) old new
   pub interns : UsesInterns 1 old.view.client new.view.client
+  pub makes : new.view.core.makes ≤ old.view.core.makes + slots_of_word word + 1

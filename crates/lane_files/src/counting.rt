@@ -5,10 +5,13 @@ ghost use Rattle.deleter.specs.Weighing.{Weighs};
 ghost use Rattle.directory_calls.specs.Directories.{CanCount};
 ghost use Rattle.plain_state.specs.declared.slot.SlotId.{SlotId};
 ghost use Rattle.plain_state.specs.Lists.{times};
+ghost use Rattle.cdrc_text.specs.Text.{slots_of_word};
+ghost use Rattle.word_lanes.specs.Makes.{LacksMake};
 ghost use Rattle.word_lanes.specs.Ready.{IsReady, Owns};
 ghost use Rattle.lane_files.specs.Counting.{CountsFile, IsWhyStopped, StopsInFile};
 ghost use Rattle.lane_files.specs.Files.{HasPieces, pieces_in};
 ghost use Rattle.lane_files.specs.Keeping.{IsSameKeeper, has};
+ghost use Rattle.lane_files.specs.Makes.{cause_at};
 ghost use Rattle.lane_files.specs.Next.{CountsNext};
 
 use crate::file::FileText;
@@ -28,11 +31,12 @@ use words_protocol::WordsLaw;
 
 /// Counts the pieces of a file, each of 1 to 4,096 bytes, beside other lanes: for each it passes the gate, interns the
 /// piece, pushes a reference to its record, pops one and counts its word, and destroys some of what ended. It keeps one
-/// reference to the record of each word of the file, and uses an intern for each piece.
+/// reference to the record of each word of the file, and uses an intern for each piece. It uses at most a make for each
+/// piece, and one for each 120 bytes of a piece.
 ///
 /// It is refused at the first piece that isn't counted, with the cause of `count_piece`, or where there is no memory
-/// for one reference more. The pieces before it are counted then, and their records kept. It may wait for other
-/// threads.
+/// for one reference more. The pieces before it are counted then, and their records kept. Where a make was refused, at
+/// least one of those for that piece isn't used. It may wait for other threads.
 pub fn count_file<R: Wait, G: Gate, F: Fn(&[u64; 16]) -> u64>(
     rt: &R,
     domain: &Domain<WordsLaw>,
@@ -93,6 +97,10 @@ fn count_next<R: Wait, F: Fn(&[u64; 16]) -> u64>(
         seat.old seat.new lane.old lane.new
         × IsSameKeeper lane.old.keeper lane.new.keeper
         × Owns seat.old.view.core.owned seat.old seat.new) }
+    ensures makes { seat.new.view.core.makes
+        ≤ seat.old.view.core.makes + slots_of_word piece.now + 1 }
+    ensures lacks { IfErr result (λ error. LacksMake domain.now (slots_of_word piece.now)
+        (cause_at error) seat.old.view.core seat.new.view.core) }
     ensures turn { lane.new.turn ≡ lane.old.turn }
     ensures number { lane.new.number ≡ lane.old.number }
     ensures ready { IsReady domain.now shared.now seat.new }

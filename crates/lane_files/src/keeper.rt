@@ -58,6 +58,7 @@ impl Keeper {
         ensures gives { OnErr result
             (Owns (without handle.slot seat.old.view.core.owned) seat.old seat.new) }
         ensures client { seat.new.view.client ≡ seat.old.view.client }
+        ensures makes { seat.new.view.core.makes ≡ seat.old.view.core.makes }
         ensures ready { IsReady domain.now shared.now seat.new }
     {
         let slot = handle.slot().0;
@@ -88,6 +89,7 @@ impl Keeper {
         ensures kept { self.new.kept.items ≡ take first self.old.kept.items }
         ensures gives { GivesUp (slots_of (drop first self.old.kept.items)) seat.old seat.new }
         ensures client { seat.new.view.client ≡ seat.old.view.client }
+        ensures makes { seat.new.view.core.makes ≡ seat.old.view.core.makes }
         ensures ready { IsReady domain.now shared.now seat.new }
     {
         while self.kept.len() > first {

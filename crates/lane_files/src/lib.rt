@@ -18,6 +18,7 @@ mod drawing;
 mod file;
 mod keeper;
 mod lane;
+mod laws;
 mod refusal;
 #[cfg(test)]
 mod tests;
@@ -29,6 +30,7 @@ pub use drawing::run_lane;
 pub use file::FileText;
 pub use keeper::Keeper;
 pub use lane::Lane;
+pub use laws::{full_domains_lack_slots, lanes_have_makes};
 pub use refusal::{FileError, LaneStop};
 pub use tidying::tidy;
 pub use work::Work;

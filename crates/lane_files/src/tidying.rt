@@ -30,6 +30,7 @@ pub fn tidy<F: Fn(&[u64; 16]) -> u64>(
         ⟦<PairKind<NodeKind, RecordKind> as PayloadKind>⟧.weight F.Fn weigh.now }
     ensures client { seat.new.view.client ≡ seat.old.view.client }
     ensures owns { Owns seat.old.view.core.owned seat.old seat.new }
+    ensures makes { seat.new.view.core.makes ≡ seat.old.view.core.makes }
     ensures ready { IsReady domain.now shared.now seat.new }
 {
     collect(domain, seat);

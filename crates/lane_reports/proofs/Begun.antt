@@ -18,13 +18,13 @@ use Rattle.lane_files.specs.declared.lane.Lane.{Lane}
 use Rattle.lane_files.specs.declared.refusal.LaneStop.{LaneStop}
 use Rattle.lane_files.specs.declared.work.Work.{Work}
 use Rattle.lane_domain.specs.Opened.{fresh_lanes, fresh_seat}
-use Rattle.lane_gathering.specs.declared.done.Done.{Done}
-use Rattle.lane_gathering.specs.Deeds.{IsFresh, IsNew, LaneDid}
-use Rattle.lane_gathering.specs.Gathering.{EachDid}
-use Rattle.lane_gathering.proofs.Told.{did_by_run}
-use Rattle.lane_threads.specs.declared.ending.LaneEnd.{LaneEnd}
-use Rattle.lane_threads.specs.Beginning.{Attaches, IsNewLane}
-use Rattle.lane_threads.specs.Ending.{EndAll, EndsLane, RunsOrStops}
+use Rattle.lane_reports.specs.declared.done.Done.{Done}
+use Rattle.lane_reports.specs.Deeds.{IsFresh, IsNew, LaneDid}
+use Rattle.lane_reports.specs.Gathering.{EachDid}
+use Rattle.lane_reports.proofs.Told.{did_by_run}
+use Rattle.lane_domain.specs.declared.ending.LaneEnd.{LaneEnd}
+use Rattle.lane_domain.specs.Beginning.{Attaches, IsNewLane}
+use Rattle.lane_domain.specs.Ending.{EndAll, EndsLane, RunsOrStops}
 use Rattle.lane_reports.specs.Parting.{AllRan, RanToEnd}
 
 no_note : (j : ℕ) → slice_index_or no_notes j note.Idle ≡ note.Idle

@@ -22,10 +22,10 @@ use Rattle.word_lanes.specs.Counting.{KnowsWords, by_seat}
 use Rattle.lane_files.specs.declared.work.Work.{Work}
 use Rattle.lane_files.specs.Work.{words_of_all}
 use Rattle.counted_handles.specs.Handles.{Handle}
-use Rattle.lane_gathering.specs.declared.done.Done.{Done}
-use Rattle.lane_gathering.specs.Deeds.{IsTallyOf}
-use Rattle.lane_gathering.specs.Gathering.{DrewTickets, HasGathered, Tally, shares_of, words_popped}
-use Rattle.lane_gathering.proofs.Lists.{items_by}
+use Rattle.lane_reports.specs.declared.done.Done.{Done}
+use Rattle.lane_reports.specs.Deeds.{IsTallyOf}
+use Rattle.lane_reports.specs.Gathering.{DrewTickets, HasGathered, Tally, shares_of, words_popped}
+use Rattle.lane_reports.proofs.Lists.{items_by}
 use Rattle.lane_reports.specs.Counting.{CountsAll}
 use Rattle.lane_reports.specs.Taking.{CountsRest}
 
@@ -55,8 +55,8 @@ unfolding by_seat
 none_by ts n = append-nil ts
 
 module _ (work : Work) (done : List Done) (old g t new : SeatState View) (tallies : List Tally)
-    (kept : List Handle) (first : Tally) (got : HasGathered work done old g tallies kept)
-    (named : old.view.client.0.number ≡ 0) (rest : CountsRest g t first)
+    (kept : List Handle) (most : ℕ) (first : Tally) (got : HasGathered work done old g tallies kept)
+    (named : old.view.client.0.number ≡ 0) (rest : CountsRest most g t first)
     (pushed_same : new.view.client.0.pushed ≡ t.view.client.0.pushed)
     (popped_same : new.view.client.0.popped ≡ t.view.client.0.popped)
     (knows : KnowsMore t.view.client.1 new.view.client.1)

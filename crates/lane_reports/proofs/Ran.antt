@@ -1,8 +1,8 @@
 -- Lanes that ran to their end.
 use Rattle.std.proofs.Common.{◌≡◌, List, [], ◌∷◌, ◌++◌, arith}
 use Rattle.std.specs.Prelude.{length}
-use Rattle.lane_gathering.specs.declared.done.Done.{Done}
-use Rattle.lane_threads.specs.declared.ending.LaneEnd.{LaneEnd}
+use Rattle.lane_reports.specs.declared.done.Done.{Done}
+use Rattle.lane_domain.specs.declared.ending.LaneEnd.{LaneEnd}
 use Rattle.lane_reports.specs.Parting.{AllRan, RanToEnd}
 
 pub ran_push : (ends : List LaneEnd) (done : List Done) (ended : LaneEnd) (one : Done)

@@ -1,5 +1,5 @@
 -- Why nothing was counted, where a lane was refused.
-use Rattle.std.proofs.Common.{◌≡◌, inl, inr, ℕ, List, [], ◌∷◌, Option, Some, None, refl, sym, ap, subst, ◌∙◌, arith}
+use Rattle.std.proofs.Common.{◌+◌, ◌≡◌, inl, inr, ℕ, List, [], ◌∷◌, Option, Some, None, refl, sym, ap, subst, ◌∙◌, arith}
 use Rattle.std.specs.Prelude.{length, slice_index_or, Result}
 use Rattle.std.proofs.Math.Seq.{get_or-append_seam}
 use Rattle.std.proofs.lemmas.List.{length-append}
@@ -23,11 +23,16 @@ use Rattle.lane_files.specs.declared.refusal.LaneStop.{LaneStop}
 use Rattle.lane_files.specs.declared.refusal.LaneStop.TheVariants as stopped
 use Rattle.lane_files.specs.declared.work.Work.{Work}
 use Rattle.lane_files.specs.Lanes.{IsWhyStopped, StopsLane}
-use Rattle.lane_domain.specs.Opened.{IsDomainFor}
-use Rattle.lane_threads.specs.declared.ending.LaneEnd.{LaneEnd}
-use Rattle.lane_threads.specs.Ending.{EndAll, EndsLane, RunsOrStops}
+use Rattle.word_lanes.specs.Makes.{cause_in}
+use Rattle.lane_files.specs.Makes.{HasItsMakes, cause_of}
+use Rattle.core_invariant.proofs.Each.{get_each, length_each}
+use Rattle.lane_domain.specs.Opened.{IsDomainFor, fresh_lanes, fresh_seat}
+use Rattle.lane_domain.proofs.Enough.{attached_makes, makes_left, slots_lacked}
+use Rattle.lane_domain.specs.declared.ending.LaneEnd.{LaneEnd}
+use Rattle.lane_domain.specs.Beginning.{Attaches}
+use Rattle.lane_domain.specs.Ending.{EndAll, EndsLane, RunsOrStops}
 use Rattle.lane_reports.specs.declared.counted.CountError.{CountError}
-use Rattle.lane_reports.specs.Refusals.{IsAnswerFor, IsFirstRefusal, IsWhyNothing, cause_in, cause_of}
+use Rattle.lane_reports.specs.Refusals.{IsAnswerFor, IsFirstRefusal, IsWhyNothing}
 
 IsAdds : Option MakeError → Type 0
 IsAdds None = ⊥
@@ -70,50 +75,41 @@ module _ (fits : List ℕ → Type 0) (d : DomainState WordsLaw) where
     module _ (lanes slots : ℕ) (form : Form) (is : IsDomainFor work lanes slots form d) where
       stop_why : (stop : LaneStop) (begun seat : SeatState View) (before after : Lane)
           (error : CountError) → StopsLane fits d work stop begun seat before after
-          → (o : Option MakeError) → cause_of stop ≡ o → IsAnswerFor o seat error
+          → HasItsMakes d begun → (o : Option MakeError) → cause_of stop ≡ o → IsAnswerFor o seat error
           → IsWhyNothing fits work lanes slots form error
       unfolding IsAdds
-      stop_why stop begun seat before after error stops None cause answer =
+      stop_why stop begun seat before after error stops has None cause answer =
           subst (IsWhyNothing fits work lanes slots form) (sym answer) tt
-      stop_why stop begun seat before after error stops (Some unmade.AddsSpent) cause answer =
+      stop_why stop begun seat before after error stops has (Some unmade.AddsSpent) cause answer =
           subst (IsWhyNothing fits work lanes slots form) (sym answer)
           (stop_spent stop stops.last seat stops.lane after (subst IsAdds (sym cause) tt) stops.why)
-      stop_why stop begun seat before after error stops (Some unmade.MakesSpent) cause answer =
+      stop_why stop begun seat before after error stops has (Some unmade.MakesSpent) cause answer =
+          absurd (makes_left fits work lanes slots form d stop begun seat before after is has stops
+          cause)
+      stop_why stop begun seat before after error stops has (Some unmade.Full) cause answer =
           subst (IsWhyNothing fits work lanes slots form) (sym answer) (
             d,
             is,
+            slots_lacked fits work lanes slots form d stop begun seat before after is stops cause,
             inr (record {
               begun = begun;
               before = before;
               after = after;
               stop = stop;
               stops = stops;
-              cause = inr cause;
-            }),
-          )
-      stop_why stop begun seat before after error stops (Some unmade.Full) cause answer =
-          subst (IsWhyNothing fits work lanes slots form) (sym answer) (
-            d,
-            is,
-            inr (record {
-              begun = begun;
-              before = before;
-              after = after;
-              stop = stop;
-              stops = stops;
-              cause = inl cause;
+              cause = cause;
             }),
           )
 
       pub lane_why : (on : Shared) (seats : List (SeatState View)) (ends : List LaneEnd)
-          (error : CountError) → EndAll fits d on work seats ends → IsFirstRefusal ends error
-          → IsWhyNothing fits work lanes slots form error
-      lane_why on seats ends error all (inl none) =
+          (error : CountError) → seats ≡ fresh_lanes d lanes → EndAll fits d on work seats ends
+          → IsFirstRefusal ends error → IsWhyNothing fits work lanes slots form error
+      lane_why on seats ends error fresh all (inl none) =
           subst (IsWhyNothing fits work lanes slots form) (sym none) tt
-      lane_why on [] ends error all (inr (front, done, ended, back, are, ran, refusal)) =
+      lane_why on [] ends error fresh all (inr (front, done, ended, back, are, ran, refusal)) =
           let many = all.many in let size = ap length are in
           let l = length-append front (ended ∷ back) in absurd (omega (arith, many, size, l))
-      lane_why on (s ∷ seats) ends error all
+      lane_why on (s ∷ seats) ends error fresh all
           (inr (front, done, ended, back, are, ran, refusal)) =
           let many = all.many in let size = ap length are in
           let l = length-append front (ended ∷ back) in
@@ -122,7 +118,16 @@ module _ (fits : List ℕ → Type 0) (d : DomainState WordsLaw) where
           (ap (λ (es : List LaneEnd). slice_index_or es (length front) ended) are
           ∙ get_or-append_seam front ended back ended)
           (all.each (length front) s ended (omega (arith, many, size, l))) in
+          let n = length front in
+          let count = length_each 1 lanes (fresh_seat d) in
+          let every = ap length fresh in
+          let at = ap (λ (l : List (SeatState View)). slice_index_or l n s) fresh
+          ∙ get_each 1 lanes n (fresh_seat d) s (omega (arith, many, size, l, count, every)) in
+          let has = subst (λ (x : SeatState View). Attaches fits d x ends_one.begun
+          → HasItsMakes d ends_one.begun) (sym at)
+          (λ attaches. attached_makes d (1 + n) ends_one.begun attaches.leaves attaches.makes)
+          ends_one.attaches in
           stop_why refusal.0 ends_one.begun ended.seat ends_one.lane ended.lane error
           (subst (λ (r : Result (Unit {0}) LaneStop).
           RunsOrStops fits d work r ends_one.begun ended.seat ends_one.lane ended.lane)
-          refusal.1 ends_one.runs) (cause_of refusal.0) refl refusal.2
+          refusal.1 ends_one.runs) has (cause_of refusal.0) refl refusal.2

@@ -8,8 +8,8 @@ use Rattle.ticket_shares.specs.Tickets.{together}
 use Rattle.word_lanes.specs.Counting.{KnowsWords, by_seat}
 use Rattle.lane_files.specs.declared.work.Work.{Work}
 use Rattle.lane_files.specs.Work.{words_of_all}
-use Rattle.lane_gathering.specs.Deeds.{IsTallyOf, LaneDeeds}
-use Rattle.lane_gathering.specs.Gathering.{AreTallies, DrewTickets, Tally, each_by, shares_of, words_popped}
+use Rattle.lane_reports.specs.Deeds.{IsTallyOf, LaneDeeds}
+use Rattle.lane_reports.specs.Gathering.{AreTallies, DrewTickets, Tally, each_by, shares_of, words_popped}
 
 -- Lanes did these deeds, and seat 0 popped items besides and pushed none. Seat 0's view has all items that were pushed
 -- and popped, with their words, and the tickets that the lanes drew. The tallies count the words of the items that were

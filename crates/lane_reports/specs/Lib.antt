@@ -3,3 +3,12 @@ pub mod Taking
 pub mod Refusals
 pub mod Reporting
 pub mod Counting
+pub mod Deeds
+pub mod Gathering
+pub mod Kept
+pub mod Shutting
+pub mod Words
+pub mod Holders
+pub mod Learning
+pub mod Rows
+pub mod Audits

@@ -1,7 +1,7 @@
 -- Which lanes ran to their end.
 use Rattle.std.specs.Prelude.{◌≡◌, List, [], ◌∷◌, Ok}
-use Rattle.lane_gathering.specs.declared.done.Done.{Done}
-use Rattle.lane_threads.specs.declared.ending.LaneEnd.{LaneEnd}
+use Rattle.lane_reports.specs.declared.done.Done.{Done}
+use Rattle.lane_domain.specs.declared.ending.LaneEnd.{LaneEnd}
 
 -- the lane ran to its end, and this is its seat, with what the lane has beside it
 abbrev pub RanToEnd : LaneEnd → Done → Type 0

@@ -8,34 +8,18 @@ use Rattle.slot_store.specs.declared.making.MakeError.TheVariants as unmade
 use Rattle.queue_law.specs.declared.view.Form.{Form}
 use Rattle.words_law.specs.Views.{View}
 use Rattle.words_protocol.specs.declared.law.WordsLaw.{WordsLaw}
-use Rattle.word_lanes.specs.declared.refusal.LaneError.TheVariants as untaken
-use Rattle.word_lanes.specs.declared.refusal.PieceError.{PieceError}
-use Rattle.word_lanes.specs.declared.refusal.PieceError.TheVariants as uncounted
 use Rattle.lane_files.specs.declared.lane.Lane.{Lane}
-use Rattle.lane_files.specs.declared.refusal.FileError.TheVariants as unread
 use Rattle.lane_files.specs.declared.refusal.LaneStop.{LaneStop}
-use Rattle.lane_files.specs.declared.refusal.LaneStop.TheVariants as stopped
 use Rattle.lane_files.specs.declared.work.Work.{Work}
 use Rattle.lane_files.specs.Lanes.{StopsLane}
+use Rattle.lane_files.specs.Makes.{cause_of}
 use Rattle.lane_domain.specs.Opened.{FindsNoSlot, IsDomainFor}
 use Rattle.lane_domain.specs.Sizes.{all_parts, all_pieces}
-use Rattle.lane_gathering.specs.declared.done.Done.{Done}
-use Rattle.lane_threads.specs.declared.ending.LaneEnd.{LaneEnd}
+use Rattle.lane_reports.specs.declared.done.Done.{Done}
+use Rattle.lane_domain.specs.declared.ending.LaneEnd.{LaneEnd}
 use Rattle.lane_reports.specs.Parting.{AllRan}
 use Rattle.lane_reports.specs.declared.counted.CountError.{CountError}
 use Rattle.lane_reports.specs.declared.counted.CountError.TheVariants as refused
-
--- the make or the add that was refused to a lane; none where there was no memory
-abbrev pub cause_in : PieceError → Option MakeError
-cause_in (uncounted.Interning why) = Some why
-cause_in (uncounted.Offering why) = Some why
-cause_in (uncounted.Taking (untaken.Refused why)) = Some why
-cause_in (uncounted.Taking untaken.OutOfMemory) = None
-
-abbrev pub cause_of : LaneStop → Option MakeError
-cause_of stopped.Spent = Some unmade.AddsSpent
-cause_of (stopped.File (unread.Piece error)) = cause_in error
-cause_of (stopped.File unread.OutOfMemory) = None
 
 -- what is answered for this cause, with the seat
 abbrev pub IsAnswerFor : Option MakeError → SeatState View → CountError → Type 0
@@ -57,22 +41,21 @@ IsFirstRefusal ends error =
     × (ends ≡ front ++ ended ∷ back) × AllRan front done × IsRefusalOf ended error)
 
 module _ (fits : List ℕ → Type 0) (work : Work) (d : DomainState WordsLaw) where
-  -- a lane stopped where it had no make left, or found each slot taken; this is its seat
+  -- a lane stopped as it found each slot taken; this is its seat
   pub record StopsUnmade (seat : SeatState View) : Type 0 where
     pub begun : SeatState View
     pub before : Lane
     pub after : Lane
     pub stop : LaneStop
     pub stops : StopsLane fits d work stop begun seat before after
-    pub cause :
-        (cause_of stop ≡ Some unmade.Full) ⊎ (cause_of stop ≡ Some unmade.MakesSpent)
+    pub cause : cause_of stop ≡ Some unmade.Full
 
--- Why nothing was counted: there was no memory; or this seat has no add left; or in a domain for this work seat 0 found
--- each slot taken before the lanes began, or a lane stopped as it was to make an object.
+-- Why nothing was counted: there was no memory; or this seat has no add left; or in a domain for this work, which has
+-- fewer slots than makes, seat 0 found each slot taken before the lanes began, or a lane did.
 abbrev pub IsWhyNothing : (List ℕ → Type 0) → Work → ℕ → ℕ → Form → CountError → Type 0
 IsWhyNothing fits work lanes slots form refused.OutOfMemory = Unit {0}
 IsWhyNothing fits work lanes slots form (refused.Spent seat) = IsSpent seat.view.core
 IsWhyNothing fits work lanes slots form (refused.Full seat) =
     (d : DomainState WordsLaw) × IsDomainFor work lanes slots form d
-    × ((FindsNoSlot fits d seat
-    × (slots < work.rounds * (all_pieces work + all_parts work) + 2)) ⊎ StopsUnmade fits work d seat)
+    × (slots < work.rounds * (all_pieces work + all_parts work) + 2)
+    × (FindsNoSlot fits d seat ⊎ StopsUnmade fits work d seat)

@@ -1,5 +1,5 @@
 //! The audits before and after seat 0 gives up what it keeps.
-ghost use Rattle.std.specs.Prelude.{◌≡◌, [], IfOk, OnOk, length};
+ghost use Rattle.std.specs.Prelude.{◌≡◌, [], ℕ, IfOk, IfSome, OnOk, length};
 ghost use Rattle.core_events.specs.Steps.{HasRoom};
 ghost use Rattle.core_events.specs.Views.{snapshots};
 ghost use Rattle.control_word.specs.Resting.{IsAtRest};
@@ -7,16 +7,17 @@ ghost use Rattle.deleter.specs.Weighing.{Weighs};
 ghost use Rattle.domain_rule.specs.Views.{IsAlone};
 ghost use Rattle.plain_state.specs.declared.slot.SlotId.{SlotId};
 ghost use Rattle.plain_state.specs.Lists.{times};
-ghost use Rattle.lane_files.specs.Keeping.{slots_of};
 ghost use Rattle.acquire_retire.specs.Collecting.{rest_of};
-ghost use Rattle.lane_reports.specs.Reporting.{HasNothing};
+ghost use Rattle.lane_reports.specs.Audits.{IsAudited, KnowsOwned};
+ghost use Rattle.words_rest.specs.Written.{line_of};
+ghost use Rattle.lane_reports.specs.Reporting.{HasNothingDeferred};
 
+use crate::learning::holds_nothing;
 use acquire_retire::{Domain, Seat};
 use cdrc_text::AuditLine;
-use counted_handles::Strong;
 use deleter::Deleter;
 use directory_protocol::RecordKind;
-use domain_audit::audit_domain;
+use domain_audit::{Audit, audit_domain};
 use out_of_memory::OutOfMemory;
 use plain_state::PayloadKind;
 use protocol_pairs::PairKind;
@@ -24,11 +25,22 @@ use queue_protocol::NodeKind;
 use slot_store::settle;
 use std::alloc::Global;
 use std::sync::Wait;
-use word_rows::{Audit, audit_line, give_all};
 use words_protocol::WordsLaw;
 
+/// The numbers of an audit, without the walk round a cycle.
+pub(crate) fn audit_line(found: &Audit) -> AuditLine
+    ensures { result ≡ line_of found.now }
+{
+    AuditLine {
+        live: found.live,
+        deferred: found.deferred,
+        cyclic: found.cyclic,
+        bytes: found.bytes,
+    }
+}
+
 /// A rank for each slot: its number.
-fn list_ranks(alloc: Global, slots: u32) -> Result<Vec<u64>, OutOfMemory>
+pub(crate) fn list_ranks(alloc: Global, slots: u32) -> Result<Vec<u64>, OutOfMemory>
     ensures { IfOk result (λ ranks. length ranks.items ≡ slots) }
 {
     let mut ranks = Vec::with_capacity(alloc, slots as usize)?;
@@ -38,9 +50,49 @@ fn list_ranks(alloc: Global, slots: u32) -> Result<Vec<u64>, OutOfMemory>
     Ok(ranks)
 }
 
-/// Settles and audits, until no object is unreached: so the call may wait. No law excludes that a node is left which only
-/// its own field holds, and an audit that finds nothing unreached tells that none is.
-fn audit_held<R: Wait, F: Fn(&[u64; 16]) -> u64>(
+/// Audits the domain once its seat has settled. None where an object is unreached, or a cell of the queue holds
+/// anything.
+fn audit_settled<F: Fn(&[u64; 16]) -> u64>(
+    alloc: Global,
+    domain: &Domain<WordsLaw>,
+    root: &mut Seat<WordsLaw>,
+    weigh: &Deleter<PairKind<NodeKind, RecordKind>, F>,
+    rank: &[u64],
+) -> Result<Option<Audit>, OutOfMemory>
+    requires rest { IsAtRest domain.now root.old }
+    requires room { HasRoom root.old.view.core }
+    requires alone { IsAlone root.old.view }
+    requires under_none { snapshots root.old.view.core ≡ [] }
+    requires weakly { (s : SlotId) → times s root.old.view.core.weaks ≡ 0 }
+    requires settled { HasNothingDeferred root.old.view.core }
+    requires cells { domain.now.shape.cells ≡ 2 }
+    requires weighs { Weighs ⟦<PairKind<NodeKind, RecordKind> as PayloadKind>⟧.fits
+        ⟦<PairKind<NodeKind, RecordKind> as PayloadKind>⟧.weight F.Fn weigh.now }
+    requires ranked { length rank.now ≡ domain.now.shape.slots }
+    ensures found { IfOk result (λ audit. IfSome audit
+        (IsAudited ⟦<PairKind<NodeKind, RecordKind> as PayloadKind>⟧.fits
+        ⟦<PairKind<NodeKind, RecordKind> as PayloadKind>⟧.weight rank.now domain.now root.new)) }
+    ensures settled { HasNothingDeferred root.new.view.core }
+    ensures same { rest_of root.new.view.core ≡ rest_of root.old.view.core }
+    ensures objects { KnowsOwned root.old root.new }
+    ensures client { root.new.view.client ≡ root.old.view.client }
+    ensures alone { IsAlone root.new.view }
+    ensures room { HasRoom root.new.view.core }
+    ensures rest { IsAtRest domain.now root.new }
+{
+    let found = audit_domain(alloc, domain, root, weigh, rank)?;
+    let head_is_null = holds_nothing(domain, root, 0);
+    let tail_is_null = holds_nothing(domain, root, 1);
+    if found.cyclic == 0 && head_is_null && tail_is_null {
+        return Ok(Some(found));
+    }
+    Ok(None)
+}
+
+/// Settles and audits, until no object is unreached and no cell of the queue holds anything: so the call may wait. No law
+/// excludes that a node is left which only its own field holds, nor that the tail cell of a queue that was shut is set
+/// again; an audit that finds nothing unreached, and a look, tell that it isn't so.
+pub(crate) fn audit_at_rest<R: Wait, F: Fn(&[u64; 16]) -> u64>(
     rt: &R,
     alloc: Global,
     domain: &Domain<WordsLaw>,
@@ -52,11 +104,17 @@ fn audit_held<R: Wait, F: Fn(&[u64; 16]) -> u64>(
     requires room { HasRoom root.old.view.core }
     requires alone { IsAlone root.old.view }
     requires under_none { snapshots root.old.view.core ≡ [] }
+    requires weakly { (s : SlotId) → times s root.old.view.core.weaks ≡ 0 }
+    requires cells { domain.now.shape.cells ≡ 2 }
     requires weighs { Weighs ⟦<PairKind<NodeKind, RecordKind> as PayloadKind>⟧.fits
         ⟦<PairKind<NodeKind, RecordKind> as PayloadKind>⟧.weight F.Fn weigh.now }
     requires ranked { length rank.now ≡ domain.now.shape.slots }
-    ensures reached { IfOk result (λ found. found.cyclic ≡ 0) }
+    ensures found { IfOk result (IsAudited
+        ⟦<PairKind<NodeKind, RecordKind> as PayloadKind>⟧.fits
+        ⟦<PairKind<NodeKind, RecordKind> as PayloadKind>⟧.weight rank.now domain.now root.new) }
+    ensures settled { HasNothingDeferred root.new.view.core }
     ensures same { rest_of root.new.view.core ≡ rest_of root.old.view.core }
+    ensures objects { KnowsOwned root.old root.new }
     ensures client { root.new.view.client ≡ root.old.view.client }
     ensures alone { IsAlone root.new.view }
     ensures room { HasRoom root.new.view.core }
@@ -64,72 +122,9 @@ fn audit_held<R: Wait, F: Fn(&[u64; 16]) -> u64>(
 {
     for _try in rt.forever() {
         let _weights = settle(domain, root, weigh);
-        let found = audit_domain(alloc, domain, root, weigh, rank)?;
-        if found.cyclic == 0 {
+        if let Some(found) = audit_settled(alloc, domain, root, weigh, rank)? {
             return Ok(found);
         }
     }
     unreachable!()
-}
-
-/// Gives up the references that are kept, settles, and audits.
-fn audit_freed<F: Fn(&[u64; 16]) -> u64>(
-    alloc: Global,
-    domain: &Domain<WordsLaw>,
-    root: &mut Seat<WordsLaw>,
-    kept: Vec<Strong>,
-    weigh: &Deleter<PairKind<NodeKind, RecordKind>, F>,
-    rank: &[u64],
-) -> Result<Audit, OutOfMemory>
-    requires rest { IsAtRest domain.now root.old }
-    requires room { HasRoom root.old.view.core }
-    requires alone { IsAlone root.old.view }
-    requires under_none { snapshots root.old.view.core ≡ [] }
-    requires owns { (s : SlotId) → times s root.old.view.core.owned
-        ≡ times s (slots_of kept.items) }
-    requires weighs { Weighs ⟦<PairKind<NodeKind, RecordKind> as PayloadKind>⟧.fits
-        ⟦<PairKind<NodeKind, RecordKind> as PayloadKind>⟧.weight F.Fn weigh.now }
-    requires ranked { length rank.now ≡ domain.now.shape.slots }
-    ensures nothing { HasNothing root.new.view.core }
-    ensures left { root.new.view.core.left_seats ≡ root.old.view.core.left_seats }
-    ensures client { root.new.view.client ≡ root.old.view.client }
-    ensures alone { IsAlone root.new.view }
-    ensures room { HasRoom root.new.view.core }
-    ensures rest { IsAtRest domain.now root.new }
-{
-    give_all(domain, root, kept);
-    let _weights = settle(domain, root, weigh);
-    audit_domain(alloc, domain, root, weigh, rank)
-}
-
-/// The audit of the domain while the references are kept, and the one once they are given up and all has settled.
-pub(crate) fn audit_twice<R: Wait, F: Fn(&[u64; 16]) -> u64>(
-    rt: &R,
-    alloc: Global,
-    domain: &Domain<WordsLaw>,
-    root: &mut Seat<WordsLaw>,
-    kept: Vec<Strong>,
-    weigh: &Deleter<PairKind<NodeKind, RecordKind>, F>,
-) -> Result<(AuditLine, AuditLine), OutOfMemory>
-    requires rest { IsAtRest domain.now root.old }
-    requires room { HasRoom root.old.view.core }
-    requires alone { IsAlone root.old.view }
-    requires under_none { snapshots root.old.view.core ≡ [] }
-    requires owns { (s : SlotId) → times s root.old.view.core.owned
-        ≡ times s (slots_of kept.items) }
-    requires weighs { Weighs ⟦<PairKind<NodeKind, RecordKind> as PayloadKind>⟧.fits
-        ⟦<PairKind<NodeKind, RecordKind> as PayloadKind>⟧.weight F.Fn weigh.now }
-    ensures nothing { OnOk result (HasNothing root.new.view.core) }
-    ensures left { OnOk result
-        (root.new.view.core.left_seats ≡ root.old.view.core.left_seats) }
-    ensures reached { IfOk result (λ lines. lines.0.cyclic ≡ 0) }
-    ensures client { root.new.view.client ≡ root.old.view.client }
-    ensures alone { IsAlone root.new.view }
-    ensures room { HasRoom root.new.view.core }
-    ensures rest { IsAtRest domain.now root.new }
-{
-    let rank = list_ranks(alloc, domain.shape().slots)?;
-    let held = audit_held(rt, alloc, domain, root, weigh, &rank)?;
-    let freed = audit_freed(alloc, domain, root, kept, weigh, &rank)?;
-    Ok((audit_line(&held), audit_line(&freed)))
 }

@@ -1,23 +1,35 @@
 //! What seat 0 does once all lanes ran to their end.
-ghost use Rattle.std.specs.Prelude.{◌≡◌, ◌+◌, [], IfErr, IfOk, OnOk, length};
+ghost use Rattle.std.specs.Prelude.{◌≡◌, ◌+◌, ◌≤◌, [], IfErr, IfOk, OnOk, length};
+ghost use Rattle.std.specs.List.{All};
+ghost use Rattle.cdrc_text.specs.Fold.{File};
+ghost use Rattle.cdrc_text.specs.Text.{IsReport};
+ghost use Rattle.directory_law.specs.Bytes.{AreBytes};
 ghost use Rattle.core_events.specs.Views.{snapshots};
 ghost use Rattle.control_word.specs.Resting.{IsAtRest};
 ghost use Rattle.deleter.specs.Weighing.{Weighs};
 ghost use Rattle.domain_rule.specs.Views.{IsAlone};
 ghost use Rattle.plain_state.specs.declared.slot.SlotId.{SlotId};
 ghost use Rattle.plain_state.specs.Lists.{times};
-ghost use Rattle.lane_domain.specs.Sizes.{IsWithinLimits};
+ghost use Rattle.lane_domain.specs.Sizes.{IsWithinLimits, texts_in};
 ghost use Rattle.lane_files.specs.Keeping.{slots_of};
 ghost use Rattle.lane_files.specs.Work.{IsWork};
-ghost use Rattle.lane_gathering.specs.Gathering.{EachDid, IsBare};
 ghost use Rattle.word_lanes.specs.Ready.{IsReady};
-ghost use Rattle.word_rows.specs.Holders.{IsRoot};
-ghost use Rattle.word_rows.specs.Rows.{AreWords, IsWhyNoRows};
 ghost use Rattle.words_law.specs.Known.{ForgetsNothing};
 ghost use Rattle.lane_reports.specs.Counting.{CountsAll};
-ghost use Rattle.lane_reports.specs.Reporting.{HasNothing, IsReportOf};
+ghost use Rattle.lane_reports.specs.Gathering.{EachDid, IsBare};
+ghost use Rattle.lane_reports.specs.Holders.{IsRoot};
+ghost use Rattle.lane_reports.specs.Reporting.{CountWork, HasNothing, KeepsWork};
+ghost use Rattle.lane_reports.specs.Rows.{AreWords, IsWhyNoRows};
 
-use crate::audits::audit_twice;
+use crate::audits::{audit_at_rest, audit_line, list_ranks};
+use crate::done::{Done, Gathered};
+use crate::gathering::gather;
+use crate::giving::give_all;
+use crate::learning::holds_nothing;
+use crate::records::find_records;
+use crate::refusal::RowsError;
+use crate::rows::count_rows;
+use crate::shutting::shut_and_settle;
 use crate::taking::take_rest;
 use acquire_retire::{Domain, Seat};
 use cdrc_text::{Tally, Totals, report};
@@ -26,17 +38,15 @@ use deleter::Deleter;
 use directory_protocol::RecordKind;
 use lane_domain::count_pieces;
 use lane_files::Work;
-use lane_gathering::{Done, Gathered, gather, shut_and_settle};
 use plain_state::PayloadKind;
 use protocol_pairs::PairKind;
 use queue_protocol::NodeKind;
 use std::alloc::Global;
 use std::sync::Wait;
 use word_lanes::Shared;
-use word_rows::{RowsError, rows_of};
 use words_protocol::WordsLaw;
 
-/// The report: a row for each word that a tally counted, and the closing lines. What is kept is given up.
+/// The report of the files: a row for each word, and the closing lines. What is kept is given up.
 fn write_report<R: Wait, F: Fn(&[u64; 16]) -> u64>(
     rt: &R,
     alloc: Global,
@@ -52,12 +62,18 @@ fn write_report<R: Wait, F: Fn(&[u64; 16]) -> u64>(
     requires under_none { snapshots root.old.view.core ≡ [] }
     requires owns { (s : SlotId) → times s root.old.view.core.owned
         ≡ times s (slots_of kept.items) }
+    requires weakly { (s : SlotId) → times s root.old.view.core.weaks ≡ 0 }
     requires words { AreWords tallies.now }
+    requires counts { CountWork work.now tallies.now }
+    requires keeps { KeepsWork work.now (slots_of kept.items) root.old }
+    requires small { All (λ (f : File). All AreBytes f) (texts_in work.now) }
     requires work { IsWork work.now }
+    requires cells { domain.now.shape.cells ≡ 2 }
     requires weighs { Weighs ⟦<PairKind<NodeKind, RecordKind> as PayloadKind>⟧.fits
         ⟦<PairKind<NodeKind, RecordKind> as PayloadKind>⟧.weight F.Fn weigh.now }
     ensures why { IfErr result (λ error. IsWhyNoRows error root.new) }
-    ensures text { IfOk result (λ text. IsReportOf work.now tallies.now text.items) }
+    ensures report { IfOk result (λ text.
+        IsReport (texts_in work.now) work.now.rounds text.items) }
     ensures nothing { OnOk result (HasNothing root.new.view.core) }
     ensures left { OnOk result
         (root.new.view.core.left_seats ≡ root.old.view.core.left_seats) }
@@ -67,13 +83,17 @@ fn write_report<R: Wait, F: Fn(&[u64; 16]) -> u64>(
     ensures alone { IsAlone root.new.view }
     ensures rest { IsAtRest domain.now root.new }
 {
-    let rows = rows_of(rt, alloc, domain, root, shared, &kept, tallies)?;
-    let (held, freed) = audit_twice(rt, alloc, domain, root, kept, weigh)?;
+    let records = find_records(rt, alloc, domain, root, shared, &kept, tallies)?;
+    let rank = list_ranks(alloc, domain.shape().slots)?;
+    let held = audit_at_rest(rt, alloc, domain, root, weigh, &rank)?;
+    let rows = count_rows(alloc, domain, root, shared, records, tallies)?;
+    give_all(domain, root, kept);
+    let freed = audit_at_rest(rt, alloc, domain, root, weigh, &rank)?;
     let totals = Totals {
         files: work.files.len() as u64,
         pieces: count_pieces(work),
-        held,
-        freed,
+        held: audit_line(&held),
+        freed: audit_line(&freed),
     };
     let text = report(alloc, &rows, &totals)?;
     Ok(text)
@@ -97,12 +117,15 @@ pub(crate) fn finish<R: Wait, F: Fn(&[u64; 16]) -> u64>(
     requires laid { root.old.view.client.0.stand.laid ≡ 2 }
     requires did { EachDid work.now domain.now 1 done.items }
     requires all { length done.items + 1 ≡ domain.now.shape.seats }
+    requires some { 1 ≤ length done.items }
     requires work { IsWork work.now }
     requires within { IsWithinLimits work.now }
+    requires cells { domain.now.shape.cells ≡ 2 }
     requires weighs { Weighs ⟦<PairKind<NodeKind, RecordKind> as PayloadKind>⟧.fits
         ⟦<PairKind<NodeKind, RecordKind> as PayloadKind>⟧.weight F.Fn weigh.now }
     ensures why { IfErr result (λ error. IsWhyNoRows error root.new) }
-    ensures text { IfOk result (λ r. IsReportOf work.now r.1.items r.0.items) }
+    ensures report { IfOk result (λ r.
+        IsReport (texts_in work.now) work.now.rounds r.0.items) }
     ensures counts { IfOk result (λ r. CountsAll work.now root.new r.1.items) }
     ensures nothing { OnOk result (HasNothing root.new.view.core) }
     ensures alone { OnOk result (IsAlone root.new.view) }
@@ -111,6 +134,8 @@ pub(crate) fn finish<R: Wait, F: Fn(&[u64; 16]) -> u64>(
     let Gathered { tallies, kept } = gather(alloc, domain, root, shared, work, done)?;
     let tallies = take_rest(rt, alloc, domain, root, shared, work, tallies)?;
     shut_and_settle(domain, root, shared, weigh);
+    // A look tells that the law holds, and so that all was popped that was pushed.
+    let _is_null = holds_nothing(domain, root, 0);
     let text = write_report(rt, alloc, domain, root, shared, weigh, work, kept, &tallies)?;
     Ok((text, tallies))
 }

@@ -1,7 +1,8 @@
 //! The words of some files, counted on lanes, as one call: it opens a domain, runs the lanes, and answers the report.
 //!
-//! The rule that is kept is the law of `words_law`, between any two steps of all seats. What the parts promise their
-//! crates say: `lane_domain` opens, `lane_threads` runs, `lane_gathering` gathers, `word_rows` tells the rows.
+//! The rule that is kept is the law of `words_law`, between any two steps of all seats. `lane_domain` opens the domain and
+//! runs the lanes; here seat 0 takes over what they have, and reports. The text is the report of the files, whatever the
+//! number of lanes, the form of the queue and the interleaving.
 //!
 //! It isn't promised that the call returns.
 //!
@@ -15,12 +16,31 @@
 
 mod audits;
 mod counted;
+mod done;
 mod finishing;
+mod gathering;
+mod giving;
+mod laws;
+mod learning;
 mod parting;
+mod popping;
+mod records;
+mod refusal;
+mod rows;
 mod running;
+mod shutting;
 mod taking;
 #[cfg(test)]
 mod tests;
+#[cfg(test)]
+mod tests_words;
+mod words;
 
 pub use counted::{CountError, Counted};
+pub use done::{Done, Gathered};
+pub use gathering::gather;
+pub use laws::{lanes_keep_files, runs_tell_deeds};
+pub use popping::take_all;
+pub use refusal::RowsError;
 pub use running::count_words;
+pub use shutting::shut_and_settle;

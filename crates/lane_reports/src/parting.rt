@@ -1,21 +1,23 @@
 //! The lanes that ran to their end are parted from one that was refused.
 ghost use Rattle.std.specs.Prelude.{IfErr, IfOk, Some};
 ghost use Rattle.lane_reports.specs.Parting.{AllRan, RanToEnd};
-ghost use Rattle.lane_reports.specs.Refusals.{IsAnswerFor, IsFirstRefusal, IsRefusalOf, cause_in, cause_of};
+ghost use Rattle.lane_files.specs.Makes.{cause_of};
+ghost use Rattle.lane_reports.specs.Refusals.{IsAnswerFor, IsFirstRefusal, IsRefusalOf};
+ghost use Rattle.word_lanes.specs.Makes.{cause_in};
 
 use crate::counted::CountError;
+use crate::done::Done;
 use acquire_retire::Seat;
+use lane_domain::LaneEnd;
 use lane_files::{FileError, LaneStop};
-use lane_gathering::Done;
-use lane_threads::LaneEnd;
 use out_of_memory::OutOfMemory;
 use slot_store::MakeError;
 use std::alloc::Global;
 use word_lanes::{LaneError, PieceError};
 use words_protocol::WordsLaw;
 
-/// Why a make or an add was refused, with the seat. That a lane has no make left isn't excluded by its contracts, though
-/// its tickets grant what it makes: it is answered as `Full`.
+/// Why a make or an add was refused, with the seat. A lane has as many makes as its tickets grant, so that it never lacks
+/// one: the arm of `MakesSpent` is there for the type.
 fn refusal_of_make(error: MakeError, seat: Seat<WordsLaw>) -> CountError
     ensures { IsAnswerFor (Some error) seat result }
 {

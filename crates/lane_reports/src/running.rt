@@ -1,24 +1,25 @@
 //! How the words of some files are counted.
 ghost use Rattle.std.specs.Prelude.{◌≡◌, ◌≤◌, IfErr, IfOk};
+ghost use Rattle.cdrc_text.specs.Text.{IsReport};
 ghost use Rattle.deleter.specs.Weighing.{Weighs};
 ghost use Rattle.word_lanes.specs.Ready.{IsReady};
 ghost use Rattle.lane_files.specs.Lanes.{HasGrants};
 ghost use Rattle.lane_files.specs.Work.{IsWork};
 ghost use Rattle.lane_domain.specs.Opened.{HasOnlyLaid, IsDomainFor, fresh_lanes};
-ghost use Rattle.lane_domain.specs.Sizes.{IsWithinLimits};
+ghost use Rattle.lane_domain.specs.Sizes.{IsWithinLimits, texts_in};
 ghost use Rattle.lane_reports.specs.Counting.{CountsAll};
 ghost use Rattle.lane_reports.specs.Refusals.{IsWhyNothing};
-ghost use Rattle.lane_reports.specs.Reporting.{IsLast, IsReportOf};
+ghost use Rattle.lane_reports.specs.Reporting.{IsLast};
 
 use crate::counted::{CountError, Counted};
 use crate::finishing::finish;
 use crate::parting::part_lanes;
+use crate::refusal::RowsError;
 use deleter::Deleter;
 use directory_protocol::RecordKind;
-use lane_domain::{OpenLanesError, Opened, open_lanes};
+use lane_domain::{OpenLanesError, Opened, open_lanes, run_lanes};
 use lane_files::Work;
 use lane_gate::Gate;
-use lane_threads::run_lanes;
 use plain_state::PayloadKind;
 use protocol_pairs::PairKind;
 use queue_law::Form;
@@ -26,7 +27,6 @@ use queue_protocol::NodeKind;
 use std::alloc::Global;
 use std::sync::Wait;
 use std::thread::Threads;
-use word_rows::RowsError;
 
 /// Opens the domain.
 fn open(
@@ -80,8 +80,8 @@ pub fn count_words<R: Threads + Wait + Sync, G: Gate + Sync, F: Fn(&[u64; 16]) -
     requires slots { (1 ≤ slots) × (slots ≤ 4194304) }
     requires weighs { Weighs ⟦<PairKind<NodeKind, RecordKind> as PayloadKind>⟧.fits
         ⟦<PairKind<NodeKind, RecordKind> as PayloadKind>⟧.weight F.Fn weigh.now }
-    ensures text { IfOk result (λ counted.
-        IsReportOf work.now counted.tallies.items counted.text.items) }
+    ensures report { IfOk result (λ counted.
+        IsReport (texts_in work.now) work.now.rounds counted.text.items) }
     ensures counts { IfOk result (λ counted.
         CountsAll work.now counted.root counted.tallies.items) }
     ensures root { IfOk result (λ counted. IsLast work.now lanes slots counted.root) }

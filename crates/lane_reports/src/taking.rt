@@ -1,77 +1,45 @@
 //! What no lane popped is popped by seat 0.
-ghost use Rattle.std.specs.Prelude.{◌≡◌, ◌≤◌, ◌∷◌, ◌^◌, ◌*◌, ◌+◌, IfErr, IfOk, OnOk};
-ghost use Rattle.control_word.specs.Resting.{IsSpent};
+ghost use Rattle.std.specs.Prelude.{◌≡◌, ◌≤◌, ◌∷◌, ◌^◌, IfErr, IfOk};
+ghost use Rattle.std.specs.List.{sum_by};
+ghost use Rattle.cdrc_text.specs.Tally.{total_of};
 ghost use Rattle.word_lanes.specs.Ready.{IsReady, Owns};
-ghost use Rattle.word_lanes.specs.Counting.{UsesInterns};
-ghost use Rattle.word_rows.specs.Rows.{IsWhyNoRows};
+ghost use Rattle.lane_domain.specs.Sizes.{IsWithinLimits};
 ghost use Rattle.lane_files.specs.Work.{IsWork};
-ghost use Rattle.lane_domain.specs.Sizes.{IsWithinLimits, all_pieces};
-ghost use Rattle.lane_reports.specs.Taking.{CountAtMost, CountsAtMost, CountsRest, IsWord, TakesRest};
+ghost use Rattle.lane_reports.specs.Rows.{IsWhyNoRows};
+ghost use Rattle.lane_reports.specs.Taking.{CountsRest, TakesRest};
 
+use crate::popping::take_all;
+use crate::refusal::RowsError;
 use acquire_retire::{Domain, Seat};
 use cdrc_text::Tally;
 use lane_domain::count_pieces;
 use lane_files::Work;
-use lane_gathering::take_all;
 use out_of_memory::OutOfMemory;
 use std::alloc::Global;
 use std::sync::Wait;
 use word_lanes::{LaneError, Shared};
-use word_rows::RowsError;
 use words_protocol::WordsLaw;
 
-/// The most bytes of a word.
-const LONGEST: usize = 4096;
-
-/// Refused where a word hasn't 1 to 4,096 bytes.
-fn check_word(word: &Vec<u8>) -> Result<(), OutOfMemory>
-    ensures { OnOk result (IsWord word.now.items) }
-{
-    if word.is_empty() || LONGEST < word.len() {
-        return Err(OutOfMemory);
-    }
-    Ok(())
-}
-
-/// The sum. `OutOfMemory` where it has more than 64 bits.
-fn add_counts(first: u64, second: u64) -> Result<u64, OutOfMemory>
-    ensures { IfOk result (λ sum. sum ≡ first + second) }
-{
-    first.checked_add(second).ok_or(OutOfMemory)
-}
-
-/// How many pieces the tally counted. `OutOfMemory` also where a word has no bytes or more than 4,096, or where the sum
-/// has more than 64 bits: which can't be of a lane's tally, though its contracts don't tell that.
+/// How many pieces the tally counted, as long as that is below 2^64: never more than it counted.
 fn counted_by(alloc: Global, tally: &Tally) -> Result<u64, OutOfMemory>
-    ensures counted { IfOk result (λ sum. CountsAtMost sum tally.now) }
+    ensures { IfOk result (λ sum. sum ≤ total_of tally.now) }
 {
     let mut sum: u64 = 0;
     for entry in tally.sorted(alloc)? {
-        check_word(&entry.0)?;
-        sum = add_counts(sum, entry.1)?;
+        sum = sum.saturating_add(entry.1);
     }
     Ok(sum)
 }
 
-/// How many pieces the tallies counted together. Refused as `counted_by` is.
+/// How many pieces the tallies counted together, as long as that is below 2^64: never more than they counted.
 fn all_counted(alloc: Global, tallies: &[Tally]) -> Result<u64, OutOfMemory>
-    ensures counted { IfOk result (λ sum. CountAtMost sum tallies.now) }
+    ensures { IfOk result (λ sum. sum ≤ sum_by total_of tallies.now) }
 {
     let mut sum: u64 = 0;
     for tally in tallies {
-        sum = add_counts(sum, counted_by(alloc, tally)?)?;
+        sum = sum.saturating_add(counted_by(alloc, tally)?);
     }
     Ok(sum)
-}
-
-/// Whether the tallies together counted at most so many pieces. `OutOfMemory` says that they didn't, too.
-fn check_counted(alloc: Global, tallies: &[Tally], most: u64) -> Result<(), OutOfMemory>
-    ensures counted { OnOk result (CountAtMost most tallies.now) }
-{
-    if most < all_counted(alloc, tallies)? {
-        return Err(OutOfMemory);
-    }
-    Ok(())
 }
 
 /// Seat 0 pops so many items, and counts their words.
@@ -85,7 +53,7 @@ fn count_rest<R: Wait>(
 ) -> Result<Tally, RowsError>
     requires ready { IsReady domain.now shared.now root.old }
     requires few { most ≤ 2 ^ 62 }
-    ensures counts { IfOk result (λ tally. CountsRest root.old root.new tally) }
+    ensures counts { IfOk result (λ tally. CountsRest most root.old root.new tally) }
     ensures why { IfErr result (λ error. IsWhyNoRows error root.new) }
     ensures owns { Owns root.old.view.core.owned root.old root.new }
     ensures ready { IsReady domain.now shared.now root.new }
@@ -121,9 +89,7 @@ pub(crate) fn take_rest<R: Wait>(
     requires work { IsWork work.now }
     requires within { IsWithinLimits work.now }
     ensures takes { IfOk result (λ all.
-        TakesRest root.old root.new tallies.items all.items) }
-    ensures words { IfOk result (λ all.
-        CountAtMost (work.now.rounds * all_pieces work.now) all.items) }
+        TakesRest work.now root.old root.new tallies.items all.items) }
     ensures why { IfErr result (λ error. IsWhyNoRows error root.new) }
     ensures owns { Owns root.old.view.core.owned root.old root.new }
     ensures ready { IsReady domain.now shared.now root.new }
@@ -132,6 +98,5 @@ pub(crate) fn take_rest<R: Wait>(
     let most = all.saturating_sub(all_counted(alloc, &tallies)?);
     let tally = count_rest(rt, alloc, domain, root, shared, most)?;
     let tallies = put_first(tally, tallies)?;
-    check_counted(alloc, &tallies, all)?;
     Ok(tallies)
 }

@@ -26,7 +26,7 @@ use Rattle.queue_protocol.specs.declared.law.QueueLaw.{QueueLaw}
 use Rattle.linked_queue.specs.Cells.{NodeTells}
 use Rattle.linked_queue.specs.Queues.{IsAttached, beside_eyes}
 use Rattle.linked_queue.specs.Leaving.{found_by}
-use Rattle.linked_queue.specs.Seeing.{IsWhyUnread, Missed}
+use Rattle.linked_queue.specs.Seeing.{IsWhyUnread, MissesAt}
 use Rattle.linked_queue.proofs.Sights.{Sights, sights}
 
 -- THE DEEDS note what was found, and nothing else
@@ -88,13 +88,14 @@ module _ (fits : List ℕ → Type 0) (d : DomainState QueueLaw) (head : Bool)
         sees r follows at_cell.0
 
     pub cell_sights : (differs : ℕ → ℕ → Type 0)
-        → ((seen now : ℕ) → Missed fits d (Cell c) (learn_next head) allows seen now → differs seen now)
+        → ((seen now : ℕ) → MissesAt fits d (Cell c) (learn_next head) allows seen now old new
+        → differs seen now)
         → Sights fits d (place.Cell c) (learn_next head) allows (learn_notes head) old new rest knows
         (found_by r)
         × IfErr r (λ error. IsWhyUnread differs error old)
     cell_sights differs told = sights fits d (place.Cell c) (learn_next head) allows (learn_notes head)
         old new rest knows r same spent at_cell.0 at_cell.1 differs
-        (λ seen now m. told seen now (old, new, m))
+        told
 
     -- where null tells a contradiction, a node was found
     pub cell_there : (FindsNull fits d (Cell c) (learn_next head) allows old new → ⊥)

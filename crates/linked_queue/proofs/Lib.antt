@@ -9,6 +9,10 @@ pub mod CellLoads
 pub mod Nodes
 pub mod EndNodes
 pub mod Takings
+pub mod Gone
+pub mod Contents
+pub mod Both
+pub mod Losings
 pub mod Poppings
 pub mod Carryings
 pub mod Linkings

@@ -13,9 +13,7 @@ use Rattle.core_events.specs.declared.outcome.Outcome.TheVariants as outcome
 use Rattle.core_events.specs.declared.shape.Shape.{Shape}
 use Rattle.core_events.specs.declared.view.CoreView.{CoreView}
 use Rattle.core_events.specs.Views.{without}
-use Rattle.core_events.specs.Words.{slot_in}
 use Rattle.core_invariant.proofs.Kit.{times_without}
-use Rattle.core_shows.proofs.ShownPlaces.{slot_word}
 use Rattle.counted_handles.specs.declared.refusal.LoadError.{LoadError}
 use Rattle.counted_handles.specs.declared.refusal.LoadError.TheVariants as unloaded
 use Rattle.domain_rule.specs.Views.{object_in, own_of}
@@ -24,7 +22,7 @@ use Rattle.acquire_retire.specs.Domains.{DomainState}
 use Rattle.acquire_retire.specs.Seats.{SeatState}
 use Rattle.control_word.specs.Calls.{DropsStrong, GainsStrong, without_strong}
 use Rattle.control_word.specs.Moves.{KnowsStill}
-use Rattle.retiring_stores.specs.Exchanging.{Loses, LosesTo, Replaces}
+use Rattle.retiring_stores.specs.Exchanging.{LosesTo, Replaces}
 use Rattle.queue_law.specs.declared.view.Form.TheVariants.{Linked}
 use Rattle.queue_law.specs.declared.view.View.{View}
 use Rattle.queue_law.specs.Lessons.{TellsNothing}
@@ -33,8 +31,9 @@ use Rattle.queue_law.specs.Views.{sees_node}
 use Rattle.queue_law.specs.Words.{life_in}
 use Rattle.queue_protocol.specs.declared.law.QueueLaw.{QueueLaw}
 use Rattle.linked_queue.specs.Leaving.{Leaves}
-use Rattle.linked_queue.specs.Pushes.{HasLoad, IsWhyUnlinked, LostLink, SeesBehind, SeesTail, advanced_in}
+use Rattle.linked_queue.specs.Pushes.{HasLoad, IsWhyUnlinked, SeesBehind, SeesTail, advanced_in}
 use Rattle.linked_queue.specs.Queues.{IsAttached, ends_of}
+use Rattle.linked_queue.specs.Seeing.{IsWhyUnread}
 use Rattle.linked_queue.proofs.Leavings.{copy_leaves, drop_leaves, leaves_all, leaves_same}
 use Rattle.linked_queue.proofs.Owning.{has_owned, holds_more, own_life, own_payload, still_owned, through}
 use Rattle.linked_queue.proofs.Takings.{is_done}
@@ -226,22 +225,6 @@ module _ (fits : List ℕ → Type 0) (d : DomainState QueueLaw) (last node : Sl
         (lost_keeps fits d (Field last 0) (Some node) None now copied lost' loses)
         (drop_leaves node lost' new drops still)
 
-    pub lost_link : (seen : ℕ) → seen ≡ 0 → LostLink fits d seen now
-    lost_link seen is = (
-      last,
-      Some node,
-      copied,
-      lost',
-      subst (λ (e : Option SlotId × Option SlotId).
-          Loses fits d link_next TellsNothing (Field last 0) (Some node) e.0 e.1 copied
-          lost')
-          (λ i. (
-            sym (ap slot_in is ∙ slot_word None) i,
-            sym (ap slot_in loses.word ∙ slot_word loses.found) i,
-          ))
-          loses.loses,
-    )
-
 -- what is seen in the tail cell is seen still once another reference was given up
 pub tail_still : (last : SlotId) (old new : SeatState View) → SeesTail last old
     → 0 < times last new.view.core.owned → object_in new.view last ≡ object_in old.view last
@@ -257,10 +240,18 @@ tail_still last old new sees owns object shape client = record {
   inside = subst (λ (z : Shape). last.0 < z.slots) (sym shape) sees.inside;
 }
 
+-- why a load gave nothing tells why no node was linked
+pub why_read : (differs loses : ℕ → ℕ → Type 0) (n : ℕ) (error : LoadError) (old : SeatState View)
+    → ((seen now : ℕ) → differs seen now → loses seen now) → IsWhyUnread differs error old
+    → IsWhyUnlinked loses n error old
+why_read differs loses n unloaded.Spent old so why = omega (arith, why)
+why_read differs loses n (unloaded.Moved seen now) old so why = so seen now why
+
 -- why a later step was refused tells why all of it was, by the adds that were used before
-pub why_later : (fits : List ℕ → Type 0) (d : DomainState QueueLaw) (k n j : ℕ) → n ≡ k + j → (error : LoadError)
+pub why_later : (inner outer : ℕ → ℕ → Type 0) (k n j : ℕ) → n ≡ k + j → (error : LoadError)
     (old mid : SeatState View) → mid.view.core.adds ≤ old.view.core.adds + j
-    → mid.view.core.quota.adds ≡ old.view.core.quota.adds → IsWhyUnlinked fits d k error mid
-    → IsWhyUnlinked fits d n error old
-why_later fits d k n j is unloaded.Spent old mid adds quota why = omega arith
-why_later fits d k n j is (unloaded.Moved seen now) old mid adds quota why = why
+    → mid.view.core.quota.adds ≡ old.view.core.quota.adds
+    → ((seen now : ℕ) → inner seen now → outer seen now) → IsWhyUnlinked inner k error mid
+    → IsWhyUnlinked outer n error old
+why_later inner outer k n j is unloaded.Spent old mid adds quota so why = omega arith
+why_later inner outer k n j is (unloaded.Moved seen now) old mid adds quota so why = so seen now why

@@ -29,11 +29,12 @@ use Rattle.protected_loads.proofs.Noting.{snapshot_gains, some_more}
 use Rattle.protected_loads.proofs.Telling.{four_notes}
 use Rattle.queue_law.specs.declared.view.View.{View}
 use Rattle.queue_law.specs.declared.view.Eyes.{Eyes}
-use Rattle.queue_law.specs.Lessons.{ItemReady, ItemTells, NextTells, item_next, learn_next, learnt, next_next}
+use Rattle.queue_law.specs.Lessons.{ItemReady, NextTells, TellsNothing, learn_next, learnt, next_next}
 use Rattle.queue_law.specs.Words.{held_times, life_in}
 use Rattle.queue_protocol.specs.declared.law.QueueLaw.{QueueLaw}
+use Rattle.linked_queue.specs.Items.{see_item_next}
 use Rattle.linked_queue.specs.Queues.{IsAttached, ends_of}
-use Rattle.linked_queue.specs.Seeing.{FindsLast, SeesHead, SeesItem, SeesNext}
+use Rattle.linked_queue.specs.Seeing.{FindsLast, SeesHead, SeesItem, SeesNext, SeesNone}
 use Rattle.linked_queue.specs.Pushes.{SeesTail}
 use Rattle.linked_queue.proofs.Owning.{has_owned, own_life, owns_pushed, still_owned}
 use Rattle.linked_queue.proofs.Sights.{core_found}
@@ -200,7 +201,7 @@ module _ (fits : List ℕ → Type 0) (d : DomainState QueueLaw) (old new : Seat
   -- ITEM. A seat that found the item of the next node sees it
   module _ (front next s : SlotId) (sees : SeesNext front next old)
       (knows : KnowsStill old.view.core old new)
-      (r : Refers fits d (Field next 1) item_next (ItemTells (ends_of d)) s old new) where
+      (r : Refers fits d (Field next 1) (see_item_next d.shape.slots) TellsNothing s old new) where
     item_seen : new.view.client
         ≡ record r.protects.mid.view.client {
           eyes = record r.protects.mid.view.client.eyes { found = suc s.0 };
@@ -233,6 +234,28 @@ module _ (fits : List ℕ → Type 0) (d : DomainState QueueLaw) (old new : Seat
           owns = owns_pushed s old.view.core.owned new.view.core.owned item_owned;
           found = ap (λ (v : View). v.eyes.found) item_seen ∙ omega arith;
         }
+
+  -- and one that found none has noted so
+  pub sees_none : (front next : SlotId) → SeesNext front next old → KnowsStill old.view.core old new
+      → FindsNull fits d (Field next 1) (see_item_next d.shape.slots) TellsNothing old new
+      → SeesNone d.shape.slots front next new
+  sees_none front next sees knows null =
+      let client = client_null d (Field next 1) old new null in
+      let owned = ap (λ (v : CoreView). v.owned) null.becomes.core in
+      record {
+        nodes = record {
+          head = head_still front old new sees.head
+              (subst (λ l. 0 < times front l) (sym owned) sees.head.owns)
+              (knows front (has_owned front old sees.head.owns))
+              (ap (λ (v : View). v.eyes.node) client) (ap (λ (v : View). v.eyes.life) client)
+              (ap (λ (v : View). v.eyes.was_head) client);
+          owns = subst (λ l. 0 < times next l) (sym owned) sees.owns;
+          following = ap (λ (v : View). v.eyes.following) client ∙ sees.following;
+          is_node = ap (λ (o : Object). o.payload) (knows next (has_owned next old sees.owns))
+              ∙ sees.is_node;
+        };
+        gone = ap (λ (v : View). v.eyes.found) client;
+      }
 
   -- the deed that notes the item is ready for the look, and for the check of whatever was found
   item_at : (front next : SlotId) (seat : SeatState View) (step : PlainAct)

@@ -118,8 +118,8 @@ module _ (n l : SlotId) (a b c e f : SeatState View) (some_n : 0 < times n a.vie
 
 -- WHY
 pub never_pushed : (fits : List ℕ → Type 0) (d : DomainState QueueLaw) (n : ℕ) (error : MakeError)
-    (old new : SeatState View) → IsWhyRefused fits d n error old
+    (old new : SeatState View) → IsWhyRefused fits d n error old new
     → (error ≡ refused.AddsSpent → IsSpent new.view.core) → IsWhyNeverPushed fits d error old new
 never_pushed fits d n refused.MakesSpent old new why spent = why
 never_pushed fits d n refused.AddsSpent old new why spent = spent refl
-never_pushed fits d n refused.Full old new why spent = why
+never_pushed fits d n refused.Full old new why spent = (new, why)

@@ -1,6 +1,6 @@
 -- The exchange of the head cell: what its deed asks, and what it leaves.
-use Rattle.std.proofs.Common.{◌≡◌, ℕ, ◌+◌, ◌-◌, ◌<◌, Bool, true, false, [], ◌∷◌, ◌++◌, refl, ap, sym, ◌∙◌, subst, arith, List}
-use Rattle.std.specs.Prelude.{◌==◌, Option, Some, None, cond, if◌then◌else◌}
+use Rattle.std.proofs.Common.{◌≡◌, ℕ, ◌+◌, ◌-◌, ◌<◌, Bool, true, false, [], ◌∷◌, ◌++◌, refl, ap, sym, ◌∙◌, arith, List}
+use Rattle.std.specs.Prelude.{◌==◌, Some, None, cond, if◌then◌else◌}
 use Rattle.plain_state.specs.declared.act.EventPlace.TheVariants.{Cell}
 use Rattle.plain_state.specs.declared.act.PlainAct.TheVariants as plain
 use Rattle.plain_state.specs.declared.slot.SlotId.{SlotId}
@@ -12,7 +12,6 @@ use Rattle.core_events.specs.declared.outcome.Outcome.TheVariants as outcome
 use Rattle.core_events.specs.declared.view.CoreView.{CoreView}
 use Rattle.core_events.specs.Views.{without}
 use Rattle.core_events.specs.Words.{slot_in}
-use Rattle.core_shows.proofs.ShownPlaces.{slot_word}
 use Rattle.domain_rule.specs.Views.{object_in, own_of}
 use Rattle.acquire_retire.specs.Calls.{IsReady, IsSameView, same_view}
 use Rattle.acquire_retire.specs.Domains.{DomainState}
@@ -20,7 +19,7 @@ use Rattle.acquire_retire.specs.Seats.{SeatState}
 use Rattle.control_word.specs.Calls.{DropsStrong, GainsStrong, without_strong}
 use Rattle.control_word.specs.Moves.{KnowsStill}
 use Rattle.control_word.proofs.Finding.{slot_there}
-use Rattle.retiring_stores.specs.Exchanging.{Loses, LosesTo, Replaces}
+use Rattle.retiring_stores.specs.Exchanging.{LosesTo, Replaces}
 use Rattle.queue_law.specs.declared.view.Item.{Item}
 use Rattle.queue_law.specs.declared.view.View.{View}
 use Rattle.queue_law.specs.Lessons.{TellsNothing}
@@ -30,7 +29,7 @@ use Rattle.queue_protocol.specs.declared.law.QueueLaw.{QueueLaw}
 use Rattle.linked_queue.specs.Leaving.{Leaves}
 use Rattle.linked_queue.specs.Pops.{HasEmptied, item_in, popped_too}
 use Rattle.linked_queue.specs.Queues.{IsAttached, deeds_in, ends_of}
-use Rattle.linked_queue.specs.Seeing.{Lost, SeesItem}
+use Rattle.linked_queue.specs.Seeing.{SeesItem}
 use Rattle.linked_queue.proofs.Leavings.{copy_leaves, drop_leaves, leaves_all, leaves_same}
 use Rattle.linked_queue.proofs.Nodes.{next_still}
 use Rattle.linked_queue.proofs.Owning.{has_owned, own_life, own_payload, still_owned, through}
@@ -165,18 +164,3 @@ module _ (fits : List ℕ → Type 0) (d : DomainState QueueLaw) (front next ite
     unchanged drops still = through next None old copied lost' new
         (copy_leaves next old copied copies knows) lost_leaves
         (drop_leaves next lost' new drops still)
-
-    pub lost_to : (seen : ℕ) → seen ≡ front.0 + 1 → Lost fits d seen now
-    lost_to seen is = (
-      Some next,
-      copied,
-      lost',
-      subst (λ (e : Option SlotId × Option SlotId).
-          Loses fits d take_next TellsNothing (Cell d.protocol.head) (Some next) e.0 e.1
-          copied lost')
-          (λ i. (
-            sym (ap slot_in is ∙ slot_word (Some front)) i,
-            sym (ap slot_in loses.word ∙ slot_word loses.found) i,
-          ))
-          loses.loses,
-    )

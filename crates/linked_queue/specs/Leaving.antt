@@ -3,7 +3,7 @@ use Rattle.std.specs.Prelude.{◌≡◌, ◌≤◌, List, [], ◌∷◌, ◌++�
 use Rattle.plain_state.specs.declared.slot.SlotId.{SlotId}
 use Rattle.plain_state.specs.Lists.{times}
 use Rattle.core_events.specs.declared.view.CoreView.{CoreView}
-use Rattle.core_events.specs.Views.{Holds}
+use Rattle.core_events.specs.Views.{Holds, without}
 use Rattle.counted_handles.specs.Handles.{Handle}
 use Rattle.atomic_shared.specs.Places.{named}
 use Rattle.domain_rule.specs.Views.{object_in}
@@ -18,6 +18,10 @@ aside v = record (rest_of v) { owned = []; made = []; adds = 0; makes = 0 }
 abbrev pub with_found : Option SlotId → List SlotId → List SlotId
 with_found None xs = xs
 with_found (Some s) xs = xs ++ s ∷ []
+
+abbrev pub without_found : Option SlotId → List SlotId → List SlotId
+without_found None xs = xs
+without_found (Some s) xs = without s xs
 
 -- The seat owns these references, in some order, and takes no add back. What it has beside is as it was, and so is what
 -- it knows of the objects that it held and still holds.

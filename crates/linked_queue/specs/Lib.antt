@@ -1,12 +1,15 @@
 pub mod UnlessRipe
 pub mod Attaching
 pub mod Cells
+pub mod Items
 pub mod Queues
 pub mod Leaving
 pub mod Nodes
 pub mod Seeing
 pub mod Pops
+pub mod Losses
 pub mod Pushes
+pub mod PushLosses
 pub mod NotPushed
 pub mod Shuts
 pub mod Waits

@@ -1,9 +1,10 @@
 -- What a pop does, and what it leaves.
 use Rattle.plain_state.specs.State.{no_payload}
-use Rattle.std.specs.Prelude.{ℕ, ◌≡◌, ◌⊎◌, ◌+◌, ◌<◌, true, [], ◌∷◌, ◌++◌, Option, Some, None, List}
+use Rattle.std.specs.Prelude.{ℕ, ◌≡◌, ◌+◌, ◌<◌, true, [], ◌∷◌, ◌++◌, Option, Some, None, Result, Ok, Err, IfSome, List}
 use Rattle.plain_state.specs.declared.act.EventPlace.TheVariants.{Cell, Field}
 use Rattle.plain_state.specs.declared.slot.SlotId.{SlotId}
 use Rattle.plain_state.specs.Lists.{times}
+use Rattle.core_events.specs.declared.view.CoreView.{CoreView}
 use Rattle.counted_handles.specs.declared.refusal.LoadError.{LoadError}
 use Rattle.counted_handles.specs.declared.refusal.LoadError.TheVariants as unloaded
 use Rattle.domain_rule.specs.Views.{object_in}
@@ -11,9 +12,11 @@ use Rattle.acquire_retire.specs.Calls.{IsSameView, same_view}
 use Rattle.acquire_retire.specs.Domains.{DomainState}
 use Rattle.acquire_retire.specs.Seats.{SeatState}
 use Rattle.control_word.specs.Calls.{DropsStrong, GainsStrong}
-use Rattle.protected_loads.specs.References.{Refers}
+use Rattle.atomic_shared.specs.Places.{named}
+use Rattle.counted_handles.specs.Handles.{Handle}
+use Rattle.protected_loads.specs.References.{Loads, Refers}
 use Rattle.retiring_stores.specs.Exchanging.{Replaces, Stores}
-use Rattle.queue_law.specs.Lessons.{ItemTells, NextTells, TellsNothing, item_next, learn_next, next_next}
+use Rattle.queue_law.specs.Lessons.{NextTells, TellsNothing, learn_next, next_next}
 use Rattle.queue_law.specs.Pops.{empty_next, take_next}
 use Rattle.queue_law.specs.declared.view.Item.{Item}
 use Rattle.queue_law.specs.declared.view.View.{View}
@@ -24,7 +27,7 @@ use Rattle.linked_queue.specs.Cells.{HeadTells}
 use Rattle.linked_queue.specs.Leaving.{Leaves, with_found}
 use Rattle.linked_queue.specs.Nodes.{HasFewAdds}
 use Rattle.linked_queue.specs.Queues.{deeds_in, ends_of}
-use Rattle.linked_queue.specs.Seeing.{Differs, FindsLast, Passed}
+use Rattle.linked_queue.specs.Seeing.{FindsLast, LoadsItem}
 use Rattle.linked_queue.specs.UnlessRipe.{next_unless}
 
 -- the object that the seat knows in s, as an item
@@ -50,6 +53,53 @@ pub record Pops (found : Option SlotId) (old new : SeatState View) : Type 0 wher
   pub leaves : Leaves (with_found found old.view.core.owned) old new
   pub deeds : deeds_in new.view.client ≡ popped_in found new (deeds_in old.view.client)
 
+-- WITH A CONTENT: an item, and what a field of it held
+abbrev pub item_of : Option (SlotId × Option SlotId) → Option SlotId
+item_of None = None
+item_of (Some x) = Some x.0
+
+-- an item, of which nothing was read
+abbrev pub bare : Option SlotId → Option (SlotId × Option SlotId)
+bare None = None
+bare (Some s) = Some (s, None)
+
+-- the slots that are named by what a call answers
+abbrev pub named_both : Option (Handle × Option Handle) → Option (SlotId × Option SlotId)
+named_both None = None
+named_both (Some x) = Some (x.0.slot, named x.1)
+
+abbrev pub both_by : {E : Type 0} → Result (Option (Handle × Option Handle)) E
+    → Option (SlotId × Option SlotId)
+both_by (Ok found) = named_both found
+both_by (Err error) = None
+
+abbrev pub pair_by : {E : Type 0} → Result (Handle × Option Handle) E
+    → Option (SlotId × Option SlotId)
+pair_by (Ok x) = named_both (Some x)
+pair_by (Err error) = None
+
+abbrev pub with_both : Option (SlotId × Option SlotId) → List SlotId → List SlotId
+with_both None xs = xs
+with_both (Some x) xs = with_found x.1 (xs ++ x.0 ∷ [])
+
+-- The seat gained a reference to the item and one to the content, if there is one, and has popped the item; or it
+-- gained and popped nothing.
+pub record PopsWith (found : Option (SlotId × Option SlotId)) (old new : SeatState View) : Type 0
+  where
+    pub leaves : Leaves (with_both found old.view.core.owned) old new
+    pub deeds :
+        deeds_in new.view.client ≡ popped_in (item_of found) new (deeds_in old.view.client)
+
+-- the seat owns both
+abbrev pub OwnsBoth : Handle × Option Handle → CoreView → Type 0
+OwnsBoth pair v =
+    (0 < times pair.0.slot v.owned) × IfSome pair.1 (λ content. 0 < times content.slot v.owned)
+
+-- how many adds it takes to read a field, if one is to be read
+abbrev pub adds_of : Option ℕ → ℕ
+adds_of None = 0
+adds_of (Some f) = 1
+
 -- the seat owns the node that it made the dummy
 pub record HasEmptied (s : SlotId) (seat : SeatState View) : Type 0 where
   pub owns : 0 < times s seat.view.core.owned
@@ -62,6 +112,11 @@ abbrev pub unpopped_by : LoadError → PopError
 unpopped_by unloaded.Spent = unpopped.Spent
 unpopped_by (unloaded.Moved seen now) = unpopped.Again seen now
 
+-- why nothing was popped: at most n adds were left, or another seat was quicker
+abbrev pub IsWhyLost : (ℕ → ℕ → Type 0) → ℕ → PopError → SeatState View → Type 0
+IsWhyLost loses n unpopped.Spent old = HasFewAdds n old.view.core
+IsWhyLost loses n (unpopped.Again seen now) old = loses seen now
+
 module _ (fits : List ℕ → Type 0) (d : DomainState QueueLaw) where
   -- The seat exchanged the head's node for the next one, of which it counted a reference before.
   pub record Takes (front next : SlotId) (old new : SeatState View) : Type 0 where
@@ -71,43 +126,58 @@ module _ (fits : List ℕ → Type 0) (d : DomainState QueueLaw) where
         Replaces fits d take_next TellsNothing (Cell d.protocol.head) (Some next)
         (Some front) copied new
 
-  -- It took a reference to the next node's item, exchanged the head's node, and cleared the item of the new dummy.
-  pub record TakesItem (front next item : SlotId) (old new : SeatState View) : Type 0 where
-    pub seen : SeatState View
+  -- of the item it read this field, if one is named: it gained a reference to the content, where that isn't null
+  abbrev pub Reads : Option ℕ → SlotId → Option SlotId → SeatState View → SeatState View → Type 0
+  Reads None item content old new = (content ≡ None) × (new ≡ old)
+  Reads (Some f) item content old new =
+      Loads fits d (Field item f) same_view IsSameView content old new
+
+  -- It read the field, exchanged the head's node, and cleared the item of the new dummy.
+  pub record TakesWith (field : Option ℕ) (front next item : SlotId) (content : Option SlotId)
+      (old new : SeatState View) : Type 0 where
+    pub read : SeatState View
     pub taken : SeatState View
-    pub loads :
-        Refers fits d (Field next 1) item_next (ItemTells (ends_of d)) item old seen
-    pub takes : Takes front next seen taken
+    pub reads : Reads field item content old read
+    pub takes : Takes front next read taken
     pub empties :
         Stores fits d (next_unless empty_next) TellsNothing (Field next 1) None taken new
 
+  -- It did so with a reference to the next node's item.
+  pub record TakesItem (field : Option ℕ) (front next item : SlotId) (content : Option SlotId)
+      (old new : SeatState View) : Type 0 where
+    pub seen : SeatState View
+    pub loads : LoadsItem fits d next (Some item) old seen
+    pub takes : TakesWith field front next item content seen new
+
   -- It did so with a reference to the next node, which it gave up again.
-  pub record TakesNext (front item : SlotId) (old new : SeatState View) : Type 0 where
+  pub record TakesNext (field : Option ℕ) (front item : SlotId) (content : Option SlotId)
+      (old new : SeatState View) : Type 0 where
     pub next : SlotId
     pub seen : SeatState View
     pub popped : SeatState View
     pub loads :
         Refers fits d (Field front 0) next_next (NextTells (ends_of d)) next old seen
-    pub takes : TakesItem front next item seen popped
+    pub takes : TakesItem field front next item content seen popped
     pub drops : DropsStrong fits d next popped new
 
   -- behind a node that the head cell held it found an item, or nothing
-  abbrev pub PopsBehind : SlotId → Option SlotId → SeatState View → SeatState View → Type 0
-  PopsBehind front None old new = FindsLast fits d front old new
-  PopsBehind front (Some item) old new = TakesNext front item old new
+  abbrev pub PopsBehind : Option ℕ → SlotId → Option (SlotId × Option SlotId) → SeatState View
+      → SeatState View → Type 0
+  PopsBehind field front None old new = FindsLast fits d front old new
+  PopsBehind field front (Some x) old new = TakesNext field front x.0 x.1 old new
 
   -- It did so with a reference to the head's node, which it gave up again.
-  pub record PopsAtHead (found : Option SlotId) (old new : SeatState View) : Type 0 where
+  pub record PopsAtHeadWith (field : Option ℕ) (found : Option (SlotId × Option SlotId))
+      (old new : SeatState View) : Type 0 where
     pub front : SlotId
     pub seen : SeatState View
     pub popped : SeatState View
     pub loads :
         Refers fits d (Cell d.protocol.head) (learn_next true) (HeadTells (ends_of d)) front
         old seen
-    pub pops : PopsBehind front found seen popped
+    pub pops : PopsBehind field front found seen popped
     pub drops : DropsStrong fits d front popped new
 
-  -- why nothing was popped: at most n adds were left, or another seat was quicker
-  abbrev pub IsWhyUnpopped : ℕ → PopError → SeatState View → Type 0
-  IsWhyUnpopped n unpopped.Spent old = HasFewAdds n old.view.core
-  IsWhyUnpopped n (unpopped.Again seen now) old = Differs fits d seen now ⊎ Passed fits d seen now
+  -- It did so, and read nothing of the item.
+  abbrev pub PopsAtHead : Option SlotId → SeatState View → SeatState View → Type 0
+  PopsAtHead found = PopsAtHeadWith None (bare found)

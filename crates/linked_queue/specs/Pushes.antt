@@ -6,7 +6,6 @@ use Rattle.plain_state.specs.Lists.{times}
 use Rattle.plain_state.specs.State.{no_payload}
 use Rattle.core_events.specs.declared.view.CoreView.{CoreView}
 use Rattle.core_events.specs.Views.{without}
-use Rattle.core_events.specs.Words.{slot_in}
 use Rattle.counted_handles.specs.Handles.{Handle}
 use Rattle.counted_handles.specs.declared.refusal.LoadError.{LoadError}
 use Rattle.counted_handles.specs.declared.refusal.LoadError.TheVariants as unloaded
@@ -15,7 +14,7 @@ use Rattle.acquire_retire.specs.Calls.{IsSameView, same_view}
 use Rattle.acquire_retire.specs.Domains.{DomainState}
 use Rattle.acquire_retire.specs.Seats.{SeatState}
 use Rattle.control_word.specs.Calls.{DropsStrong, GainsStrong}
-use Rattle.retiring_stores.specs.Exchanging.{Loses, LosesTo, Replaces, Stores}
+use Rattle.retiring_stores.specs.Exchanging.{LosesTo, Replaces, Stores}
 use Rattle.slot_store.specs.declared.making.MakeError.{MakeError}
 use Rattle.slot_store.specs.declared.making.MakeError.TheVariants as refused
 use Rattle.slot_store.specs.Calls.{HasNoMake, Makes}
@@ -37,7 +36,6 @@ use Rattle.linked_queue.specs.Cells.{TailTells}
 use Rattle.linked_queue.specs.Nodes.{HasFewAdds}
 use Rattle.linked_queue.specs.Queues.{deeds_in, ends_of}
 use Rattle.linked_queue.specs.Pops.{item_in}
-use Rattle.linked_queue.specs.Seeing.{Missed}
 
 -- the seat owns a node of its own, which carries an item
 pub record HasLoad (s : SlotId) (seat : SeatState View) : Type 0 where
@@ -69,11 +67,18 @@ advanced_in s seat v = record v {
   eyes = record (sees_node (s.0 + 1) (object_in seat.view s).life) { was_tail = true };
 }
 
--- why no node could be made that carries the item: at most n adds were left, or `make` has refused
-abbrev pub IsWhyRefused : (List ℕ → Type 0) → DomainState QueueLaw → ℕ → MakeError → SeatState View → Type 0
-IsWhyRefused fits d n refused.MakesSpent old = HasNoMake old.view.core
-IsWhyRefused fits d n refused.AddsSpent old = HasFewAdds n old.view.core
-IsWhyRefused fits d n refused.Full old = (mid : SeatState View) × MissesSlots fits d old mid
+-- why no node could be made that carries the item: at most n adds were left, or `make` has refused. Where it found
+-- every slot taken, its tries are all events of the call
+abbrev pub IsWhyRefused : (List ℕ → Type 0) → DomainState QueueLaw → ℕ → MakeError → SeatState View
+    → SeatState View → Type 0
+IsWhyRefused fits d n refused.MakesSpent old new = HasNoMake old.view.core
+IsWhyRefused fits d n refused.AddsSpent old new = HasFewAdds n old.view.core
+IsWhyRefused fits d n refused.Full old new = MissesSlots fits d old new
+
+-- why a node wasn't linked: at most n adds were left, or another seat was quicker
+abbrev pub IsWhyUnlinked : (ℕ → ℕ → Type 0) → ℕ → LoadError → SeatState View → Type 0
+IsWhyUnlinked loses n unloaded.Spent old = HasFewAdds n old.view.core
+IsWhyUnlinked loses n (unloaded.Moved seen now) old = loses seen now
 
 -- No make was used where `make` has refused for the makes or the slots. Where an increment was refused, a node may have
 -- been made before.
@@ -89,25 +94,6 @@ pushed_too item v =
     record v { pushed = v.pushed ++ record { item = item; taker = v.number } ∷ [] }
 
 module _ (fits : List ℕ → Type 0) (d : DomainState QueueLaw) where
-  -- an exchange of field 0 of a node that expected `seen` found `now`, which is another content
-  abbrev pub LostLink : ℕ → ℕ → Type 0
-  LostLink seen now =
-      (x : SlotId) × (given : Option SlotId) × (old : SeatState View) × (new : SeatState View)
-      × Loses fits d link_next TellsNothing (Field x 0) given (slot_in seen) (slot_in now)
-      old new
-
-  -- a place of the queue held `seen`, and then `now`, which is another content: the tail cell, or field 0 of a node
-  abbrev pub PushDiffers : ℕ → ℕ → Type 0
-  PushDiffers seen now =
-      Missed fits d (Cell d.protocol.tail) (learn_next false) (TailTells (ends_of d)) seen now
-      ⊎ ((x : SlotId) × Missed fits d (Field x 0) next_next (NextTells (ends_of d)) seen now)
-      ⊎ LostLink seen now
-
-  -- why a node wasn't linked: at most n adds were left, or another seat was quicker
-  abbrev pub IsWhyUnlinked : ℕ → LoadError → SeatState View → Type 0
-  IsWhyUnlinked n unloaded.Spent old = HasFewAdds n old.view.core
-  IsWhyUnlinked n (unloaded.Moved seen now) old = PushDiffers seen now
-
   -- The seat exchanged the tail cell for the next node, or found it advanced already, and gave the reference up.
   abbrev pub Advances : SlotId → SlotId → SeatState View → SeatState View → Type 0
   Advances last next old new =
@@ -205,11 +191,6 @@ pub record Pushes (item : SlotId) (old new : SeatState View) : Type 0 where
 pub record PushesNothing (old new : SeatState View) : Type 0 where
   pub leaves : Leaves old.view.core.owned old new
   pub deeds : deeds_in new.view.client ≡ deeds_in old.view.client
-
--- why nothing was pushed, and the item that is handed back
-abbrev pub IsWhyUnpushed : (List ℕ → Type 0) → DomainState QueueLaw → PushError → SeatState View → Type 0
-IsWhyUnpushed fits d (unpushed.Again seen now back) old = PushDiffers fits d seen now
-IsWhyUnpushed fits d (unpushed.Refused r) old = IsWhyRefused fits d 5 r.why old
 
 abbrev pub back_of : PushError → Handle
 back_of (unpushed.Again seen now back) = back

@@ -1,5 +1,5 @@
 -- What a seat sees of a queue, and how it finds that another seat was quicker.
-use Rattle.std.specs.Prelude.{ℕ, ◌≡◌, ◌≢◌, ◌⊎◌, ◌+◌, ◌<◌, true, Option, None, List}
+use Rattle.std.specs.Prelude.{ℕ, ◌≡◌, ◌≢◌, ◌+◌, ◌<◌, true, Option, None, List}
 use Rattle.plain_state.specs.declared.act.EventPlace.{EventPlace}
 use Rattle.plain_state.specs.declared.act.EventPlace.TheVariants.{Cell, Field}
 use Rattle.plain_state.specs.declared.act.PlainAct.{PlainAct}
@@ -11,7 +11,7 @@ use Rattle.core_events.specs.declared.act.Act.TheVariants as act
 use Rattle.core_events.specs.declared.outcome.Outcome.TheVariants as outcome
 use Rattle.core_events.specs.Words.{slot_in}
 use Rattle.domain_rule.specs.Views.{object_in}
-use Rattle.acquire_retire.specs.Calls.{IsSameView, Steps, same_view}
+use Rattle.acquire_retire.specs.Calls.{Steps, same_view}
 use Rattle.acquire_retire.specs.Collecting.{move}
 use Rattle.acquire_retire.specs.Domains.{DomainState}
 use Rattle.acquire_retire.specs.Seats.{SeatState}
@@ -19,13 +19,13 @@ use Rattle.control_word.specs.Resting.{IsSpent}
 use Rattle.counted_handles.specs.declared.refusal.LoadError.{LoadError}
 use Rattle.counted_handles.specs.declared.refusal.LoadError.TheVariants as unloaded
 use Rattle.protected_loads.specs.Loads.{FindsNull, Misses}
-use Rattle.retiring_stores.specs.Exchanging.{Loses, shown_after}
-use Rattle.queue_law.specs.Lessons.{ItemTells, NextTells, NothingLinked, TellsNothing, item_next, learn_next, next_next}
-use Rattle.queue_law.specs.Pops.{take_next}
+use Rattle.protected_loads.specs.References.{Loads}
+use Rattle.retiring_stores.specs.Exchanging.{shown_after}
+use Rattle.queue_law.specs.Lessons.{NextTells, NothingLinked, TellsNothing, learn_next, next_next}
 use Rattle.queue_law.specs.declared.view.View.{View}
-use Rattle.queue_law.specs.Words.{cell_at}
 use Rattle.queue_protocol.specs.declared.law.QueueLaw.{QueueLaw}
 use Rattle.linked_queue.specs.Cells.{HeadTells}
+use Rattle.linked_queue.specs.Items.{GoneTells, see_item_next}
 use Rattle.linked_queue.specs.Queues.{ends_of}
 
 -- the seat owns the node that it saw in the head cell
@@ -48,60 +48,60 @@ pub record SeesItem (front next item : SlotId) (seat : SeatState View) : Type 0 
   pub owns : 0 < times item seat.view.core.owned
   pub found : seat.view.client.eyes.found ≡ item.0 + 1
 
+-- or that there was none: it noted a slot that isn't there, if there are so many
+pub record SeesNone (slots : ℕ) (front next : SlotId) (seat : SeatState View) : Type 0 where
+  pub nodes : SeesNext front next seat
+  pub gone : seat.view.client.eyes.found ≡ slots + 1
+
 -- why a load gave nothing: no add was left, or a place has changed
 abbrev pub IsWhyUnread : (ℕ → ℕ → Type 0) → LoadError → SeatState View → Type 0
 IsWhyUnread differs unloaded.Spent old = IsSpent old.view.core
 IsWhyUnread differs (unloaded.Moved seen now) old = differs seen now
 
 module _ (fits : List ℕ → Type 0) (d : DomainState QueueLaw) where
+  -- The seat's look at a place found `seen`, and its check of the place, with this deed, found `now`, which is another
+  -- content. Between them it announced what it had found, and nothing else.
+  abbrev pub MissesAt : EventPlace → (OwnPart → OwnPart → View → PlainAct → ℕ → View)
+      → (Plain → Plain → ℕ → View → View → Type 0) → ℕ → ℕ → SeatState View → SeatState View
+      → Type 0
+  MissesAt place next allows seen now old new =
+      Misses fits d 0 place next allows (slot_in seen) (slot_in now) old new
+
+  -- so the head cell, field 0 of the head's node, and field 1 of the node after it
+  abbrev pub MissesHead : ℕ → ℕ → SeatState View → SeatState View → Type 0
+  MissesHead = MissesAt (Cell d.protocol.head) (learn_next true) (HeadTells (ends_of d))
+
+  abbrev pub MissesNext : SlotId → ℕ → ℕ → SeatState View → SeatState View → Type 0
+  MissesNext front = MissesAt (Field front 0) next_next (NextTells (ends_of d))
+
+  abbrev pub MissesItem : SlotId → ℕ → ℕ → SeatState View → SeatState View → Type 0
+  MissesItem next = MissesAt (Field next 1) (see_item_next d.shape.slots) TellsNothing
+
+  -- a load of that field, with what it notes
+  abbrev pub LoadsItem : SlotId → Option SlotId → SeatState View → SeatState View → Type 0
+  LoadsItem next found old new =
+      Loads fits d (Field next 1) (see_item_next d.shape.slots) TellsNothing found old new
+
   -- a check of a place, with this deed, found `now` where a look had found `seen`, which is another content
   abbrev pub Missed : EventPlace → (OwnPart → OwnPart → View → PlainAct → ℕ → View)
       → (Plain → Plain → ℕ → View → View → Type 0) → ℕ → ℕ → Type 0
   Missed place next allows seen now =
-      (old : SeatState View) × (new : SeatState View)
-      × Misses fits d 0 place next allows (slot_in seen) (slot_in now) old new
-
-  -- an exchange of the head cell that expected `seen` found `now`, which is another content
-  abbrev pub Lost : ℕ → ℕ → Type 0
-  Lost seen now =
-      (given : Option SlotId) × (old : SeatState View) × (new : SeatState View)
-      × Loses fits d take_next TellsNothing (Cell d.protocol.head) given (slot_in seen)
-      (slot_in now) old new
-
-  -- A place of the queue held `seen`, and then `now`, which is another content: the head cell, field 0 or field 1 of a
-  -- node, or the head cell at the exchange.
-  abbrev pub Differs : ℕ → ℕ → Type 0
-  Differs seen now =
-      Missed (Cell d.protocol.head) (learn_next true) (HeadTells (ends_of d)) seen now
-      ⊎ ((x : SlotId) × Missed (Field x 0) next_next (NextTells (ends_of d)) seen now)
-      ⊎ ((x : SlotId) × Missed (Field x 1) item_next (ItemTells (ends_of d)) seen now)
-      ⊎ Lost seen now
+      (old : SeatState View) × (new : SeatState View) × MissesAt place next allows seen now old new
 
   -- a look at the head cell found this word
   abbrev pub LooksAgain : ℕ → SeatState View → SeatState View → Type 0
   LooksAgain now old new =
-      Steps fits d same_view IsSameView (act.Look (Cell d.protocol.head)) old new
+      Steps fits d same_view (GoneTells (ends_of d) d.shape.slots)
+      (act.Look (Cell d.protocol.head)) old new
       (outcome.Found (slot_in now))
 
-  -- A node that the head cell held is `seen`. The seat's look at the item of the next node found null, and the head
-  -- cell held another node then; a later look at the head cell found `now`.
-  pub record Passed (seen now : ℕ) : Type 0 where
-    pub next : SlotId
-    pub old : SeatState View
+  -- The seat's look at the item of the next node found null; so the head cell held another node then. Its look at the
+  -- head cell found `now`, which isn't `front`.
+  pub record Passes (front next : SlotId) (now : ℕ) (old new : SeatState View) : Type 0 where
     pub mid : SeatState View
-    pub new : SeatState View
-    pub was_head : old.view.client.eyes.was_head ≡ true
-    pub node : old.view.client.eyes.node ≡ seen
-    pub null :
-        FindsNull fits d (Field next 1) item_next (ItemTells (ends_of d)) old mid
-    pub gone :
-        cell_at (shown_after {m = move (act.Look (Field next 1)) (outcome.Found None)} null.becomes.walks.1)
-        d.protocol.head ≢ seen
+    pub null : LoadsItem next None old mid
     pub looks : LooksAgain now mid new
-
-  -- why a load of a pop gave nothing
-  abbrev pub IsWhyUnloaded : LoadError → SeatState View → Type 0
-  IsWhyUnloaded error old = IsWhyUnread Differs error old
+    pub other : now ≢ front.0 + 1
 
   -- The seat's look at field 0 of a node that it saw in the head cell found null, and nothing was linked behind the
   -- head's node then.

@@ -9,6 +9,7 @@ ghost use Rattle.queue_law.specs.Views.{first_view};
 ghost use Rattle.part_calls.specs.Parts.{HasBeside, as_part, seen_by};
 ghost use Rattle.linked_queue.specs.Leaving.{Leaves, handle_by, with_found};
 ghost use Rattle.linked_queue.specs.Pushes.{HasLoad, IsWhyUnlinked, LinksLast, SeesBehind, pushed_too};
+ghost use Rattle.linked_queue.specs.PushLosses.{LosesLast};
 ghost use Rattle.linked_queue.specs.Queues.{IsAttached, beside_eyes, deeds_in};
 
 use crate::linking::{find_last, link};
@@ -48,8 +49,9 @@ pub(crate) fn link_last<S, P: HasQueue<S>>(
     ensures makes { seat.new.view.core.makes ≡ seat.old.view.core.makes }
     ensures leaves { Leaves (with_found (handle_by result) seat.old.view.core.owned)
         (seen_by P.seen seat.old) (seen_by P.seen seat.new) }
-    ensures why { IfErr result (λ error. IsWhyUnlinked P.Kind.fits (as_part P.part domain.now) 3
-        error (seen_by P.seen seat.old)) }
+    ensures why { IfErr result (λ error. IsWhyUnlinked (λ seen now.
+        LosesLast P.Kind.fits (as_part P.part domain.now) node seen now
+        (seen_by P.seen seat.old) (seen_by P.seen seat.new)) 3 error (seen_by P.seen seat.old)) }
     ensures spent { IfErr result (λ error. error ≡ unloaded.Spent → IsSpent seat.new.view.core) }
     ensures beside_part { HasBeside P.with_seen first_view seat.old seat.new }
     ensures room { HasRoom seat.new.view.core }

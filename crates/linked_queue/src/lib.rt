@@ -15,6 +15,7 @@
 //! queue.attach(&rt, &domain, &mut seat);                       // this seat may push and pop then
 //! queue.push(&rt, &domain, &mut seat, item)?;                  // or PushRefused, with the item back
 //! let Some(item) = queue.try_pop(&domain, &mut seat)? else { .. };     // nothing was linked; or Again, Spent
+//! let found = queue.try_pop_with(&domain, &mut seat, 0)?;      // an item, with what its field 0 held before
 //! queue.shut(&domain, &mut root);                              // once every other seat has left
 //! ```
 #![tactic(auto)]
@@ -29,6 +30,7 @@ mod popping;
 mod pushing;
 mod pushing_waits;
 mod queue;
+mod reading;
 mod seeing;
 mod shutting;
 mod taking;
@@ -40,9 +42,11 @@ mod tests_pair;
 mod tests_threads;
 mod unless_ripe;
 mod waiting;
+mod walking;
 
 pub use counted_handles::{Spent, Strong};
 pub use deeds::{SeeHead, SeeTail};
+pub use popping::{pop_at, pop_with_at};
 pub use queue::{LinkedQueue, PopError, PushError, PushRefused};
 pub use slot_store::MakeError;
 pub use unless_ripe::UnlessRipe;

@@ -14,7 +14,8 @@ ghost use Rattle.part_calls.specs.Parts.{HasBeside, as_part, seen_by};
 ghost use Rattle.queue_law.specs.Views.{first_view};
 ghost use Rattle.linked_queue.specs.Cells.{TailTells};
 ghost use Rattle.linked_queue.specs.Leaving.{Leaves, found_by, handle_by, with_found};
-ghost use Rattle.linked_queue.specs.Pushes.{Advances, FindsEnd, HasLoad, Helps, IsWhyUnlinked, Links, PushDiffers, SeesBehind, SeesTail, advanced_in};
+ghost use Rattle.linked_queue.specs.Pushes.{Advances, FindsEnd, HasLoad, Helps, IsWhyUnlinked, Links, SeesBehind, SeesTail, advanced_in};
+ghost use Rattle.linked_queue.specs.PushLosses.{LosesEnd, LosesLink, MissesBehind, MissesTail};
 ghost use Rattle.linked_queue.specs.Queues.{IsAttached, beside_eyes, ends_of};
 ghost use Rattle.linked_queue.specs.Seeing.{IsWhyUnread};
 
@@ -48,9 +49,9 @@ pub(crate) fn find_last<S, P: HasQueue<S>>(
     ensures makes { seat.new.view.core.makes ≡ seat.old.view.core.makes }
     ensures leaves { Leaves (with_found (handle_by result) seat.old.view.core.owned)
         (seen_by P.seen seat.old) (seen_by P.seen seat.new) }
-    ensures why { IfErr result
-        (λ error. IsWhyUnlinked P.Kind.fits (as_part P.part domain.now) 2 error
-        (seen_by P.seen seat.old)) }
+    ensures why { IfErr result (λ error. IsWhyUnlinked (λ seen now.
+        LosesEnd P.Kind.fits (as_part P.part domain.now) seen now
+        (seen_by P.seen seat.old) (seen_by P.seen seat.new)) 2 error (seen_by P.seen seat.old)) }
     ensures spent { IfErr result (λ error. error ≡ unloaded.Spent → IsSpent seat.new.view.core) }
     ensures beside_part { HasBeside P.with_seen first_view seat.old seat.new }
     ensures room { HasRoom seat.new.view.core }
@@ -104,9 +105,9 @@ fn load_tail<S, P: HasQueue<S>>(
     ensures makes { seat.new.view.core.makes ≡ seat.old.view.core.makes }
     ensures leaves { Leaves (with_found (found_by result) seat.old.view.core.owned)
         (seen_by P.seen seat.old) (seen_by P.seen seat.new) }
-    ensures why { IfErr result
-        (λ error. IsWhyUnread (PushDiffers P.Kind.fits (as_part P.part domain.now)) error
-        (seen_by P.seen seat.old)) }
+    ensures why { IfErr result (λ error. IsWhyUnread (λ seen now.
+        MissesTail P.Kind.fits (as_part P.part domain.now) seen now
+        (seen_by P.seen seat.old) (seen_by P.seen seat.new)) error (seen_by P.seen seat.old)) }
     ensures spent { IfErr result (λ error. error ≡ unloaded.Spent → IsSpent seat.new.view.core) }
     ensures beside_part { HasBeside P.with_seen first_view seat.old seat.new }
     ensures room { HasRoom seat.new.view.core }
@@ -137,9 +138,9 @@ fn see_behind<S, P: HasQueue<S>>(
     ensures makes { seat.new.view.core.makes ≡ seat.old.view.core.makes }
     ensures leaves { Leaves (with_found (found_by result) seat.old.view.core.owned)
         (seen_by P.seen seat.old) (seen_by P.seen seat.new) }
-    ensures why { IfErr result
-        (λ error. IsWhyUnread (PushDiffers P.Kind.fits (as_part P.part domain.now)) error
-        (seen_by P.seen seat.old)) }
+    ensures why { IfErr result (λ error. IsWhyUnread (λ seen now.
+        MissesBehind P.Kind.fits (as_part P.part domain.now) old seen now
+        (seen_by P.seen seat.old) (seen_by P.seen seat.new)) error (seen_by P.seen seat.old)) }
     ensures spent { IfErr result (λ error. error ≡ unloaded.Spent → IsSpent seat.new.view.core) }
     ensures beside_part { HasBeside P.with_seen first_view seat.old seat.new }
     ensures room { HasRoom seat.new.view.core }
@@ -173,8 +174,7 @@ fn help<S, P: HasQueue<S>>(
     ensures makes { seat.new.view.core.makes ≡ seat.old.view.core.makes }
     ensures leaves { Leaves seat.old.view.core.owned (seen_by P.seen seat.old)
         (seen_by P.seen seat.new) }
-    ensures why { IfErr result
-        (λ error. IsWhyUnlinked P.Kind.fits (as_part P.part domain.now) 0 error
+    ensures why { IfErr result (λ error. IsWhyUnlinked (λ seen now. ⊥) 0 error
         (seen_by P.seen seat.old)) }
     ensures spent { IfErr result (λ error. error ≡ unloaded.Spent → IsSpent seat.new.view.core) }
     ensures beside_part { HasBeside P.with_seen first_view seat.old seat.new }
@@ -254,9 +254,9 @@ pub(crate) fn link<S, P: HasQueue<S>>(
     ensures makes { seat.new.view.core.makes ≡ seat.old.view.core.makes }
     ensures leaves { Leaves seat.old.view.core.owned (seen_by P.seen seat.old)
         (seen_by P.seen seat.new) }
-    ensures why { IfErr result
-        (λ error. IsWhyUnlinked P.Kind.fits (as_part P.part domain.now) 0 error
-        (seen_by P.seen seat.old)) }
+    ensures why { IfErr result (λ error. IsWhyUnlinked (λ seen now.
+        LosesLink P.Kind.fits (as_part P.part domain.now) last node seen now
+        (seen_by P.seen seat.old) (seen_by P.seen seat.new)) 0 error (seen_by P.seen seat.old)) }
     ensures spent { IfErr result (λ error. error ≡ unloaded.Spent → IsSpent seat.new.view.core) }
     ensures beside_part { HasBeside P.with_seen first_view seat.old seat.new }
     ensures room { HasRoom seat.new.view.core }

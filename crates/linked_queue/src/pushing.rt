@@ -17,7 +17,8 @@ ghost use Rattle.part_calls.specs.Parts.{HasBeside, StaysBeside, as_part, seen_b
 ghost use Rattle.queue_law.specs.Views.{first_view};
 ghost use Rattle.linked_queue.specs.Leaving.{Leaves, handle_by, with_found};
 ghost use Rattle.linked_queue.specs.Pops.{item_in};
-ghost use Rattle.linked_queue.specs.Pushes.{HasLoad, LoadsNode, PushesBy, PushesCopy, PushesNode, IsWhyRefused, IsWhyUnlinked, IsWhyUnpushed, Pushes, PushesNothing, UsesNone, back_of, cause_of, pushed_too};
+ghost use Rattle.linked_queue.specs.Pushes.{HasLoad, LoadsNode, PushesBy, PushesCopy, PushesNode, IsWhyRefused, IsWhyUnlinked, Pushes, PushesNothing, UsesNone, back_of, cause_of, pushed_too};
+ghost use Rattle.linked_queue.specs.PushLosses.{IsWhyUnpushed, LosesNode};
 ghost use Rattle.linked_queue.specs.NotPushed.{IsWhyNotPushed, cause_in};
 ghost use Rattle.linked_queue.specs.Queues.{IsAttached, IsQueueOf, deeds_in};
 
@@ -63,8 +64,8 @@ impl LinkedQueue {
         ensures owned { IfErr result (λ error.
             0 < times (back_of error).slot seat.new.view.core.owned) }
         ensures why { IfErr result
-            (λ error. IsWhyUnpushed P.Kind.fits (as_part P.part domain.now) error
-            (seen_by P.seen seat.old)) }
+            (λ error. IsWhyUnpushed P.Kind.fits (as_part P.part domain.now) item.slot error
+            (seen_by P.seen seat.old) (seen_by P.seen seat.new)) }
         ensures spent { IfErr result (λ error. cause_of error ≡ Some refused.AddsSpent
             → IsSpent seat.new.view.core) }
         ensures makes { seat.new.view.core.makes ≤ seat.old.view.core.makes + 1 }
@@ -105,8 +106,8 @@ fn push_item<S, P: HasQueue<S>>(
         (PushesNothing (seen_by P.seen seat.old) (seen_by P.seen seat.new)) }
     ensures back { IfErr result (λ error. back_of error ≡ item) }
     ensures why { IfErr result
-        (λ error. IsWhyUnpushed P.Kind.fits (as_part P.part domain.now) error
-        (seen_by P.seen seat.old)) }
+        (λ error. IsWhyUnpushed P.Kind.fits (as_part P.part domain.now) item.slot error
+        (seen_by P.seen seat.old) (seen_by P.seen seat.new)) }
     ensures spent { IfErr result (λ error. cause_of error ≡ Some refused.AddsSpent
         → IsSpent seat.new.view.core) }
     ensures makes { seat.new.view.core.makes ≤ seat.old.view.core.makes + 1 }
@@ -164,8 +165,8 @@ fn push_copy<S, P: HasQueue<S>>(
     ensures leaves { Leaves seat.old.view.core.owned (seen_by P.seen seat.old)
         (seen_by P.seen seat.new) }
     ensures why { IfErr result
-        (λ not. IsWhyNotPushed P.Kind.fits (as_part P.part domain.now) not
-        (seen_by P.seen seat.old)) }
+        (λ not. IsWhyNotPushed P.Kind.fits (as_part P.part domain.now) item.now.slot not
+        (seen_by P.seen seat.old) (seen_by P.seen seat.new)) }
     ensures spent { IfErr result (λ not. cause_in not ≡ Some refused.AddsSpent
         → IsSpent seat.new.view.core) }
     ensures makes { seat.new.view.core.makes ≤ seat.old.view.core.makes + 1 }
@@ -209,7 +210,7 @@ pub(crate) fn load_node<S, P: HasQueue<S>>(
         (seen_by P.seen seat.old) (seen_by P.seen seat.new) }
     ensures why { IfErr result
         (λ error. IsWhyRefused P.Kind.fits (as_part P.part domain.now) 1 error
-        (seen_by P.seen seat.old)) }
+        (seen_by P.seen seat.old) (seen_by P.seen seat.new)) }
     ensures spent { IfErr result (λ error. error ≡ refused.AddsSpent → IsSpent seat.new.view.core) }
     ensures makes { seat.new.view.core.makes ≤ seat.old.view.core.makes + 1 }
     ensures makes_kept { seat.old.view.core.makes ≤ seat.new.view.core.makes }
@@ -255,9 +256,9 @@ fn push_node<S, P: HasQueue<S>>(
     ensures makes { seat.new.view.core.makes ≡ seat.old.view.core.makes }
     ensures leaves { Leaves (without node.slot seat.old.view.core.owned) (seen_by P.seen seat.old)
         (seen_by P.seen seat.new) }
-    ensures why { IfErr result
-        (λ error. IsWhyUnlinked P.Kind.fits (as_part P.part domain.now) 3 error
-        (seen_by P.seen seat.old)) }
+    ensures why { IfErr result (λ error. IsWhyUnlinked (λ seen now.
+        LosesNode P.Kind.fits (as_part P.part domain.now) node.slot seen now
+        (seen_by P.seen seat.old) (seen_by P.seen seat.new)) 3 error (seen_by P.seen seat.old)) }
     ensures spent { IfErr result (λ error. error ≡ unloaded.Spent → IsSpent seat.new.view.core) }
     ensures beside_part { HasBeside P.with_seen first_view seat.old seat.new }
     ensures room { HasRoom seat.new.view.core }

@@ -16,8 +16,7 @@ pub struct LinkedQueue {
 #[derive(Clone, Copy, PartialEq, Eq, Debug, Drop)]
 pub enum PopError {
     /// Another seat has been quicker: a place of the queue held the word `seen`, and then another one, `now`. A word is
-    /// 0 for null, else the slot's number and one. Where the item of the next node was null, the head cell held another
-    /// word than `seen` then, and `now` is what it held at the call's last look.
+    /// 0 for null, else the slot's number and one.
     Again { seen: u64, now: u64 },
     /// The seat has no add left of its quota.
     Spent,

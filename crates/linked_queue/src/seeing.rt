@@ -7,19 +7,20 @@ ghost use Rattle.atomic_shared.specs.Places.{named};
 ghost use Rattle.control_word.specs.Resting.{IsAtRest, IsSpent};
 ghost use Rattle.counted_handles.specs.declared.refusal.LoadError.TheVariants as unloaded;
 ghost use Rattle.protected_loads.specs.References.{Loads, Refers};
-ghost use Rattle.queue_law.specs.Lessons.{ItemTells, NextTells, item_next, learn_next, next_next};
+ghost use Rattle.queue_law.specs.Lessons.{NextTells, learn_next, next_next};
 ghost use Rattle.part_calls.specs.Parts.{HasBeside, as_part, seen_by};
 ghost use Rattle.queue_law.specs.Views.{first_view};
 ghost use Rattle.linked_queue.specs.Cells.{HeadTells};
 ghost use Rattle.linked_queue.specs.Leaving.{Leaves, found_by, handle_by, with_found};
 ghost use Rattle.linked_queue.specs.Queues.{IsAttached, beside_eyes, ends_of};
-ghost use Rattle.linked_queue.specs.Seeing.{FindsLast, IsWhyUnloaded, Passed, SeesHead, SeesItem, SeesNext};
+ghost use Rattle.linked_queue.specs.Seeing.{FindsLast, IsWhyUnread, LoadsItem, LooksAgain, MissesHead, MissesItem, MissesNext, SeesHead, SeesItem, SeesNext, SeesNone};
 
-use crate::deeds::SeeHead;
-use acquire_retire::{Domain, Seat, SlotId};
+use crate::deeds::{SeeGone, SeeHead, SeeItem};
+use acquire_retire::{Domain, EventPlace, Outcome, Seat, SlotId};
+use core_functions::held_as;
 use counted_handles::Strong;
-use part_calls::{LoadError, Place, try_load};
-use queue_protocol::{HasQueue, LearnItem, LearnNext, QueueLaw};
+use part_calls::{LoadError, Place, look, try_load};
+use queue_protocol::{HasQueue, LearnNext, QueueLaw};
 
 /// A reference to the node that the head cell holds. There is one, since the seat is attached.
 pub(crate) fn see_head<S, P: HasQueue<S>>(
@@ -43,9 +44,9 @@ pub(crate) fn see_head<S, P: HasQueue<S>>(
     ensures makes { seat.new.view.core.makes ≡ seat.old.view.core.makes }
     ensures leaves { Leaves (with_found (handle_by result) seat.old.view.core.owned)
         (seen_by P.seen seat.old) (seen_by P.seen seat.new) }
-    ensures why { IfErr result
-        (λ error. IsWhyUnloaded P.Kind.fits (as_part P.part domain.now) error
-        (seen_by P.seen seat.old)) }
+    ensures why { IfErr result (λ error. IsWhyUnread
+        (λ seen now. MissesHead P.Kind.fits (as_part P.part domain.now) seen now
+        (seen_by P.seen seat.old) (seen_by P.seen seat.new)) error (seen_by P.seen seat.old)) }
     ensures spent { IfErr result (λ error. error ≡ unloaded.Spent → IsSpent seat.new.view.core) }
     ensures beside_part { HasBeside P.with_seen first_view seat.old seat.new }
     ensures room { HasRoom seat.new.view.core }
@@ -82,9 +83,9 @@ fn load_head<S, P: HasQueue<S>>(
     ensures makes { seat.new.view.core.makes ≡ seat.old.view.core.makes }
     ensures leaves { Leaves (with_found (found_by result) seat.old.view.core.owned)
         (seen_by P.seen seat.old) (seen_by P.seen seat.new) }
-    ensures why { IfErr result
-        (λ error. IsWhyUnloaded P.Kind.fits (as_part P.part domain.now) error
-        (seen_by P.seen seat.old)) }
+    ensures why { IfErr result (λ error. IsWhyUnread
+        (λ seen now. MissesHead P.Kind.fits (as_part P.part domain.now) seen now
+        (seen_by P.seen seat.old) (seen_by P.seen seat.new)) error (seen_by P.seen seat.old)) }
     ensures spent { IfErr result (λ error. error ≡ unloaded.Spent → IsSpent seat.new.view.core) }
     ensures beside_part { HasBeside P.with_seen first_view seat.old seat.new }
     ensures room { HasRoom seat.new.view.core }
@@ -118,9 +119,9 @@ pub(crate) fn see_next<S, P: HasQueue<S>>(
     ensures makes { seat.new.view.core.makes ≡ seat.old.view.core.makes }
     ensures leaves { Leaves (with_found (found_by result) seat.old.view.core.owned)
         (seen_by P.seen seat.old) (seen_by P.seen seat.new) }
-    ensures why { IfErr result
-        (λ error. IsWhyUnloaded P.Kind.fits (as_part P.part domain.now) error
-        (seen_by P.seen seat.old)) }
+    ensures why { IfErr result (λ error. IsWhyUnread
+        (λ seen now. MissesNext P.Kind.fits (as_part P.part domain.now) front seen now
+        (seen_by P.seen seat.old) (seen_by P.seen seat.new)) error (seen_by P.seen seat.old)) }
     ensures spent { IfErr result (λ error. error ≡ unloaded.Spent → IsSpent seat.new.view.core) }
     ensures beside_part { HasBeside P.with_seen first_view seat.old seat.new }
     ensures room { HasRoom seat.new.view.core }
@@ -141,9 +142,10 @@ pub(crate) fn see_item<S, P: HasQueue<S>>(
     requires attached { IsAttached (P.seen seat.old.view.client) }
     requires next { SeesNext front next (seen_by P.seen seat.old) }
     ensures loads { IfOk result
-        (λ found. Loads P.Kind.fits (as_part P.part domain.now) (Field next 1)
-        item_next (ItemTells (ends_of (as_part P.part domain.now))) (named found)
+        (λ found. LoadsItem P.Kind.fits (as_part P.part domain.now) next (named found)
         (seen_by P.seen seat.old) (seen_by P.seen seat.new)) }
+    ensures none { IfOk result (λ found. named found ≡ None
+        → SeesNone domain.now.shape.slots front next (seen_by P.seen seat.new)) }
     ensures sees { IfOk result (λ found. IfSome found (λ item.
         SeesItem front next item.slot (seen_by P.seen seat.new))) }
     ensures adds { seat.new.view.core.adds ≤ seat.old.view.core.adds + 1 }
@@ -152,13 +154,46 @@ pub(crate) fn see_item<S, P: HasQueue<S>>(
     ensures makes { seat.new.view.core.makes ≡ seat.old.view.core.makes }
     ensures leaves { Leaves (with_found (found_by result) seat.old.view.core.owned)
         (seen_by P.seen seat.old) (seen_by P.seen seat.new) }
-    ensures why { IfErr result
-        (λ error. IsWhyUnloaded P.Kind.fits (as_part P.part domain.now) error
-        (seen_by P.seen seat.old)) }
+    ensures why { IfErr result (λ error. IsWhyUnread
+        (λ seen now. MissesItem P.Kind.fits (as_part P.part domain.now) next seen now
+        (seen_by P.seen seat.old) (seen_by P.seen seat.new)) error (seen_by P.seen seat.old)) }
     ensures spent { IfErr result (λ error. error ≡ unloaded.Spent → IsSpent seat.new.view.core) }
     ensures beside_part { HasBeside P.with_seen first_view seat.old seat.new }
     ensures room { HasRoom seat.new.view.core }
     ensures rest { IsAtRest domain.now seat.new }
 {
-    try_load::<QueueLaw, S, P, _>(domain, seat, Place::Field(next, 1), LearnItem)
+    let slots = domain.shape().slots;
+    try_load::<QueueLaw, S, P, _>(domain, seat, Place::Field(next, 1), SeeItem { slots })
+}
+
+/// What the head cell holds, where the node after one that it held has no item. It is another node by now.
+pub(crate) fn see_gone<S, P: HasQueue<S>>(
+    domain: &Domain<P>,
+    seat: &mut Seat<P>,
+    head: u32,
+    front: SlotId,
+    next: SlotId,
+) -> u64
+    requires rest { IsAtRest domain.now seat.old }
+    requires room { HasRoom seat.old.view.core }
+    requires head { head ≡ (P.part domain.now.protocol).head }
+    requires there { head < domain.now.shape.cells }
+    requires gone { SeesNone domain.now.shape.slots front next (seen_by P.seen seat.old) }
+    ensures looks { LooksAgain P.Kind.fits (as_part P.part domain.now) result
+        (seen_by P.seen seat.old) (seen_by P.seen seat.new) }
+    ensures other { result ≢ front.0 + 1 }
+    ensures client { (P.seen seat.new.view.client) ≡ (P.seen seat.old.view.client) }
+    ensures makes { seat.new.view.core.makes ≡ seat.old.view.core.makes }
+    ensures leaves { Leaves seat.old.view.core.owned (seen_by P.seen seat.old)
+        (seen_by P.seen seat.new) }
+    ensures beside_part { HasBeside P.with_seen first_view seat.old seat.new }
+    ensures room { HasRoom seat.new.view.core }
+    ensures rest { IsAtRest domain.now seat.new }
+{
+    let slots = domain.shape().slots;
+    let cell = EventPlace::Cell(head);
+    match look::<QueueLaw, S, P, _>(domain, seat, cell, SeeGone { slots }) {
+        Outcome::Found(found) => held_as(found),
+        _ => 0,
+    }
 }

@@ -1,7 +1,9 @@
 //! The exchange of the head cell, which decides a pop, and the step that follows it.
-ghost use Rattle.std.specs.Prelude.{◌≡◌, ◌<◌, IfErr, IfOk, OnErr, None, Some};
-ghost use Rattle.plain_state.specs.declared.act.EventPlace.TheVariants.{Cell, Field};
+ghost use Rattle.std.specs.Prelude.{◌≡◌, ◌<◌, ◌+◌, IfErr, IfOk, IfSome, OnErr, None};
+ghost use Rattle.plain_state.specs.declared.act.EventPlace.TheVariants.{Field};
+ghost use Rattle.plain_state.specs.Lists.{times};
 ghost use Rattle.core_events.specs.Steps.{HasRoom};
+ghost use Rattle.atomic_shared.specs.Places.{named};
 ghost use Rattle.control_word.specs.Resting.{IsAtRest, IsSpent};
 ghost use Rattle.linked_queue.specs.declared.queue.PopError.TheVariants as unpopped;
 ghost use Rattle.retiring_stores.specs.Exchanging.{Stores};
@@ -9,19 +11,20 @@ ghost use Rattle.queue_law.specs.Lessons.{TellsNothing};
 ghost use Rattle.queue_law.specs.Pops.{empty_next};
 ghost use Rattle.part_calls.specs.Parts.{HasBeside, as_part, seen_by};
 ghost use Rattle.queue_law.specs.Views.{first_view};
-ghost use Rattle.linked_queue.specs.Leaving.{Leaves};
-ghost use Rattle.linked_queue.specs.Pops.{HasEmptied, IsWhyUnpopped, Takes, item_in, popped_too};
+ghost use Rattle.linked_queue.specs.Leaving.{Leaves, found_by, with_found, without_found};
+ghost use Rattle.linked_queue.specs.Losses.{DropsFound, LosesHead, LosesWith};
+ghost use Rattle.linked_queue.specs.Pops.{HasEmptied, IsWhyLost, Takes, TakesWith, adds_of, item_in, popped_too, unpopped_by};
 ghost use Rattle.linked_queue.specs.Queues.{IsAttached, deeds_in};
-ghost use Rattle.linked_queue.specs.Seeing.{LooksAgain, SeesItem};
+ghost use Rattle.linked_queue.specs.Seeing.{SeesItem};
 ghost use Rattle.linked_queue.specs.UnlessRipe.{next_unless};
 
 use crate::queue::PopError;
+use crate::reading::see_content;
 use crate::unless_ripe::UnlessRipe;
-use acquire_retire::{Domain, EventPlace, Outcome, Seat, SlotId};
+use acquire_retire::{Domain, Seat, SlotId};
 use core_functions::held_as;
 use counted_handles::Strong;
-use part_calls::{Place, copy_strong, drop_strong, look, store, try_replace};
-use plain_protocol::Still;
+use part_calls::{LoadError, Place, copy_strong, drop_strong, store, try_replace};
 use queue_protocol::{EmptyDummy, HasQueue, QueueLaw, TakeItem};
 
 /// What a seat saw at the head of a queue: the slots of a node that the head cell held, of the next one, and of that
@@ -34,7 +37,7 @@ pub(crate) struct Sight {
 }
 
 /// The head cell gets the next node in place of the one that it held. Then the item is popped.
-pub(crate) fn take<S, P: HasQueue<S>>(
+fn take<S, P: HasQueue<S>>(
     domain: &Domain<P>,
     seat: &mut Seat<P>,
     head: u32,
@@ -55,9 +58,9 @@ pub(crate) fn take<S, P: HasQueue<S>>(
     ensures dummy { IfOk result (λ done. HasEmptied sight.next (seen_by P.seen seat.new)) }
     ensures refused { OnErr result (deeds_in (P.seen seat.new.view.client)
         ≡ deeds_in (P.seen seat.old.view.client)) }
-    ensures why { IfErr result
-        (λ error. IsWhyUnpopped P.Kind.fits (as_part P.part domain.now) 0 error
-        (seen_by P.seen seat.old)) }
+    ensures why { IfErr result (λ error. IsWhyLost (λ seen now. (seen ≡ sight.front.0 + 1)
+        × LosesHead P.Kind.fits (as_part P.part domain.now) sight.front sight.next now
+        (seen_by P.seen seat.old) (seen_by P.seen seat.new)) 0 error (seen_by P.seen seat.old)) }
     ensures makes { seat.new.view.core.makes ≡ seat.old.view.core.makes }
     ensures leaves { Leaves seat.old.view.core.owned (seen_by P.seen seat.old)
         (seen_by P.seen seat.new) }
@@ -90,8 +93,87 @@ pub(crate) fn take<S, P: HasQueue<S>>(
     })
 }
 
+/// The same, with a reference to what this field of the item holds, where a field is named; and the new dummy's item is
+/// cleared.
+pub(crate) fn take_with<S, P: HasQueue<S>>(
+    domain: &Domain<P>,
+    seat: &mut Seat<P>,
+    head: u32,
+    sight: Sight,
+    field: Option<u32>,
+) -> Result<Option<Strong>, PopError>
+    requires rest { IsAtRest domain.now seat.old }
+    requires room { HasRoom seat.old.view.core }
+    requires head { head ≡ (P.part domain.now.protocol).head }
+    requires there { head < domain.now.shape.cells }
+    requires attached { IsAttached (P.seen seat.old.view.client) }
+    requires sees { SeesItem sight.front sight.next sight.item (seen_by P.seen seat.old) }
+    requires field { IfSome field (λ f. f < 2) }
+    ensures takes { IfOk result (λ content. TakesWith P.Kind.fits (as_part P.part domain.now)
+        field sight.front sight.next sight.item (named content)
+        (seen_by P.seen seat.old) (seen_by P.seen seat.new)) }
+    ensures popped { IfOk result (λ content. deeds_in (P.seen seat.new.view.client)
+        ≡ popped_too (item_in (seen_by P.seen seat.old) sight.item)
+        (deeds_in (P.seen seat.old.view.client))) }
+    ensures refused { OnErr result (deeds_in (P.seen seat.new.view.client)
+        ≡ deeds_in (P.seen seat.old.view.client)) }
+    ensures why { IfErr result (λ error. IsWhyLost (λ seen now.
+        LosesWith P.Kind.fits (as_part P.part domain.now) field sight.front sight.next sight.item
+        seen now (seen_by P.seen seat.old) (seen_by P.seen seat.new)) (adds_of field) error
+        (seen_by P.seen seat.old)) }
+    ensures makes { seat.new.view.core.makes ≡ seat.old.view.core.makes }
+    ensures leaves { Leaves (with_found (found_by result) seat.old.view.core.owned)
+        (seen_by P.seen seat.old) (seen_by P.seen seat.new) }
+    ensures spent { IfErr result (λ error. error ≡ unpopped.Spent → IsSpent seat.new.view.core) }
+    ensures beside_part { HasBeside P.with_seen first_view seat.old seat.new }
+    ensures room { HasRoom seat.new.view.core }
+    ensures rest { IsAtRest domain.now seat.new }
+{
+    let content = match see_content(domain, seat, sight.item, field) {
+        Ok(content) => content,
+        Err(error) => return Err(refusal_of(error)),
+    };
+    if let Err(error) = take(domain, seat, head, sight) {
+        drop_found(domain, seat, content);
+        return Err(error);
+    }
+    empty(domain, seat, sight.next);
+    Ok(content)
+}
+
+/// The refusal of a pop whose load was refused.
+pub(crate) fn refusal_of(error: LoadError) -> PopError
+    ensures { result ≡ unpopped_by error }
+{
+    match error {
+        LoadError::Moved { seen, now } => PopError::Again { seen, now },
+        LoadError::Spent => PopError::Spent,
+    }
+}
+
+/// Gives up a reference that was found, if one was.
+fn drop_found<S, P: HasQueue<S>>(domain: &Domain<P>, seat: &mut Seat<P>, found: Option<Strong>)
+    requires rest { IsAtRest domain.now seat.old }
+    requires room { HasRoom seat.old.view.core }
+    requires found { IfSome found (λ strong. 0 < times strong.slot seat.old.view.core.owned) }
+    ensures drops { DropsFound P.Kind.fits (as_part P.part domain.now) (named found)
+        (seen_by P.seen seat.old) (seen_by P.seen seat.new) }
+    ensures client { (P.seen seat.new.view.client) ≡ (P.seen seat.old.view.client) }
+    ensures makes { seat.new.view.core.makes ≡ seat.old.view.core.makes }
+    ensures leaves { Leaves (without_found (named found) seat.old.view.core.owned)
+        (seen_by P.seen seat.old) (seen_by P.seen seat.new) }
+    ensures spent { IsSpent seat.old.view.core → IsSpent seat.new.view.core }
+    ensures beside_part { HasBeside P.with_seen first_view seat.old seat.new }
+    ensures room { HasRoom seat.new.view.core }
+    ensures rest { IsAtRest domain.now seat.new }
+{
+    if let Some(strong) = found {
+        drop_strong::<QueueLaw, S, P>(domain, seat, strong);
+    }
+}
+
 /// Clears the item of a node that the seat made the dummy.
-pub(crate) fn empty<S, P: HasQueue<S>>(domain: &Domain<P>, seat: &mut Seat<P>, dummy: SlotId)
+fn empty<S, P: HasQueue<S>>(domain: &Domain<P>, seat: &mut Seat<P>, dummy: SlotId)
     requires rest { IsAtRest domain.now seat.old }
     requires room { HasRoom seat.old.view.core }
     requires dummy { HasEmptied dummy (seen_by P.seen seat.old) }
@@ -113,30 +195,4 @@ pub(crate) fn empty<S, P: HasQueue<S>>(domain: &Domain<P>, seat: &mut Seat<P>, d
         None,
         UnlessRipe { deed: EmptyDummy },
     );
-}
-
-/// What the head cell holds.
-pub(crate) fn look_again<S, P: HasQueue<S>>(
-    domain: &Domain<P>,
-    seat: &mut Seat<P>,
-    head: u32,
-) -> u64
-    requires rest { IsAtRest domain.now seat.old }
-    requires room { HasRoom seat.old.view.core }
-    requires head { head ≡ (P.part domain.now.protocol).head }
-    requires there { head < domain.now.shape.cells }
-    ensures looks { LooksAgain P.Kind.fits (as_part P.part domain.now) result
-        (seen_by P.seen seat.old) (seen_by P.seen seat.new) }
-    ensures client { (P.seen seat.new.view.client) ≡ (P.seen seat.old.view.client) }
-    ensures makes { seat.new.view.core.makes ≡ seat.old.view.core.makes }
-    ensures leaves { Leaves seat.old.view.core.owned (seen_by P.seen seat.old)
-        (seen_by P.seen seat.new) }
-    ensures beside_part { HasBeside P.with_seen first_view seat.old seat.new }
-    ensures room { HasRoom seat.new.view.core }
-    ensures rest { IsAtRest domain.now seat.new }
-{
-    match look::<QueueLaw, S, P, _>(domain, seat, EventPlace::Cell(head), Still) {
-        Outcome::Found(found) => held_as(found),
-        _ => 0,
-    }
 }

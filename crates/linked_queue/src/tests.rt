@@ -131,6 +131,37 @@ fn a_pop_that_runs_out_of_adds_takes_nothing(rt: HostRuntime) -> Result<(), Fail
 }
 
 #[test]
+fn a_pop_reads_a_field_that_is_null(rt: HostRuntime) -> Result<(), Fail> {
+    let (domain, mut seat) = open_alone(&rt, 11)?;
+    let Ok(queue) = LinkedQueue::lay(&domain, &mut seat, 0, 1) else {
+        panic!(rt; "a queue")
+    };
+    let item = make_item(&domain, &mut seat).expect(&rt, "a free slot");
+    let slot = item.slot();
+    assert!(rt; queue.try_push(&domain, &mut seat, item).is_ok());
+    let Ok(Some((popped, content))) = queue.try_pop_with(&domain, &mut seat, 0) else {
+        panic!(rt; "an item")
+    };
+    assert_eq!(rt; popped.slot(), slot);
+    assert!(rt; content.is_none());
+    Ok(())
+}
+
+#[test]
+fn a_pop_that_cannot_read_takes_nothing(rt: HostRuntime) -> Result<(), Fail> {
+    let (domain, mut seat) = open_alone(&rt, 10)?;
+    let Ok(queue) = LinkedQueue::lay(&domain, &mut seat, 0, 1) else {
+        panic!(rt; "a queue")
+    };
+    let item = make_item(&domain, &mut seat).expect(&rt, "a free slot");
+    assert!(rt; queue.try_push(&domain, &mut seat, item).is_ok());
+    let Err(PopError::Spent) = queue.try_pop_with(&domain, &mut seat, 1) else {
+        panic!(rt; "no add for the content")
+    };
+    Ok(())
+}
+
+#[test]
 fn a_second_seat_pops_what_the_first_pushed(rt: HostRuntime) -> Result<(), Fail> {
     let (domain, mut seat, mut other) = open_pair(&rt)?;
     let Ok(queue) = LinkedQueue::lay(&domain, &mut seat, 0, 1) else {

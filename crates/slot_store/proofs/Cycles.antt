@@ -83,9 +83,7 @@ word_counts w live help some = grind (arith, nat_tests)
 
 module _ (z : Shape) (c : Core) (so : Sound z c)
     (left : (n : ℕ) → 0 < n → n < length c.views → (view_at c n).left ≡ true)
-    (idle : (view_at c 0).phase ≡ phase.Idle) (owned : (view_at c 0).owned ≡ [])
-    (retired : (view_at c 0).retired ≡ []) (owes_nothing : (view_at c 0).owed ≡ [])
-    (dying : (view_at c 0).dying ≡ []) where
+    (idle : (view_at c 0).phase ≡ phase.Idle) where
   -- a number of which neither seat 0 has any nor a seat that has left
   nobody : (f : CoreView → ℕ) → f (view_at c 0) ≡ 0
       → ((n : ℕ) → SeatLaw z n (view_at c n) → (view_at c n).left ≡ true → f (view_at c n) ≡ 0)
@@ -98,15 +96,36 @@ module _ (z : Shape) (c : Core) (so : Sound z c)
       gone n (so.seats n (omega arith)) (left n (omega arith) inside))
       (cases_eq n 0))
 
+  -- an object that lives is counted, where nobody is in a call
+  pub live_counted : (s : SlotId) → s.0 < z.slots → stage z c s ≡ Live → 0 < value (strong z c s)
+  live_counted s there live =
+      let pending = (sound_good z c so).pending s there in
+      let finish = none_finish in
+      word_counts (strong z c s) (live_word (signs z c s) live)
+      (helpless (has_help (strong z c s)) refl)
+      (λ zero. let ends = pending.ends zero in absurd (omega arith))
+    where
+      none_finish : finishers c s ≡ 0
+      none_finish = nobody (λ v. finishing s v.phase) (ap (finishing s) idle)
+          (λ n law gone. ap (finishing s) (law.gone gone).0)
+
+      none_help : helpers c s ≡ 0
+      none_help = nobody (λ v. helping s v.phase) (ap (helping s) idle)
+          (λ n law gone. ap (helping s) (law.gone gone).0)
+
+      helpless : (b : Bool) → has_help (strong z c s) ≡ b → has_help (strong z c s) ≡ false
+      helpless false is = is
+      helpless true is =
+          let helps = ((sound_good z c so).pending s there).helps is in
+          let finish = none_finish in
+          let help = none_help in absurd (omega arith)
+
+module _ (z : Shape) (c : Core) (so : Sound z c)
+    (left : (n : ℕ) → 0 < n → n < length c.views → (view_at c n).left ≡ true)
+    (idle : (view_at c 0).phase ≡ phase.Idle) (owned : (view_at c 0).owned ≡ [])
+    (retired : (view_at c 0).retired ≡ []) (owes_nothing : (view_at c 0).owed ≡ [])
+    (dying : (view_at c 0).dying ≡ []) where
   module _ (s : SlotId) (there : s.0 < z.slots) where
-    none_finish : finishers c s ≡ 0
-    none_finish = nobody (λ v. finishing s v.phase) (ap (finishing s) idle)
-        (λ n law gone. ap (finishing s) (law.gone gone).0)
-
-    none_help : helpers c s ≡ 0
-    none_help = nobody (λ v. helping s v.phase) (ap (helping s) idle)
-        (λ n law gone. ap (helping s) (law.gone gone).0)
-
     none_listed : (v : CoreView) → v.owned ≡ [] → v.retired ≡ [] → v.owed ≡ [] → listed Strong s v ≡ 0
     none_listed v first second third =
         let a = ap (times s) first in
@@ -116,33 +135,21 @@ module _ (z : Shape) (c : Core) (so : Sound z c)
         let empty = entry_none Strong s in omega arith
 
     none_owned : total (listed Strong s) c.views ≡ 0
-    none_owned = nobody (listed Strong s) (none_listed (view_at c 0) owned retired owes_nothing)
+    none_owned = nobody z c so left idle (listed Strong s)
+        (none_listed (view_at c 0) owned retired owes_nothing)
         (λ n law gone.
         let g = law.gone gone in none_listed (view_at c n) g.1 g.3 g.4)
 
     none_dying : dying_times c s ≡ 0
-    none_dying = nobody (λ v. times s v.dying) (ap (times s) dying ∙ times_none s)
+    none_dying = nobody z c so left idle (λ v. times s v.dying) (ap (times s) dying ∙ times_none s)
         (λ n law gone. ap (times s) (law.gone gone).5 ∙ times_none s)
 
     -- a place refers to an object that lives
     live_placed : stage z c s ≡ Live → 0 < places Strong z c.words s
     live_placed live =
-        let g = sound_good z c so in
-        let count = (g.counts s there).strong_count in
-        let pending = g.pending s there in
-        let finish = none_finish in
-        let help = none_help in
-        let nobody_owns = none_owned in
-        let by_word = live_word (signs z c s) live in
-        let some = word_counts (strong z c s) by_word (helpless (has_help (strong z c s)) refl)
-        (λ zero. let ends = pending.ends zero in absurd (omega arith)) in omega arith
-      where
-        helpless : (b : Bool) → has_help (strong z c s) ≡ b → has_help (strong z c s) ≡ false
-        helpless false is = is
-        helpless true is =
-            let helps = ((sound_good z c so).pending s there).helps is in
-            let finish = none_finish in
-            let help = none_help in absurd (omega arith)
+        let count = ((sound_good z c so).counts s there).strong_count in
+        let some = live_counted z c so left idle s there live in
+        let nobody_owns = none_owned in omega arith
 
   module _ (cells : (i : ℕ) → i < z.cells → slice_index c.words (cell_at z i) ≡ 0) where
     -- a field refers to it, of an object that lives

@@ -3,7 +3,9 @@ pub mod Copied
 pub mod Counted
 pub mod Interned
 pub mod Kept
+pub mod Missed
 pub mod Offered
 pub mod Passed
 pub mod Read
 pub mod Taken
+pub mod Unmade

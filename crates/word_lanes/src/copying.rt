@@ -1,11 +1,12 @@
 //! A copy of a reference to a record goes on the queue.
-ghost use Rattle.std.specs.Prelude.{◌≤◌, ◌<◌, ◌+◌, ◌∷◌, [], IfErr, OnErr, OnOk};
+ghost use Rattle.std.specs.Prelude.{◌≤◌, ◌<◌, ◌+◌, ◌∷◌, [], IfErr, OnErr, OnOk, Some};
 ghost use Rattle.plain_state.specs.Lists.{times};
 ghost use Rattle.directory_law.specs.Bytes.{text_bytes};
 ghost use Rattle.directory_law.specs.Payloads.{Text};
 ghost use Rattle.weak_intern.specs.Knowing.{Knows};
 ghost use Rattle.words_law.specs.Views.{View};
 ghost use Rattle.word_lanes.specs.Counting.{Counts, UsesInterns};
+ghost use Rattle.word_lanes.specs.Makes.{LacksMake};
 ghost use Rattle.word_lanes.specs.Ready.{IsReady, Owns};
 ghost use Rattle.word_lanes.specs.Whys.{IsWhyNotCopied};
 
@@ -24,7 +25,8 @@ use words_protocol::WordsLaw;
 
 /// Pushes one reference more to a record whose text the seat knows, and keeps its own. It is refused as `offer` is, and
 /// besides with `AddsSpent` where the seat has no add left for that reference. Then it has pushed nothing. One make at
-/// most, and one add more than `offer`. It may wait for other threads.
+/// most, and one add more than `offer`. After `MakesSpent` no make is used, and none is left; after `Full` none is used,
+/// and the domain was given more makes than it has slots. It may wait for other threads.
 pub fn offer_copy<R: Wait>(
     rt: &R,
     domain: &Domain<WordsLaw>,
@@ -44,6 +46,8 @@ pub fn offer_copy<R: Wait>(
         ⟦<PairKind<NodeKind, RecordKind> as PayloadKind>⟧.fits domain.now handle.now.slot why
         seat.old seat.new) }
     ensures makes { seat.new.view.core.makes ≤ seat.old.view.core.makes + 1 }
+    ensures lacks { IfErr result (λ why. LacksMake domain.now 0 (Some why)
+        seat.old.view.core seat.new.view.core) }
     ensures adds { seat.old.view.core.adds ≤ seat.new.view.core.adds }
     ensures interns { UsesInterns 0 seat.old.view.client seat.new.view.client }
     ensures ready { IsReady domain.now shared.now seat.new }

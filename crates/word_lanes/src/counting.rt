@@ -10,6 +10,7 @@ ghost use Rattle.directory_law.specs.Payloads.{Text};
 ghost use Rattle.weak_intern.specs.Knowing.{Knows, KnowsRecord};
 ghost use Rattle.words_law.specs.Views.{View};
 ghost use Rattle.word_lanes.specs.Counting.{Takes, UsesInterns};
+ghost use Rattle.word_lanes.specs.Makes.{LacksMake, cause_in};
 ghost use Rattle.word_lanes.specs.Pieces.{CountsPiece, IsWhyNotCounted, IsWhyNotPassed, PassesOn, used_by};
 ghost use Rattle.word_lanes.specs.Ready.{IsReady, Owns};
 
@@ -36,7 +37,8 @@ use words_protocol::WordsLaw;
 /// `Interning` comes with the cause of an intern, and then no intern is used and nothing pushed. `Offering` comes with
 /// the cause of `offer_copy`, and nothing is pushed then. `Taking` comes with the cause of `take_one`, and the piece
 /// was pushed then. After each the tally is as it was, and the seat owns what it owned. One make for each 120 bytes and
-/// one more, at most. Its steps are those of an intern, an `offer_copy` and a `take_one`. It may wait for other
+/// one more, at most; the last of these isn't used where a make is refused. Where that is `MakesSpent` no make is left,
+/// and where it is `Full` the domain was given more makes than it has slots. Its steps are those of an intern, an `offer_copy` and a `take_one`. It may wait for other
 /// threads.
 pub fn count_piece<R: Wait>(
     rt: &R,
@@ -63,6 +65,8 @@ pub fn count_piece<R: Wait>(
         seat.old seat.new tally.old tally.new) }
     ensures makes { seat.new.view.core.makes
         ≤ seat.old.view.core.makes + div_ceil (length piece.now) 120 + 1 }
+    ensures lacks { IfErr result (λ error. LacksMake domain.now (div_ceil (length piece.now) 120)
+        (cause_in error) seat.old.view.core seat.new.view.core) }
     ensures interns { UsesInterns (used_by result) seat.old.view.client seat.new.view.client }
     ensures owns { Owns (with_found (handle_by result) seat.old.view.core.owned)
         seat.old seat.new }
@@ -104,6 +108,8 @@ fn pass_on<R: Wait>(
         → IsWhyNotPassed ⟦<PairKind<NodeKind, RecordKind> as PayloadKind>⟧.fits domain.now
         (text_bytes text) handle.now.slot error seat.old seat.new tally.old tally.new) }
     ensures makes { seat.new.view.core.makes ≤ seat.old.view.core.makes + 1 }
+    ensures lacks { IfErr result (λ error. LacksMake domain.now 0 (cause_in error)
+        seat.old.view.core seat.new.view.core) }
     ensures interns { UsesInterns 0 seat.old.view.client seat.new.view.client }
     ensures owns { Owns seat.old.view.core.owned seat.old seat.new }
     ensures ready { IsReady domain.now shared.now seat.new }

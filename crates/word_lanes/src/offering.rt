@@ -1,9 +1,10 @@
 //! A record goes on the queue.
-ghost use Rattle.std.specs.Prelude.{◌≡◌, ◌≤◌, ◌<◌, ◌+◌, List, ℕ, [], ◌∷◌, IfErr, OnErr, OnOk};
+ghost use Rattle.std.specs.Prelude.{◌≡◌, ◌≤◌, ◌<◌, ◌+◌, List, ℕ, [], ◌∷◌, IfErr, OnErr, OnOk, Some};
 ghost use Rattle.plain_state.specs.Lists.{times};
 ghost use Rattle.core_events.specs.Views.{without};
 ghost use Rattle.directory_law.specs.Bytes.{text_bytes};
 ghost use Rattle.directory_law.specs.Payloads.{Text};
+ghost use Rattle.linked_queue.specs.Pushes.{UsesNone};
 ghost use Rattle.weak_intern.specs.Knowing.{Knows};
 ghost use Rattle.words_law.specs.Views.{View};
 ghost use Rattle.word_lanes.specs.Counting.{Counts, UsesInterns};
@@ -23,8 +24,8 @@ use words_protocol::WordsLaw;
 
 /// Pushes a record whose text the seat knows, and gives the seat's reference to it. It is refused as a push is:
 /// `MakesSpent` where the seat has no make left, `Full` where each slot of the domain was found taken, `AddsSpent`
-/// where no add is left. Then nothing is pushed, and the reference is handed back. One make at most. Its steps are
-/// those of a push. It may wait for other threads.
+/// where no add is left. Then nothing is pushed, and the reference is handed back. One make at most, and none after
+/// `MakesSpent` and `Full`. Its steps are those of a push. It may wait for other threads.
 pub fn offer<R: Wait>(
     rt: &R,
     domain: &Domain<WordsLaw>,
@@ -47,6 +48,8 @@ pub fn offer<R: Wait>(
         ⟦<PairKind<NodeKind, RecordKind> as PayloadKind>⟧.fits domain.now refused.why
         seat.old seat.new) }
     ensures makes { seat.new.view.core.makes ≤ seat.old.view.core.makes + 1 }
+    ensures unmade { IfErr result (λ refused. UsesNone (Some refused.why)
+        seat.old.view.core seat.new.view.core) }
     ensures adds { seat.old.view.core.adds ≤ seat.new.view.core.adds }
     ensures interns { UsesInterns 0 seat.old.view.client seat.new.view.client }
     ensures ready { IsReady domain.now shared.now seat.new }

@@ -3,7 +3,7 @@ use Rattle.std.specs.Prelude.{if◌then◌else◌}
 use Rattle.std.specs.List.{flat_map}
 use Rattle.std.proofs.Common.{◌≡◌, ◌≢◌, ◌⊎◌, ℕ, suc, ◌<◌, ◌≤◌, true, List, [], ◌∷◌, ◌++◌, length, map, get_or, refl, sym, ap, subst, ◌∙◌, arith, Some, None}
 use Rattle.std.proofs.lemmas.List.{append-nil}
-use Rattle.cdrc_text.specs.Fold.{times}
+use Rattle.cdrc_text.specs.Fold.{File, occurrences_in, times}
 use Rattle.plain_state.specs.State.{Plain, seat_at}
 use Rattle.plain_protocol.specs.Laws.{Meets}
 use Rattle.plain_protocol.specs.Owns.{is_alone}
@@ -24,7 +24,7 @@ use Rattle.directory_law.specs.Cells.{Area}
 use Rattle.words_law.specs.Views.{View, gone, queues, directories}
 use Rattle.words_law.specs.Law.{WasPushed, WordsLaw, head_of}
 use Rattle.words_law.specs.Texts.{HasAll, HasRootText, PushesAre, WordsAgree, all_kept, all_popped, all_pushed, text_of_item, word_times, words_of}
-use Rattle.words_law.specs.Fold.{File, added, gathered, occurrences_in, taken_pieces}
+use Rattle.words_law.specs.Fold.{added, gathered, taken_pieces}
 use Rattle.words_law.specs.Known.{KnowsText, KnowsTexts}
 use Rattle.words_law.proofs.Counts.{times_of_none, words_even}
 use Rattle.words_law.proofs.Known.{told_words}

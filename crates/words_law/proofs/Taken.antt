@@ -1,13 +1,12 @@
 -- What all seats took, and what all of them counted, add up.
-use Rattle.std.specs.Prelude.{cond, map, nat_lt, ◌==◌}
+use Rattle.std.specs.Prelude.{cond, ◌==◌}
 use Rattle.std.specs.List.{flat_map, sum_by}
 use Rattle.std.specs.Str.{bytes_eq}
 use Rattle.std.proofs.Common.{◌≡◌, ◌≢◌, ⊎_elim, ℕ, zero, suc, ◌+◌, ◌*◌, ◌<◌, ◌≤◌, Bool, true, false, List, [], ◌∷◌, ◌++◌, refl, ap, ◌∙◌, arith}
 use Rattle.std.proofs.lemmas.Bool.{cases_eq, eq-eqb, ne_eqb}
 use Rattle.std.proofs.lemmas.List.Sums.{sum_by-append, sum_by-cons}
-use Rattle.cdrc_text.specs.Fold.{holders_of, occurrences_of, times}
-use Rattle.cdrc_text.specs.Pieces.{pieces_of}
-use Rattle.words_law.specs.Fold.{File, added, again, gathered, holders_in, occurrences_in, taken_by, taken_pieces}
+use Rattle.cdrc_text.specs.Fold.{File, occurrences_in, times}
+use Rattle.words_law.specs.Fold.{added, again, gathered, taken_by, taken_pieces}
 
 times_append : (w : List ℕ) (xs ys : List (List ℕ)) → times w (xs ++ ys) ≡ times w xs + times w ys
 times_append w xs ys = sum_by-append (λ (x : List ℕ). cond (bytes_eq w x) 1 0) xs ys
@@ -119,24 +118,3 @@ taken_occurs w taker seats rounds files each =
     (λ n. times_again w rounds (flat (taken_by taker n 0 files))) seats
     ∙ (added_times rounds (λ n. times w (flat (taken_by taker n 0 files))) seats
     ∙ ap (λ m. rounds * m) (all_taken w taker seats each 0 files))
-
--- FILES OF BYTES, by the pieces that cdrc_text cuts
-sum_over : {A B : Type 0} (g : B → ℕ) (f : A → B) (xs : List A)
-    → sum_by g (map f xs) ≡ sum_by (λ x. g (f x)) xs
-sum_over g f [] = refl
-sum_over g f (x ∷ xs) =
-    let a = sum_by-cons g (f x) (map f xs) in
-    let b = sum_by-cons (λ x. g (f x)) x xs in
-    let i = sum_over g f xs in omega arith
-
-pub occurs_in_files : (w : List ℕ) (rounds : ℕ) (files : List (List ℕ))
-    → occurrences_in w rounds (map pieces_of files) ≡ occurrences_of w rounds files
-unfolding occurrences_of
-occurs_in_files w rounds files =
-    ap (λ n. rounds * n) (sum_over (λ (f : File). times w f) pieces_of files)
-
-pub held_in_files : (w : List ℕ) (files : List (List ℕ))
-    → holders_in w (map pieces_of files) ≡ holders_of w files
-unfolding holders_of
-held_in_files w files =
-    sum_over (λ (f : File). cond {A = ℕ} (nat_lt 0 (times w f)) 1 0) pieces_of files

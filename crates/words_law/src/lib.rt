@@ -31,4 +31,4 @@ pub use promises::{
     popped_items_were_pushed, slots_tell_words, the_root_knows_all,
     what_was_read_is_what_was_pushed, words_agree,
 };
-pub use shares::{counts_add_up, worked_reports};
+pub use shares::counts_add_up;

@@ -1,7 +1,7 @@
 //! What the law gives a caller.
 ghost use Rattle.std.specs.Prelude.{◌≡◌, ◌≢◌, ◌+◌, ◌<◌, ◌≤◌, ◌++◌, ◌==◌, ℕ, List, [], map, slice_index_or, true};
 ghost use Rattle.std.specs.List.{count_by};
-ghost use Rattle.cdrc_text.specs.Fold.{times};
+ghost use Rattle.cdrc_text.specs.Fold.{File, occurrences_in, times};
 ghost use Rattle.plain_state.specs.State.{Plain};
 ghost use Rattle.plain_protocol.specs.Laws.{Meets};
 ghost use Rattle.plain_protocol.specs.Owns.{is_alone};
@@ -24,7 +24,7 @@ ghost use Rattle.words_law.specs.Views.{View, directories, gone, queues};
 ghost use Rattle.words_law.specs.Law.{HasText, WasPopped, WasPushed, WordsLaw, head_of};
 ghost use Rattle.words_law.specs.Owned.{join_directories};
 ghost use Rattle.words_law.specs.Texts.{AllPieces, HasAll, HasOneText, HasRootText, IsAlive, IsLiving, IsOwnList, PushesAre, WordsAgree, all_kept, all_popped, all_pushed, text_of_item, word_of_item, word_times, words_of};
-ghost use Rattle.words_law.specs.Fold.{File, added, gathered, occurrences_in, taken_pieces};
+ghost use Rattle.words_law.specs.Fold.{added, gathered, taken_pieces};
 ghost use Rattle.words_law.specs.Known.{KnowsMore, KnowsText, KnowsTexts};
 
 /// Each item that was pushed has one text, which a view keeps for its slot, in its life. What a view tells of an

@@ -10,7 +10,7 @@ use Rattle.protocol_pairs.specs.Weights.{right_weight}
 use Rattle.directory_law.specs.Bytes.{bytes_of_words, low_bytes, part_bytes, piece_bytes, piece_weight, text_bytes}
 use Rattle.directory_law.specs.Payloads.{IsOwn, IsRest, IsText, Text, size}
 use Rattle.directory_law.specs.Views.{Each}
-use Rattle.words_law.specs.Fold.{slots_of_word}
+use Rattle.cdrc_text.specs.Text.{slots_of_word}
 
 low_length : (n word : ℕ) → length (low_bytes n word) ≡ n
 low_length zero word = refl

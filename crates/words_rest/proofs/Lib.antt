@@ -8,7 +8,10 @@ pub mod Lengths
 pub mod Added
 pub mod Chains
 pub mod Summed
+pub mod Told
+pub mod KeptWords
 pub mod Full
 pub mod Settled
 pub mod Ring
 pub mod RingLaw
+pub mod Reported

@@ -18,7 +18,7 @@ use Rattle.directory_law.specs.Bytes.{piece_weight, text_bytes}
 use Rattle.directory_law.specs.Payloads.{IsPart, IsText, Text}
 use Rattle.directory_law.specs.Views.{Each}
 use Rattle.plain_audit.specs.Audits.{if_live, live_bytes, live_slots}
-use Rattle.words_law.specs.Fold.{slots_of_word}
+use Rattle.cdrc_text.specs.Text.{slots_of_word}
 use Rattle.words_law.specs.Texts.{AllPieces, all_kept, text_in}
 use Rattle.words_law.specs.Views.{View, directories}
 use Rattle.words_rest.specs.Nodes.{HasNoNode}
@@ -40,10 +40,10 @@ abbrev pub record_at : Plain → List View → SlotId → List SlotId
 record_at p views s = chain p (text_at p views s) (Some s)
 
 -- LISTS. What is in a list is what it has some times
-member_here : (x : SlotId) (xs : List SlotId) → 0 < times x (x ∷ xs)
+pub member_here : (x : SlotId) (xs : List SlotId) → 0 < times x (x ∷ xs)
 member_here x xs = let all = times_cons x x xs in let one = held_self x in omega arith
 
-member_there : (x y : SlotId) (xs : List SlotId) → 0 < times y xs → 0 < times y (x ∷ xs)
+pub member_there : (x y : SlotId) (xs : List SlotId) → 0 < times y xs → 0 < times y (x ∷ xs)
 member_there x y xs some = let all = times_cons y x xs in omega arith
 
 -- a sum over the members

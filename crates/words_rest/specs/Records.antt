@@ -5,7 +5,7 @@ use Rattle.plain_state.specs.Lists.{times}
 use Rattle.plain_state.specs.State.{Plain, seat_at, slot_at}
 use Rattle.directory_law.specs.Bytes.{text_bytes}
 use Rattle.heap_audit.specs.declared.finding.Audit.{Audit}
-use Rattle.words_law.specs.Fold.{slots_of_word}
+use Rattle.cdrc_text.specs.Text.{slots_of_word}
 use Rattle.words_law.specs.Texts.{all_kept, text_in}
 use Rattle.words_law.specs.Views.{View, directories}
 

@@ -7,6 +7,9 @@
 //! So each head has just the references that seat 0 owns, what lives are the records of these heads and nothing else,
 //! and nothing lives where seat 0 owns nothing.
 //!
+//! Where the references that seat 0 owns are those that it kept for files, one to the record of each word of each file,
+//! each head has as many of them as there are files with its word, and the words of the heads are those of the files.
+//!
 //! Nothing here runs, and no step is promised to come: that a state rests is what a caller shows, as a settle ensures
 //! it.
 //!
@@ -15,10 +18,17 @@
 //! ```
 #![tactic(auto)]
 
+mod kept;
 mod nodes;
 mod records;
 mod rest;
+mod written;
 
+pub use kept::{
+    kept_references_are_heads, kept_references_count_files, one_word_one_slot,
+    words_of_kept_are_those_of_files,
+};
 pub use nodes::{a_node_may_hold_itself, no_node_is_left, nothing_is_unreached};
 pub use records::{audits_find_records, heads_are_counted, nothing_is_left, records_are_left};
 pub use rest::settled_states_rest;
+pub use written::what_is_left_is_the_report;

@@ -14,7 +14,7 @@ ghost use Rattle.directory_law.specs.Cells.{Area};
 ghost use Rattle.directory_law.specs.Law.{IsBound};
 ghost use Rattle.directory_law.specs.Payloads.{IsHead};
 ghost use Rattle.plain_audit.specs.Audits.{IsAudit, live_bytes, live_slots};
-ghost use Rattle.words_law.specs.Fold.{slots_of_word};
+ghost use Rattle.cdrc_text.specs.Text.{slots_of_word};
 ghost use Rattle.words_law.specs.Law.{WordsLaw, head_of};
 ghost use Rattle.words_law.specs.Texts.{AllPieces, IsAlive, all_kept, text_in, word_of_item};
 ghost use Rattle.words_law.specs.Views.{View, directories};

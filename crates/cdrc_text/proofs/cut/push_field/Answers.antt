@@ -35,7 +35,7 @@ pub returns-clause-ok : goal.returns-clause-ok
 returns-clause-ok c =
     let old = c.args.places.now.items in
     let run = run_at c.args.first c.args.end in
-    let all : c.loop-index.index ≡ div_ceil (c.args.end - c.args.first) 120 = omega arith in
+    let all : c.loop-index.index ≡ div_ceil (c.args.end - c.args.first) 4096 = omega arith in
     c.loop-index.invariant.pushed
     ∙ ap (λ n. old ++ map run (range_with_len 0 n)) all
     ∙ ap (λ places. old ++ places) (sym (cut_places-is c.args.first c.args.end))

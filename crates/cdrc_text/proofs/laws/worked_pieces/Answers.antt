@@ -7,13 +7,13 @@ pub returns-clause-places : goal.returns-clause-places
 unfolding computing places_of field_ends cut_places
 returns-clause-places c = refl
 
-pub returns-clause-full : goal.returns-clause-full
+pub returns-clause-one : goal.returns-clause-one
 unfolding computing pieces_of fields_of cut
-returns-clause-full c = refl
+returns-clause-one c = refl
 
-pub returns-clause-longer : goal.returns-clause-longer
-unfolding computing pieces_of fields_of cut
-returns-clause-longer c = refl
+pub returns-clause-long : goal.returns-clause-long
+unfolding cut
+returns-clause-long c = refl
 
 pub returns-clause-bytes : goal.returns-clause-bytes
 unfolding computing pieces_of fields_of cut

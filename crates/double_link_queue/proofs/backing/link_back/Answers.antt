@@ -1,5 +1,10 @@
+use Rattle.linked_queue.specs.UnlessRipe.{next_unless}
+use Rattle.queue_law.specs.Nodes.{back_next}
+use Rattle.queue_law.specs.Lessons.{TellsNothing}
+use Rattle.retiring_stores.specs.Exchanging.{Stores}
+use Rattle.plain_state.specs.declared.act.EventPlace.TheVariants.{WeakField}
 use Rattle.std.proofs.Common.{ap, ◌∙◌, subst, [], ◌∷◌, ◌++◌}
-use Rattle.std.specs.Prelude.{None}
+use Rattle.std.specs.Prelude.{None, Some}
 use Rattle.plain_state.specs.declared.slot.SlotId.{SlotId}
 use Rattle.core_events.specs.Views.{without}
 use Rattle.queue_law.specs.declared.view.View.{View}
@@ -42,3 +47,18 @@ returns-clause-leaves g c =
     c.in_ok-back.ensures.gained.1 c.weaken.ensures.objects)
     (subst (λ (s : SlotId). LeavesBoth mid.view.core.owned (without s mid.view.core.weaks) mid new)
     c.in_ok-back.ensures.gained.0 c.set_back.ensures.leaves)
+
+pub returns-clause-events : goal.returns-clause-events
+returns-clause-events g c =
+    let d = as_part g.P.Part.part c.args.domain.now in
+    let fits = g.P.Kind.PayloadKind.fits in
+    let before = seen_by g.P.Part.seen c.args.seat.now in
+    let weak = seen_by g.P.Part.seen c.weaken.new.seat in
+    let after = seen_by g.P.Part.seen c.set_back.new.seat in
+    record {
+      weak = weak;
+      weakens = c.in_ok-back.ensures.gained.1;
+      stores = subst (λ (s : SlotId). Stores fits d (next_unless back_next) TellsNothing
+          (WeakField c.args.node) (Some s) weak after)
+          c.in_ok-back.ensures.gained.0 c.set_back.ensures.events;
+    }

@@ -1,4 +1,8 @@
-use Rattle.std.proofs.Common.{ap, sym, ◌∙◌, subst, [], ◌∷◌, ◌++◌, arith}
+use Rattle.linked_queue.proofs.Linkings.{why_later, why_read}
+use Rattle.linked_queue.specs.PushLosses.{MissesTail}
+use Rattle.double_link_queue.specs.Steps.{LoadsTail, LosesLast, LosesTake}
+use Rattle.core_events.specs.declared.view.CoreView.{CoreView}
+use Rattle.std.proofs.Common.{ap, sym, ◌∙◌, subst, [], ◌∷◌, ◌++◌, arith, inl, inr, refl}
 use Rattle.std.specs.Prelude.{None, Option}
 use Rattle.atomic_shared.specs.Places.{named}
 use Rattle.core_events.specs.Views.{without}
@@ -6,13 +10,13 @@ use Rattle.core_invariant.proofs.Kit.{times_push}
 use Rattle.counted_handles.specs.Handles.{Handle}
 use Rattle.queue_law.specs.declared.view.View.{View}
 use Rattle.queue_law.specs.Pushes.{carried_item}
-use Rattle.part_calls.specs.Parts.{seen_by}
+use Rattle.part_calls.specs.Parts.{seen_by, as_part}
 use Rattle.linked_queue.specs.Leaving.{Leaves, with_found}
 use Rattle.linked_queue.proofs.Accepting.{may_still}
 use Rattle.linked_queue.proofs.Leavings.{drop_leaves, drop_spent}
 use Rattle.double_link_queue.specs.Pushes.{beside_back}
 use Rattle.double_link_queue.proofs.Backs.{load_kept}
-use Rattle.double_link_queue.proofs.Owning.{both_of, through_both}
+use Rattle.double_link_queue.proofs.Owning.{both_of, through_both, goes_on}
 use Rattle.double_link_queue.proofs.Takes.{load_on}
 use Rattle.double_link_queue.proofs.chaining.take_last.Goals as goal
 
@@ -69,3 +73,64 @@ returns-in-Err-take_tail-clause-spent g c = λ is.
     drop_spent c.in-Ok-Some.last.slot (seen_by g.P.Part.seen c.take_tail.new.seat)
     (seen_by g.P.Part.seen c.drop_strong.new.seat) c.drop_strong.ensures.dropped
     (c.in-Err-take_tail.ensures.spent is)
+
+pub returns-in-Err-clause-why : goal.returns-in-Err-clause-why
+returns-in-Err-clause-why g c =
+    let d = as_part g.P.Part.part c.args.domain.now in
+    let fits = g.P.Kind.PayloadKind.fits in
+    let before = seen_by g.P.Part.seen c.args.seat.now in
+    let loaded = seen_by g.P.Part.seen c.load_tail.new.seat in
+    why_read (λ seen now. MissesTail fits d seen now before loaded)
+    (λ seen now. LosesLast fits d c.args.node seen now before loaded) 5 c.in-Err.error before
+    (λ seen now m. inl m) c.in-Err.ensures.why
+
+pub returns-in-Err-take_tail-clause-why : goal.returns-in-Err-take_tail-clause-why
+returns-in-Err-take_tail-clause-why g c =
+    let d = as_part g.P.Part.part c.args.domain.now in
+    let fits = g.P.Kind.PayloadKind.fits in
+    let before = seen_by g.P.Part.seen c.args.seat.now in
+    let loaded = seen_by g.P.Part.seen c.load_tail.new.seat in
+    let lost = seen_by g.P.Part.seen c.take_tail.new.seat in
+    let after = seen_by g.P.Part.seen c.drop_strong.new.seat in
+    let gains = subst (λ (o : Option Handle). Leaves (with_found (named o) before.view.core.owned)
+    before loaded)
+    c.in-Ok-Some.field-0-is c.in-Ok-Some.ensures.leaves in
+    why_later (λ was now. LosesTake fits d c.in-Ok-Some.last.slot c.args.node was now loaded lost)
+    (λ was now. LosesLast fits d c.args.node was now before after) 4 5 1 refl
+    c.in-Err-take_tail.error before loaded c.load_tail.ensures.adds
+    (ap (λ (v : CoreView). v.quota.adds) gains.same)
+    (λ was now m. inr (record {
+      last = c.in-Ok-Some.last.slot;
+      loaded = loaded;
+      lost = lost;
+      loads = subst (λ (o : Option Handle). LoadsTail fits d (named o) before loaded)
+          c.in-Ok-Some.field-0-is c.in-Ok-Some.ensures.events;
+      loses = m;
+      drops = c.drop_strong.ensures.dropped;
+    }))
+    c.in-Err-take_tail.ensures.why
+
+pub returns-clause-events : goal.returns-clause-events
+returns-clause-events g c =
+    let d = as_part g.P.Part.part c.args.domain.now in
+    let fits = g.P.Kind.PayloadKind.fits in
+    let before = seen_by g.P.Part.seen c.args.seat.now in
+    let loaded = seen_by g.P.Part.seen c.load_tail.new.seat in
+    record {
+      loaded = loaded;
+      loads = subst (λ (o : Option Handle). LoadsTail fits d (named o) before loaded)
+          c.in-Ok-Some.field-0-is c.in-Ok-Some.ensures.events;
+      takes = c.in_default.ensures.events;
+    }
+
+pub returns-clause-leaves : goal.returns-clause-leaves
+returns-clause-leaves g c =
+    let old = seen_by g.P.Part.seen c.args.seat.now in
+    let mid = seen_by g.P.Part.seen c.load_tail.new.seat in
+    let late = seen_by g.P.Part.seen c.take_tail.new.seat in
+    let last = c.in-Ok-Some.last.slot in
+    let gains = subst (λ (o : Option Handle). Leaves (with_found (named o) old.view.core.owned) old
+    mid)
+    c.in-Ok-Some.field-0-is c.in-Ok-Some.ensures.leaves in
+    goes_on last None old mid late late (both_of (old.view.core.owned ++ last ∷ []) old mid gains)
+    c.take_tail.ensures.leaves

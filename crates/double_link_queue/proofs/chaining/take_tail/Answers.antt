@@ -1,4 +1,7 @@
-use Rattle.std.proofs.Common.{refl, sym, ap, ◌∙◌, subst, arith}
+use Rattle.linked_queue.specs.Pushes.{IsWhyUnlinked}
+use Rattle.linked_queue.proofs.Linkings.{why_later}
+use Rattle.double_link_queue.specs.Steps.{ExchangesTail, LosesExchange, LosesTake, MissesBack, TakesTail}
+use Rattle.std.proofs.Common.{refl, sym, ap, ◌∙◌, subst, arith, inl, inr}
 use Rattle.std.specs.Prelude.{IfOk, None}
 use Rattle.plain_state.specs.declared.slot.SlotId.{SlotId}
 use Rattle.core_events.specs.declared.view.CoreView.{CoreView}
@@ -11,7 +14,7 @@ use Rattle.double_link_queue.specs.Pushes.{CanExchange, IsInFlight, beside_back}
 use Rattle.double_link_queue.proofs.Owning.{both_of, nothing_then}
 use Rattle.double_link_queue.proofs.Pushings.{taken_deeds, untaken}
 use Rattle.double_link_queue.proofs.Takes.{attached_back, attached_on, both_leave, can_exchange, carried_still, load_on, tail_backed}
-use Rattle.double_link_queue.proofs.Whys.{on_err, why_later}
+use Rattle.double_link_queue.proofs.Whys.{on_err}
 use Rattle.double_link_queue.proofs.chaining.take_tail.Goals as goal
 
 pub help-requires-clause-attached : goal.help-requires-clause-attached
@@ -40,7 +43,7 @@ exchange-requires-clause-ready g c =
     (can_exchange last c.args.node (seen_by g.P.Part.seen c.args.seat.now)
     (seen_by g.P.Part.seen c.link_back.new.seat) c.requires.last c.requires.load
     c.link_back.ensures.leaves c.in-Ok.ensures.backed helped c.help.ensures.leaves
-    c.help.ensures.beside c.help.ensures.tail c.in_ok-help.ensures.helped)
+    c.help.ensures.beside c.help.ensures.tail c.in_default-help.ensures.helped)
 
 pub exchange-requires-clause-may : goal.exchange-requires-clause-may
 exchange-requires-clause-may g c =
@@ -103,14 +106,86 @@ returns-clause-load g c =
 
 pub returns-clause-why : goal.returns-clause-why
 returns-clause-why g c =
-    let fits = g.P.Kind.PayloadKind.fits in
     let d = as_part g.P.Part.part c.args.domain.now in
-    let old = seen_by g.P.Part.seen c.args.seat.now in
+    let fits = g.P.Kind.PayloadKind.fits in
+    let before = seen_by g.P.Part.seen c.args.seat.now in
+    let last = c.args.last.now.slot in
+    let backed = seen_by g.P.Part.seen c.link_back.new.seat in
     let helped = seen_by g.P.Part.seen c.help.new.seat in
+    let after = seen_by g.P.Part.seen c.exchange.new.seat in
     let first = c.link_back.ensures.adds in
     let second = c.help.ensures.adds in
-    then_err _ _ c.exchange.result
-    (λ error why. why_later fits d 0 4 4 refl error old helped (omega arith)
+    then_err (λ error. IsWhyUnlinked (λ was now.
+    LosesExchange fits d c.slot.result c.args.node was now helped after) 0 error helped)
+    (λ error. IsWhyUnlinked (λ was now. LosesTake fits d last c.args.node was now before after) 4
+    error before)
+    c.exchange.result
+    (λ error why. why_later
+    (λ was now. LosesExchange fits d c.slot.result c.args.node was now helped after)
+    (λ was now. LosesTake fits d last c.args.node was now before after) 0 4 4 refl error before
+    helped (omega arith)
     (ap (λ (v : CoreView). v.quota.adds)
-    (c.help.ensures.leaves.same ∙ c.link_back.ensures.leaves.same)) why)
+    (c.help.ensures.leaves.same ∙ c.link_back.ensures.leaves.same))
+    (λ was now m. record {
+      backed = backed;
+      links = c.in-Ok.ensures.events;
+      loses = inr (record {
+        helped = helped;
+        helps = c.in_default-help.ensures.events;
+        loses = subst (λ (s : SlotId). LosesExchange fits d s c.args.node was now helped after)
+            c.slot.ensures m;
+      });
+    })
+    why)
     c.exchange.ensures.why
+
+pub returns-in-Err-clause-why : goal.returns-in-Err-clause-why
+returns-in-Err-clause-why g c =
+    let d = as_part g.P.Part.part c.args.domain.now in
+    let fits = g.P.Kind.PayloadKind.fits in
+    let before = seen_by g.P.Part.seen c.args.seat.now in
+    let last = c.args.last.now.slot in
+    let backed = seen_by g.P.Part.seen c.link_back.new.seat in
+    let after = seen_by g.P.Part.seen c.help.new.seat in
+    why_later (λ was now. MissesBack fits d last was now backed after)
+    (λ was now. LosesTake fits d last c.args.node was now before after) 2 4 2 refl
+    c.in-Err.error before backed (let first = c.link_back.ensures.adds in omega arith)
+    (ap (λ (v : CoreView). v.quota.adds) c.link_back.ensures.leaves.same)
+    (λ was now m. record { backed = backed; links = c.in-Ok.ensures.events; loses = inl m })
+    c.in-Err.ensures.why
+
+pub returns-clause-events : goal.returns-clause-events
+returns-clause-events g c =
+    let d = as_part g.P.Part.part c.args.domain.now in
+    let fits = g.P.Kind.PayloadKind.fits in
+    let before = seen_by g.P.Part.seen c.args.seat.now in
+    let last = c.args.last.now.slot in
+    let helped = seen_by g.P.Part.seen c.help.new.seat in
+    let after = seen_by g.P.Part.seen c.exchange.new.seat in
+    then_ok (λ done. ExchangesTail fits d c.slot.result c.args.node helped after)
+    (λ done. TakesTail fits d last c.args.node before after) c.exchange.result
+    (λ done exchanges. record {
+      backed = seen_by g.P.Part.seen c.link_back.new.seat;
+      helped = helped;
+      links = c.in-Ok.ensures.events;
+      helps = c.in_default-help.ensures.events;
+      exchanges = subst (λ (s : SlotId). ExchangesTail fits d s c.args.node helped after)
+          c.slot.ensures exchanges;
+    })
+    c.exchange.ensures.events
+
+pub returns-in-Err-clause-leaves : goal.returns-in-Err-clause-leaves
+returns-in-Err-clause-leaves g c =
+    both_leave c.args.last.now.slot c.args.node (seen_by g.P.Part.seen c.args.seat.now)
+    (seen_by g.P.Part.seen c.link_back.new.seat) c.requires.last c.requires.load
+    c.link_back.ensures.leaves c.in-Ok.ensures.backed (seen_by g.P.Part.seen c.help.new.seat)
+    c.help.ensures.leaves c.help.ensures.beside
+
+pub returns-in-Err-clause-load : goal.returns-in-Err-clause-load
+returns-in-Err-clause-load g c =
+    load_on c.args.node (seen_by g.P.Part.seen c.args.seat.now)
+    (seen_by g.P.Part.seen c.help.new.seat) c.requires.load
+    (returns-in-Err-clause-leaves g c)
+    (untaken c.args.last.now.slot (g.P.Part.seen c.args.seat.now.view.client)
+    (g.P.Part.seen c.link_back.new.seat.view.client) (g.P.Part.seen c.help.new.seat.view.client)
+    c.in-Ok.ensures.backed c.help.ensures.beside)

@@ -15,7 +15,7 @@ use Rattle.part_calls.specs.Parts.{as_part, seen_by}
 use Rattle.linked_queue.specs.Leaving.{Leaves}
 use Rattle.linked_queue.proofs.Leavings.{exchange_leaves}
 use Rattle.double_link_queue.proofs.Accepting.{exchange_all}
-use Rattle.double_link_queue.proofs.Exchanges.{exchange_keeps, exchange_ready, flying, in_flight, lost_client, lost_tail, unexchanged}
+use Rattle.double_link_queue.proofs.Exchanges.{exchange_keeps, exchange_ready, flying, in_flight, lost_client, unexchanged}
 use Rattle.double_link_queue.proofs.exchanging.exchange.Goals as goal
 
 pub try_replace-requires-clause-expected : goal.try_replace-requires-clause-expected
@@ -68,6 +68,7 @@ returns-in-Ok-try_replace g c =
     let client = flying fits d last node old copied c.requires.ready copies
     c.copy_strong.ensures.seen c.copy_strong.ensures.objects new still replaces in
     record {
+      events = record { copied = copied; copies = copies; replaces = replaces };
       pushed = client;
       flight = in_flight fits d last node old copied c.requires.ready copies
           c.copy_strong.ensures.seen c.copy_strong.ensures.objects new still client;
@@ -103,6 +104,7 @@ returns g c =
     let handles : c.in-Some.given ≡ c.in-Ok.given = cc (both) in
     let back = ap (λ (h : Handle). h.slot) handles ∙ same in
     record {
+      events = tt;
       pushed = tt;
       flight = tt;
       refused = c.drop_strong.ensures.seen
@@ -114,9 +116,15 @@ returns g c =
           (subst (λ (s : SlotId). DropsStrong fits d s lost new) back c.drop_strong.ensures.dropped)
           (subst (λ (s : SlotId). KnowsStill (without_strong s lost.view.core) lost new) back
           c.drop_strong.ensures.objects);
-      why = inr (inr (lost_tail fits d last node old copied c.requires.ready copies
-          c.copy_strong.ensures.seen c.copy_strong.ensures.objects lost new c.in-Err.lost.now loses
-          c.held_as.result c.held_as.ensures));
+      why = record {
+        copied = copied;
+        lost = lost;
+        copies = copies;
+        expected = c.held_as.ensures;
+        loses = loses;
+        drops = subst (λ (s : SlotId). DropsStrong fits d s lost new) back
+            c.drop_strong.ensures.dropped;
+      };
       spent = λ is. absurd (cc (is));
       room = c.drop_strong.ensures.room c.try_replace.ensures.room;
       beside_part = c.drop_strong.ensures.beside ∙ c.try_replace.ensures.beside

@@ -1,4 +1,4 @@
-use Rattle.std.proofs.Common.{◌≡◌, refl, ap, sym, ◌∙◌, subst}
+use Rattle.std.proofs.Common.{◌≡◌, refl, ap, sym, ◌∙◌, subst, inl, inr}
 use Rattle.std.specs.Prelude.{None, Some}
 use Rattle.plain_state.specs.declared.act.EventPlace.TheVariants.{Field}
 use Rattle.counted_handles.specs.Handles.{Handle}
@@ -65,3 +65,22 @@ returns-in_default-clause-leaves g c =
     exchange_leaves (Field c.args.last 0) _ (Some c.args.node.slot) _
     (seen_by g.P.Part.seen c.args.seat.now) (seen_by g.P.Part.seen c.try_replace.new.seat) refl
     c.in_default.ensures.replaced.0 c.try_replace.ensures.objects
+
+pub returns-in-Some-clause-events : goal.returns-in-Some-clause-events
+returns-in-Some-clause-events g c =
+    let mid = seen_by g.P.Part.seen c.try_replace.new.seat in
+    let new = seen_by g.P.Part.seen c.drop_strong.new.seat in
+    let fits = g.P.Kind.PayloadKind.fits in
+    let d = as_part g.P.Part.part c.args.domain.now in
+    let both : Some c.in-Some.node ≡ Some c.args.node =
+    sym c.in-Some.is ∙ c.in-Err.ensures.back in
+    let handles : c.in-Some.node ≡ c.args.node = cc (both) in
+    inr (
+      c.in-Err.lost.now,
+      mid,
+      c.in-Err.ensures.lost,
+      subst (λ (h : Handle). DropsStrong fits d h.slot mid new) handles c.drop_strong.ensures.dropped,
+    )
+
+pub returns-in_default-clause-events : goal.returns-in_default-clause-events
+returns-in_default-clause-events g c = inl c.in_default.ensures.replaced.0

@@ -1,12 +1,16 @@
+use Rattle.protected_loads.specs.References.{Loads}
+use Rattle.atomic_shared.specs.Places.{named}
+use Rattle.plain_state.specs.declared.act.EventPlace.TheVariants.{Cell}
+use Rattle.std.specs.Prelude.{IfOk}
 use Rattle.queue_law.specs.Lessons.{learn_next}
 use Rattle.linked_queue.proofs.Accepting.{kept_all, learn_kept}
 use Rattle.part_calls.proofs.Seen.{rest_seen}
 use Rattle.part_calls.specs.Parts.{as_part, seen_by}
-use Rattle.std.proofs.Common.{inl, false, ap}
+use Rattle.std.proofs.Common.{false, ap, subst}
 use Rattle.linked_queue.specs.Cells.{TailTells}
 use Rattle.linked_queue.specs.Queues.{ends_of}
 use Rattle.linked_queue.specs.Pushes.{SeesTail}
-use Rattle.double_link_queue.specs.Pushes.{PushDiffers}
+use Rattle.linked_queue.specs.PushLosses.{MissesTail}
 use Rattle.linked_queue.proofs.CellLoads.{cell_seen, cell_sights, cell_there, not_null}
 use Rattle.linked_queue.proofs.Nodes.{sees_tail}
 use Rattle.counted_handles.specs.declared.place.Place.TheVariants as place
@@ -26,9 +30,12 @@ returns g c =
     (rest_seen g.P.Part.part g.P.Part.seen c.args.domain.now c.args.seat.now c.requires.rest)
     c.try_load.ensures.objects c.try_load.result (λ e. ap (seen_by g.P.Part.seen)
     (c.try_load.ensures.refused e))
-    c.try_load.ensures.spent.0 c.try_load.ensures.loaded c.try_load.ensures.moved (PushDiffers fits
-    d) (λ seen now m. inl m) in
+    c.try_load.ensures.spent.0 c.try_load.ensures.loaded c.try_load.ensures.moved (λ seen now.
+    MissesTail fits d seen now before after_try_load) (λ seen now m. m) in
     record {
+      events = subst (λ n. IfOk c.try_load.result (λ found. Loads fits d (Cell n) (learn_next false)
+          (TailTells (ends_of d)) (named found) before after_try_load)) c.requires.tail
+          c.try_load.ensures.loaded;
       there =
           cell_there fits d false (TailTells (ends_of d))
           d.protocol.tail c.args.tail c.requires.tail before after_try_load

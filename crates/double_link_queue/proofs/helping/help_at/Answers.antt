@@ -1,10 +1,11 @@
-use Rattle.std.proofs.Common.{true, refl, sym, ap, ◌∙◌, subst, ◌++◌, ◌∷◌, [], arith}
+use Rattle.double_link_queue.specs.Steps.{SetsLink}
+use Rattle.std.proofs.Common.{true, refl, sym, ap, ◌∙◌, subst, ◌++◌, ◌∷◌, [], arith, inr}
 use Rattle.std.specs.Prelude.{None}
 use Rattle.plain_state.specs.declared.slot.SlotId.{SlotId}
 use Rattle.core_events.specs.Views.{without}
 use Rattle.core_invariant.proofs.Kit.{times_push}
 use Rattle.queue_law.specs.Pushes.{helped_view}
-use Rattle.part_calls.specs.Parts.{seen_by}
+use Rattle.part_calls.specs.Parts.{seen_by, as_part}
 use Rattle.linked_queue.specs.Leaving.{Leaves}
 use Rattle.linked_queue.proofs.Leavings.{copy_leaves, leaves_same}
 use Rattle.linked_queue.proofs.Owning.{through}
@@ -59,3 +60,20 @@ returns-clause-tail g c =
     (notes_then old.view.client mid.view.client new.view.client c.is_set.ensures.notes
     (notes_help true mid.view.client new.view.client
     (c.set_link.ensures.client ∙ ap helped_view c.copy_strong.ensures.seen)))
+
+pub returns-clause-events : goal.returns-clause-events
+returns-clause-events g c =
+    let d = as_part g.P.Part.part c.args.domain.now in
+    let fits = g.P.Kind.PayloadKind.fits in
+    let before = seen_by g.P.Part.seen c.args.seat.now in
+    let looked = seen_by g.P.Part.seen c.is_set.new.seat in
+    let copied = seen_by g.P.Part.seen c.copy_strong.new.seat in
+    let after = seen_by g.P.Part.seen c.set_link.new.seat in
+    inr (record {
+      looked = looked;
+      copied = copied;
+      looks = c.is_set.ensures.events;
+      copies = c.in_ok-given.ensures.copied.1;
+      sets = subst (λ (s : SlotId). SetsLink fits d s c.args.before copied after)
+          c.in_ok-given.ensures.copied.0 c.set_link.ensures.events;
+    })

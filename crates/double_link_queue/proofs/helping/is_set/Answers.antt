@@ -26,3 +26,6 @@ returns-in-Found-clause-notes g c =
     set_notes g.P.Kind.PayloadKind.fits (as_part g.P.Part.part c.args.domain.now) c.args.last
     c.args.before (seen_by g.P.Part.seen c.args.seat.now) c.requires.before
     (seen_by g.P.Part.seen c.look.new.seat) c.look.result c.look.ensures.steps
+
+pub returns-in-Found-clause-events : goal.returns-in-Found-clause-events
+returns-in-Found-clause-events g c = (c.look.result, c.look.ensures.steps)

@@ -58,3 +58,10 @@ returns-in-Err-Ended-clause-leaves g c =
     c.args.back.now.slot (seen_by g.P.Part.seen c.args.seat.now) c.requires.back
     (seen_by g.P.Part.seen c.upgrade.new.seat) c.upgrade.ensures.objects
     (c.upgrade.ensures.ended (c.in-Err-Ended.is ∙ ap Err c.in-Err-Ended.field-0-is))
+
+pub returns-in-Ok-clause-events : goal.returns-in-Ok-clause-events
+returns-in-Ok-clause-events g c = c.in-Ok.ensures.upgraded
+
+pub returns-in-Err-Ended-clause-events : goal.returns-in-Err-Ended-clause-events
+returns-in-Err-Ended-clause-events g c =
+    c.upgrade.ensures.ended (c.in-Err-Ended.is ∙ ap Err c.in-Err-Ended.field-0-is)

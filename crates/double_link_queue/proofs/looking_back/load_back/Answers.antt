@@ -30,6 +30,7 @@ returns g c =
     (λ e. ap (seen_by g.P.Part.seen) (c.try_load_weak.ensures.refused e))
     c.try_load_weak.ensures.spent.0 c.try_load_weak.ensures.loaded c.try_load_weak.ensures.moved in
     record {
+      events = c.try_load_weak.ensures.loaded;
       none = all.2;
       sees = all.3;
       tail = all.0.3;

@@ -1,3 +1,6 @@
+use Rattle.atomic_shared.specs.Places.{named}
+use Rattle.double_link_queue.specs.Steps.{CountsBefore, UpgradesBack}
+use Rattle.acquire_retire.proofs.Wholes.{then_ok}
 use Rattle.std.proofs.Common.{ap, ◌∙◌, ◌≡◌}
 use Rattle.core_events.specs.Views.{without}
 use Rattle.queue_law.specs.declared.view.View.{View}
@@ -67,3 +70,20 @@ returns-clause-spent g c =
     c.args.back.slot (seen_by g.P.Part.seen c.count_before-found.new.seat)
     (seen_by g.P.Part.seen c.drop_weak.new.seat) c.drop_weak.ensures.dropped (spent is))
     c.count_before-found.ensures.spent
+
+pub returns-clause-events : goal.returns-clause-events
+returns-clause-events g c =
+    let d = as_part g.P.Part.part c.args.domain.now in
+    let fits = g.P.Kind.PayloadKind.fits in
+    let before = seen_by g.P.Part.seen c.args.seat.now in
+    let counted = seen_by g.P.Part.seen c.count_before-found.new.seat in
+    let after = seen_by g.P.Part.seen c.drop_weak.new.seat in
+    then_ok (λ found. CountsBefore fits d c.args.back.slot (named found) before counted)
+    (λ found. UpgradesBack fits d c.args.back.slot (named found) before after)
+    c.count_before-found.result
+    (λ found counts. record {
+      counted = counted;
+      counts = counts;
+      drops = c.drop_weak.ensures.dropped;
+    })
+    c.count_before-found.ensures.events

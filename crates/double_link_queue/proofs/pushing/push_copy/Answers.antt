@@ -1,7 +1,10 @@
-use Rattle.std.proofs.Common.{refl, sym, ◌++◌, ◌∷◌, []}
+use Rattle.linked_queue.specs.Pushes.{IsWhyUnlinked}
+use Rattle.double_link_queue.specs.Steps.{LosesNode}
+use Rattle.counted_handles.specs.declared.refusal.LoadError.{LoadError}
+use Rattle.std.proofs.Common.{refl, sym, ◌++◌, ◌∷◌, [], subst}
 use Rattle.std.specs.Prelude.{None}
 use Rattle.queue_law.specs.Pushes.{carried_item}
-use Rattle.part_calls.specs.Parts.{seen_by}
+use Rattle.part_calls.specs.Parts.{seen_by, as_part}
 use Rattle.linked_queue.specs.Pops.{item_in}
 use Rattle.linked_queue.proofs.Accepting.{may_still}
 use Rattle.double_link_queue.proofs.Leavings.{both_same}
@@ -48,3 +51,26 @@ returns-in-Err-clause-spent g c = λ is. c.in-Err.ensures.spent (cc (is))
 
 pub returns-in-Err-Spent-clause-spent : goal.returns-in-Err-Spent-clause-spent
 returns-in-Err-Spent-clause-spent g c = λ is. c.in-Err-Spent.ensures.spent c.in-Err-Spent.field-0-is
+
+pub returns-in-Ok-push_node-clause-events : goal.returns-in-Ok-push_node-clause-events
+returns-in-Ok-push_node-clause-events g c = record {
+  node = c.in-Ok.node.slot;
+  loaded = seen_by g.P.Part.seen c.load_node.new.seat;
+  loads = c.in-Ok.ensures.events;
+  pushes = c.in-Ok-push_node.ensures.events;
+}
+
+pub returns-in-Err-Moved-clause-why : goal.returns-in-Err-Moved-clause-why
+returns-in-Err-Moved-clause-why g c =
+    let d = as_part g.P.Part.part c.args.domain.now in
+    let fits = g.P.Kind.PayloadKind.fits in
+    let loaded = seen_by g.P.Part.seen c.load_node.new.seat in
+    let after = seen_by g.P.Part.seen c.push_node.new.seat in
+    record {
+      node = c.in-Ok.node.slot;
+      loaded = loaded;
+      loads = c.in-Ok.ensures.events;
+      loses = subst (λ (e : LoadError). IsWhyUnlinked
+          (λ was now. LosesNode fits d c.in-Ok.node.slot was now loaded after) 5 e loaded)
+          c.in-Err-Moved.field-0-is c.in-Err-Moved.ensures.why;
+    }

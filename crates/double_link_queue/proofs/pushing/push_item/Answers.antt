@@ -1,8 +1,8 @@
-use Rattle.std.proofs.Common.{ap, ◌∙◌}
+use Rattle.std.proofs.Common.{ap, ◌∙◌, arith}
 use Rattle.part_calls.specs.Parts.{seen_by}
 use Rattle.core_events.specs.Views.{without}
 use Rattle.linked_queue.specs.Queues.{deeds_in}
-use Rattle.linked_queue.proofs.Leavings.{drop_leaves}
+use Rattle.linked_queue.proofs.Leavings.{drop_leaves, drop_makes}
 use Rattle.double_link_queue.proofs.Owning.{both_of, nothing_gives}
 use Rattle.double_link_queue.proofs.pushing.push_item.Goals as goal
 
@@ -18,3 +18,22 @@ returns-in-Ok-clause-pushed g c =
           (drop_leaves item mid new c.drop_strong.ensures.dropped c.drop_strong.ensures.objects));
       deeds = ap deeds_in c.drop_strong.ensures.seen ∙ c.in-Ok.ensures.pushed;
     }
+
+pub returns-in-Ok-clause-events : goal.returns-in-Ok-clause-events
+returns-in-Ok-clause-events g c = record {
+  pushed = seen_by g.P.Part.seen c.push_copy.new.seat;
+  copy = c.in-Ok.ensures.events;
+  drops = c.drop_strong.ensures.dropped;
+}
+
+pub returns-in-Ok-clause-makes : goal.returns-in-Ok-clause-makes
+returns-in-Ok-clause-makes g c =
+    let same = drop_makes c.args.item.slot (seen_by g.P.Part.seen c.push_copy.new.seat)
+    (seen_by g.P.Part.seen c.drop_strong.new.seat) c.drop_strong.ensures.dropped in
+    let makes = c.push_copy.ensures.makes in omega arith
+
+pub returns-in-Ok-clause-makes_kept : goal.returns-in-Ok-clause-makes_kept
+returns-in-Ok-clause-makes_kept g c =
+    let same = drop_makes c.args.item.slot (seen_by g.P.Part.seen c.push_copy.new.seat)
+    (seen_by g.P.Part.seen c.drop_strong.new.seat) c.drop_strong.ensures.dropped in
+    let makes = c.push_copy.ensures.makes_kept in omega arith

@@ -1,6 +1,10 @@
+use Rattle.double_link_queue.specs.Waits.{TakesAtLast}
+use Rattle.double_link_queue.specs.Steps.{Lands}
+use Rattle.plain_state.specs.declared.slot.SlotId.{SlotId}
+use Rattle.std.proofs.Common.{subst, ◌∙◌}
 use Rattle.core_events.specs.Views.{without}
-use Rattle.part_calls.specs.Parts.{seen_by}
-use Rattle.linked_queue.proofs.Leavings.{drop_leaves, drop_spent}
+use Rattle.part_calls.specs.Parts.{seen_by, as_part}
+use Rattle.linked_queue.proofs.Leavings.{drop_leaves, drop_spent, drop_makes}
 use Rattle.double_link_queue.proofs.Owning.{both_of, gives_both, l_there, nothing_gives}
 use Rattle.double_link_queue.proofs.pushing_waits.push_at_last.Goals as goal
 
@@ -43,3 +47,27 @@ returns-in-Err-clause-why g c =
     drop_spent c.args.node.slot (seen_by g.P.Part.seen c.take_at_last.new.seat)
     (seen_by g.P.Part.seen c.drop_strong-in-Err.new.seat) c.drop_strong-in-Err.ensures.dropped
     c.in-Err.ensures.why
+
+pub returns-in-Ok-clause-events : goal.returns-in-Ok-clause-events
+returns-in-Ok-clause-events g c =
+    let d = as_part g.P.Part.part c.args.domain.now in
+    let fits = g.P.Kind.PayloadKind.fits in
+    let before = seen_by g.P.Part.seen c.args.seat.now in
+    let taken = seen_by g.P.Part.seen c.take_at_last.new.seat in
+    let landed = seen_by g.P.Part.seen c.land.new.seat in
+    record {
+      last = c.in-Ok.last.slot;
+      taken = taken;
+      landed = landed;
+      takes = subst (λ (s : SlotId). TakesAtLast fits d c.in-Ok.last.slot s before taken)
+          c.slot.ensures c.in-Ok.ensures.events;
+      lands = subst (λ (s : SlotId). Lands fits d s c.args.node.slot taken landed)
+          c.slot-in-Ok.ensures c.land.ensures.events;
+      drops = c.drop_strong.ensures.dropped;
+    }
+
+pub returns-in-Ok-clause-makes : goal.returns-in-Ok-clause-makes
+returns-in-Ok-clause-makes g c =
+    drop_makes c.in-Ok.last.slot (seen_by g.P.Part.seen c.land.new.seat)
+    (seen_by g.P.Part.seen c.drop_strong.new.seat) c.drop_strong.ensures.dropped
+    ∙ c.land.ensures.makes ∙ c.take_at_last.ensures.makes

@@ -51,3 +51,10 @@ loop-try-preserved g c =
 
 pub returns-in-Err-Spent-clause-why : goal.returns-in-Err-Spent-clause-why
 returns-in-Err-Spent-clause-why g c = c.in-Err-Spent.ensures.spent c.in-Err-Spent.field-0-is
+
+pub returns-in-Ok-clause-events : goal.returns-in-Ok-clause-events
+returns-in-Ok-clause-events g c = record {
+  before = seen_by g.P.Part.seen c.loop-try.seat;
+  lost = c.loop-try.invariant.5;
+  takes = c.in-Ok.ensures.events;
+}

@@ -1,4 +1,4 @@
-use Rattle.std.proofs.Common.{◌≤◌, ap, ◌∙◌, arith}
+use Rattle.std.proofs.Common.{ap, ◌∙◌, arith}
 use Rattle.std.specs.Prelude.{sum}
 use Rattle.lane_domain.proofs.Shapes.{interns_are}
 use Rattle.lane_domain.proofs.opening.law_of.Goals as goal

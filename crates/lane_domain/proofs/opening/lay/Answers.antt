@@ -3,10 +3,8 @@ use Rattle.std.proofs.lemmas.Result.{err_from_is_err_and}
 use Rattle.core_events.specs.declared.shape.Shape.{Shape}
 use Rattle.claim_law.specs.Claims.{makes_given}
 use Rattle.queue_law.specs.declared.view.Form.{Form}
-use Rattle.hand_queues.specs.Queues.{IsAnyOf, queue_in}
-use Rattle.word_lanes.specs.Whys.{queue_of}
 use Rattle.lane_domain.specs.Opened.{HasOnlyLaid}
-use Rattle.lane_domain.proofs.Laid.{few_slots_by, laid_ready, only_laid, queue_there, same_form}
+use Rattle.lane_domain.proofs.Laid.{few_slots_by, laid_ready, only_laid, same_form}
 use Rattle.lane_domain.proofs.opening.lay.Goals as goal
 
 pub returns-in_err-queue-clause-slots : goal.returns-in_err-queue-clause-slots

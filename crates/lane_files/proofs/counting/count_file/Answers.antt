@@ -1,9 +1,12 @@
-use Rattle.std.proofs.Common.{ℕ, ◌<◌, ◌≤◌, List, refl, sym, subst, ◌∙◌, arith}
+use Rattle.std.proofs.Common.{ℕ, ◌<◌, ◌≤◌, List, refl, sym, ap, subst, ◌∙◌, arith}
 use Rattle.std.proofs.lemmas.List.{take_more}
 use Rattle.std.proofs.lemmas.Result.{err_from_is_err_and}
 use Rattle.std.specs.Prelude.{length, slice_index_or, take, []}
+use Rattle.cdrc_text.specs.Text.{slots_of_word}
+use Rattle.word_lanes.specs.Makes.{LacksMake}
 use Rattle.lane_files.specs.Counting.{IsWhyStopped}
 use Rattle.lane_files.specs.Files.{pieces_in}
+use Rattle.lane_files.specs.Makes.{cause_at}
 use Rattle.lane_files.specs.Next.{CountsNext}
 use Rattle.lane_files.proofs.Counted.{IsCounted, begun, counted_none, counts_on, held_by, stopped_begun}
 use Rattle.lane_files.proofs.Pieces.{pieces_many, sized}
@@ -47,6 +50,11 @@ returns-in_err-count_next-clause-why g c =
           c.in_err-count_next.ensures.why.0);
       keeps = c.in_err-count_next.ensures.why.1;
       owns = c.in_err-count_next.ensures.why.2;
+      makes = let m = c.count_next.ensures.makes in
+          let e = ap slots_of_word c.piece.ensures in omega arith;
+      lacks = subst (λ w. LacksMake c.args.domain.now (slots_of_word w)
+          (cause_at c.in_err-count_next.field-0.0) c.loop-number.seat.view.core
+          c.count_next.new.seat.view.core) c.piece.ensures c.in_err-count_next.ensures.lacks;
     })
 
 pub loop-number-preserved : goal.loop-number-preserved

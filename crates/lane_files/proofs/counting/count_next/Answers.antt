@@ -1,4 +1,4 @@
-use Rattle.std.proofs.Common.{refl, sym, subst, [], ◌∷◌}
+use Rattle.std.proofs.Common.{refl, sym, subst, [], ◌∷◌, arith}
 use Rattle.std.proofs.lemmas.Result.{err_from_is_err_and}
 use Rattle.std.specs.Prelude.{cond}
 use Rattle.words_law.specs.Views.{View}
@@ -24,10 +24,26 @@ returns-in_err-keep-clause-why g c =
           c.in_err-keep.ensures.gives (λ x. refl),
     )
 
+pub returns-clause-makes : goal.returns-clause-makes
+returns-clause-makes g c =
+    let few = c.count_piece.ensures.makes in let keep = c.keep.ensures.makes in
+    let tidy = c.tidy.ensures.makes in omega arith
+
 pub returns-clause-counts : goal.returns-clause-counts
 returns-clause-counts g c =
     counts_next c.args.piece.now c.in_ok-handle.handle c.args.seat.now c.count_piece.new.seat
     c.keep.new.seat c.tidy.new.seat c.args.lane.now _ c.in_ok-handle.ensures.counts
     c.in_ok-handle.ensures.knows c.in_ok-handle.ensures.owns c.in_ok-handle.ensures.interns
     c.in_ok-keep.ensures.keeps c.keep.ensures.client c.tidy.ensures.owns c.tidy.ensures.client
-    c.requires.held
+    c.requires.held (returns-clause-makes g c)
+
+pub returns-in_err-handle-clause-lacks : goal.returns-in_err-handle-clause-lacks
+returns-in_err-handle-clause-lacks g c =
+    let p = err_from_is_err_and c.from_residual.result c.from_residual.ensures.1 in
+    rw (p.1, p.2) c.in_err-handle.ensures.lacks
+
+pub returns-in_err-keep-clause-lacks : goal.returns-in_err-keep-clause-lacks
+returns-in_err-keep-clause-lacks g c =
+    let p = err_from_is_err_and c.from_residual-in_err-keep.result
+    c.from_residual-in_err-keep.ensures.1 in
+    rw (p.1, p.2) tt

@@ -1,7 +1,7 @@
 use Rattle.std.proofs.Common.{◌∙◌, arith}
 use Rattle.word_lanes.proofs.Copied.{copy_ready}
 use Rattle.word_lanes.proofs.Kept.{owns_on}
-use Rattle.lane_files.proofs.Tidied.{collect_same, owns_collect, owns_reap, ready_collect}
+use Rattle.lane_files.proofs.Tidied.{collect_same, makes_collect, makes_reap, owns_collect, owns_reap, ready_collect}
 use Rattle.lane_files.proofs.tidying.tidy.Goals as goal
 
 pub loop-turn-init : goal.loop-turn-init
@@ -9,6 +9,7 @@ loop-turn-init g c = record {
   ready = ready_collect c.args.seat.now c.collect.new.seat c.requires.ready c.collect.ensures;
   client = collect_same c.args.seat.now c.collect.new.seat c.requires.ready c.collect.ensures;
   owns = owns_collect _ c.args.domain.now c.args.seat.now c.collect.new.seat c.collect.ensures;
+  makes = makes_collect _ c.args.domain.now c.args.seat.now c.collect.new.seat c.collect.ensures;
 }
 
 pub loop-turn-preserved : goal.loop-turn-preserved
@@ -22,4 +23,6 @@ loop-turn-preserved g c = record {
       c.reap.new.seat c.loop-turn.invariant.owns (λ x. omega arith)
       (owns_reap _ c.args.domain.now c.loop-turn.seat c.reap.new.seat _ c.reap.result
       c.reap.ensures.reaps c.reap.ensures.objects);
+  makes = makes_reap _ c.args.domain.now c.loop-turn.seat c.reap.new.seat _ c.reap.result
+      c.reap.ensures.reaps ∙ c.loop-turn.invariant.makes;
 }

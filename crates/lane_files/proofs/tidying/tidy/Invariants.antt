@@ -7,4 +7,5 @@ invariant-loop-turn g l = record {
   ready : IsReady l.domain l.shared l.seat;
   client : l.seat.view.client ≡ l.fn.seat.view.client;
   owns : Owns l.fn.seat.view.core.owned l.fn.seat l.seat;
+  makes : l.seat.view.core.makes ≡ l.fn.seat.view.core.makes;
 }

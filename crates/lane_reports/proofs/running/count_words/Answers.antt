@@ -7,8 +7,8 @@ use Rattle.core_invariant.proofs.Each.{length_each}
 use Rattle.core_invariant.proofs.Kit.{times_none}
 use Rattle.queue_law.specs.declared.view.View.{View as QueueView}
 use Rattle.lane_domain.specs.Opened.{fresh_seat}
-use Rattle.lane_threads.specs.Beginning.{CanBegin}
-use Rattle.lane_threads.proofs.Opened.{opened_begin}
+use Rattle.lane_domain.specs.Beginning.{CanBegin}
+use Rattle.lane_domain.proofs.SeatsOpened.{opened_begin}
 use Rattle.lane_reports.proofs.Begun.{as_many, lanes_did, under_none}
 use Rattle.lane_reports.proofs.Ran.{ran_many}
 use Rattle.lane_reports.proofs.Refused.{lane_why}
@@ -37,6 +37,7 @@ finish-requires-clause-bare g c =
         strongly = λ x. laid.owned x ∙ sym (times_none x);
         weakly = λ x. ap (times x) laid.weaks ∙ times_none x;
       };
+      tickets = laid.tickets;
       pushed = ap (λ (q : QueueView). q.pushed) laid.queue;
       popped = ap (λ (q : QueueView). q.popped) laid.queue;
       left = laid.left_seats;
@@ -66,4 +67,12 @@ returns-in_err-done-clause-why g c =
     rw (p.1, p.2)
     (lane_why _ opened.domain c.args.work.now c.args.lanes c.args.slots c.args.form
     c.in_ok-domain.ensures.domain opened.shared opened.seats.items c.in_ok-ends.ends.items _
-    c.in_ok-ends.ensures c.in_err-done.ensures.why)
+    c.in_ok-domain.ensures.seats c.in_ok-ends.ensures c.in_err-done.ensures.why)
+
+pub finish-requires-clause-some : goal.finish-requires-clause-some
+finish-requires-clause-some g c =
+    let opened = c.in_ok-domain.field-0 in
+    let done = ran_many c.in_ok-ends.ends.items c.in_ok-done.done.items c.in_ok-done.ensures.ran in
+    let many = as_many _ opened.domain opened.shared c.args.work.now c.args.lanes
+    opened.seats.items c.in_ok-ends.ends.items c.in_ok-domain.ensures.seats c.in_ok-ends.ensures in
+    let some = c.requires.lanes.0 in omega (arith, done, many, some)

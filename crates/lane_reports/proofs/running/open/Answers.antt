@@ -8,4 +8,4 @@ returns-in-Err-Full-clause-why c =
     let e : c.in-Err-Full.field-0 ≡ opened.Full c.in-Err-Full.unlaid = c.in-Err-Full.field-0-is in
     let why = subst (IsWhyNotOpened _ c.args.work.now c.args.lanes c.args.slots c.args.form) e
     c.in-Err-Full.ensures.why in
-    (c.in-Err-Full.unlaid.domain, why.0, inl (why.1, why.2))
+    (c.in-Err-Full.unlaid.domain, why.0, why.2, inl why.1)

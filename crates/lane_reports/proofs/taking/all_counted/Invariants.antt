@@ -1,6 +1,7 @@
-use Rattle.std.proofs.Common.{take}
-use Rattle.lane_reports.specs.Taking.{CountAtMost}
+use Rattle.std.proofs.Common.{◌≤◌, take}
+use Rattle.std.specs.List.{sum_by}
+use Rattle.cdrc_text.specs.Tally.{total_of}
 use Rattle.lane_reports.proofs.taking.all_counted.Given as goal
 
 abbrev pub invariant-loop-tally : goal.invariant-loop-tally
-invariant-loop-tally l = CountAtMost l.sum (take l.tally-index l.tallies)
+invariant-loop-tally l = l.sum ≤ sum_by total_of (take l.tally-index l.tallies)

@@ -1,5 +1,5 @@
 use Rattle.linked_queue.specs.Queues.{beside_eyes}
-use Rattle.std.proofs.Common.{[], ◌∷◌, ◌++◌, refl, ap, sym, ◌∙◌, subst, arith}
+use Rattle.std.proofs.Common.{[], ◌∷◌, ◌++◌, refl, ap, sym, ◌∙◌, subst, arith, inl, inr}
 use Rattle.std.specs.Prelude.{None}
 use Rattle.plain_state.specs.declared.slot.SlotId.{SlotId}
 use Rattle.core_events.specs.declared.view.CoreView.{CoreView}
@@ -13,6 +13,7 @@ use Rattle.linked_queue.proofs.Linkings.{why_later}
 use Rattle.linked_queue.proofs.Owning.{through}
 use Rattle.linked_queue.proofs.Poppings.{leaves_on, some_found}
 use Rattle.linked_queue.proofs.Pushings.{load_still}
+use Rattle.linked_queue.specs.PushLosses.{LosesEnd, LosesLast, LosesLink}
 use Rattle.linked_queue.proofs.chaining.link_last.Goals as goal
 
 pub link-requires-clause-load : goal.link-requires-clause-load
@@ -77,11 +78,38 @@ returns-in-Err-link-clause-refused g c =
     ap beside_eyes (c.drop_strong.ensures.seen ∙ c.in-Err-link.ensures.refused)
     ∙ c.find_last.ensures.beside
 
+pub returns-in-Err-clause-why : goal.returns-in-Err-clause-why
+returns-in-Err-clause-why g c =
+    let d = as_part g.P.Part.part c.args.domain.now in
+    let fits = g.P.Kind.PayloadKind.fits in
+    let before = seen_by g.P.Part.seen c.args.seat.now in
+    let after = seen_by g.P.Part.seen c.find_last.new.seat in
+    why_later (λ seen now. LosesEnd fits d seen now before after)
+    (λ seen now. LosesLast fits d c.args.node seen now before after) 2 3 1 refl c.in-Err.error before
+    before (omega arith) refl (λ seen now m. inl m) c.in-Err.ensures.why
+
 pub returns-in-Err-link-clause-why : goal.returns-in-Err-link-clause-why
 returns-in-Err-link-clause-why g c =
-    why_later g.P.Kind.PayloadKind.fits (as_part g.P.Part.part c.args.domain.now) 0 3 3 refl c.in-Err-link.error
-    (seen_by g.P.Part.seen c.args.seat.now) (seen_by g.P.Part.seen c.find_last.new.seat) c.find_last.ensures.adds
-    (ap (λ (v : CoreView). v.quota.adds) c.in-Ok.ensures.leaves.same) c.in-Err-link.ensures.why
+    let d = as_part g.P.Part.part c.args.domain.now in
+    let fits = g.P.Kind.PayloadKind.fits in
+    let before = seen_by g.P.Part.seen c.args.seat.now in
+    let found = seen_by g.P.Part.seen c.find_last.new.seat in
+    let lost = seen_by g.P.Part.seen c.link.new.seat in
+    let after = seen_by g.P.Part.seen c.drop_strong.new.seat in
+    why_later (λ was now. LosesLink fits d c.slot.result c.args.node was now found lost)
+    (λ was now. LosesLast fits d c.args.node was now before after) 0 3 3 refl c.in-Err-link.error
+    before found c.find_last.ensures.adds
+    (ap (λ (v : CoreView). v.quota.adds) c.in-Ok.ensures.leaves.same)
+    (λ was now m. inr (record {
+      last = c.in-Ok.last.slot;
+      found = found;
+      lost = lost;
+      finds = c.in-Ok.ensures.events;
+      loses = subst (λ (s : SlotId). LosesLink fits d s c.args.node was now found lost)
+          c.slot.ensures m;
+      drops = c.drop_strong.ensures.dropped;
+    }))
+    c.in-Err-link.ensures.why
 
 pub returns-clause-leaves : goal.returns-clause-leaves
 returns-clause-leaves g c =

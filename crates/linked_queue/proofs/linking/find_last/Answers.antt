@@ -1,5 +1,5 @@
 use Rattle.part_calls.specs.Parts.{as_part, seen_by}
-use Rattle.std.proofs.Common.{rules, false, inl, inr, ◌++◌, [], ◌∷◌, refl, ap, subst, arith, ◌∙◌}
+use Rattle.std.proofs.Common.{rules, false, inl, inr, ◌++◌, [], ◌∷◌, refl, ap, subst, arith, ◌∙◌, ℕ}
 use Rattle.std.specs.Prelude.{None, Option, Some}
 use Rattle.core_events.specs.declared.view.CoreView.{CoreView}
 use Rattle.counted_handles.specs.Handles.{Handle}
@@ -13,9 +13,10 @@ use Rattle.linked_queue.specs.Pushes.{Helps}
 use Rattle.linked_queue.specs.Queues.{ends_of}
 use Rattle.linked_queue.specs.Leaving.{Leaves, with_found}
 use Rattle.linked_queue.proofs.Leavings.{drop_adds, drop_leaves, drop_spent, leaves_same, drop_makes}
-use Rattle.linked_queue.proofs.Linkings.{tail_still}
+use Rattle.linked_queue.proofs.Linkings.{tail_still, why_later, why_read}
 use Rattle.linked_queue.proofs.Owning.{through}
 use Rattle.linked_queue.proofs.Poppings.{leaves_on, some_found}
+use Rattle.linked_queue.specs.PushLosses.{LosesEnd, MissesBehind, MissesTail}
 use Rattle.linked_queue.proofs.linking.find_last.Goals as goal
 
 pub returns-in-Ok-None-see_behind-clause-leaves : goal.returns-in-Ok-None-see_behind-clause-leaves
@@ -201,3 +202,62 @@ returns-in-Err-helped-clause-makes g c =
     ∙ drop_makes c.in-Ok-Some.old.slot (seen_by g.P.Part.seen c.help-helped.new.seat)
     (seen_by g.P.Part.seen c.drop_strong-2.new.seat) c.drop_strong-2.ensures.dropped
     ∙ c.help-helped.ensures.makes ∙ c.see_behind.ensures.makes ∙ c.load_tail.ensures.makes
+
+pub returns-in-Err-clause-why : goal.returns-in-Err-clause-why
+returns-in-Err-clause-why g c =
+    let d = as_part g.P.Part.part c.args.domain.now in
+    let fits = g.P.Kind.PayloadKind.fits in
+    let before = seen_by g.P.Part.seen c.args.seat.now in
+    let after = seen_by g.P.Part.seen c.load_tail.new.seat in
+    why_read (λ seen now. MissesTail fits d seen now before after)
+    (λ seen now. LosesEnd fits d seen now before after) 2 c.in-Err.error before (λ seen now m. inl m)
+    c.in-Err.ensures.why
+
+pub returns-in-Err-see_behind-clause-why : goal.returns-in-Err-see_behind-clause-why
+returns-in-Err-see_behind-clause-why g c =
+    let d = as_part g.P.Part.part c.args.domain.now in
+    let fits = g.P.Kind.PayloadKind.fits in
+    let before = seen_by g.P.Part.seen c.args.seat.now in
+    let tail = seen_by g.P.Part.seen c.load_tail.new.seat in
+    let missed = seen_by g.P.Part.seen c.see_behind.new.seat in
+    let after = seen_by g.P.Part.seen c.drop_strong.new.seat in
+    let gains = subst (λ (o : Option Handle). Leaves
+    (with_found (named o) c.args.seat.now.view.core.owned) before tail)
+    c.in-Ok-Some.field-0-is c.in-Ok-Some.ensures.leaves in
+    let misses = λ (was : ℕ) (now : ℕ). MissesBehind fits d c.slot.result was now tail missed in
+    why_later misses (λ was now. LosesEnd fits d was now before after) 1 2 1 refl
+    c.in-Err-see_behind.error before tail c.load_tail.ensures.adds
+    (ap (λ (v : CoreView). v.quota.adds) gains.same)
+    (λ was now m. inr (record {
+      first = c.in-Ok-Some.old.slot;
+      loaded = tail;
+      missed = missed;
+      loads = subst (λ (o : Option Handle). Loads fits d (Cell d.protocol.tail) (learn_next false)
+          (TailTells (ends_of d)) (named o) before tail)
+          c.in-Ok-Some.field-0-is c.in-Ok-Some.ensures.loads;
+      misses = subst (λ (s : SlotId). MissesBehind fits d s was now tail missed) c.slot.ensures m;
+      drops = c.drop_strong.ensures.dropped;
+    }))
+    (why_read misses misses 1 c.in-Err-see_behind.error tail (λ was now m. m)
+    c.in-Err-see_behind.ensures.why)
+
+pub returns-in-Err-helped-clause-why : goal.returns-in-Err-helped-clause-why
+returns-in-Err-helped-clause-why g c =
+    let d = as_part g.P.Part.part c.args.domain.now in
+    let fits = g.P.Kind.PayloadKind.fits in
+    let before = seen_by g.P.Part.seen c.args.seat.now in
+    let tail = seen_by g.P.Part.seen c.load_tail.new.seat in
+    let seen = seen_by g.P.Part.seen c.see_behind.new.seat in
+    let after = seen_by g.P.Part.seen c.drop_strong-in-Err-helped.new.seat in
+    let gains = subst (λ (o : Option Handle). Leaves
+    (with_found (named o) c.args.seat.now.view.core.owned) before tail)
+    c.in-Ok-Some.field-0-is c.in-Ok-Some.ensures.leaves in
+    let more = subst (λ (o : Option Handle). Leaves
+    (with_found (named o) c.load_tail.new.seat.view.core.owned) tail seen)
+    c.in-Ok-Some-see_behind.field-0-is c.in-Ok-Some-see_behind.ensures.leaves in
+    let one = c.load_tail.ensures.adds in
+    let two = c.see_behind.ensures.adds in
+    why_later (λ was now. ⊥) (λ was now. LosesEnd fits d was now before after) 0 2 2 refl
+    c.in-Err-helped.error before seen (omega arith)
+    (ap (λ (v : CoreView). v.quota.adds) (more.same ∙ gains.same))
+    (λ was now none. absurd none) c.in-Err-helped.ensures.why

@@ -2,7 +2,7 @@ use Rattle.plain_protocol.specs.Owns.{Object}
 use Rattle.linked_queue.proofs.Owning.{has_owned, owned_node}
 use Rattle.linked_queue.proofs.Accepting.{link_all}
 use Rattle.part_calls.specs.Parts.{as_part, seen_by}
-use Rattle.std.proofs.Common.{rules, ◌≡◌, inr, refl, ap, sym, ◌∙◌, subst, arith}
+use Rattle.std.proofs.Common.{rules, ◌≡◌, refl, ap, sym, ◌∙◌, subst, arith}
 use Rattle.std.specs.Prelude.{None, Some}
 use Rattle.plain_state.specs.declared.act.EventPlace.TheVariants.{Field}
 use Rattle.plain_state.specs.declared.slot.SlotId.{SlotId}
@@ -16,7 +16,7 @@ use Rattle.queue_law.specs.Lessons.{TellsNothing}
 use Rattle.queue_law.specs.Pushes.{link_next, carried_item}
 use Rattle.linked_queue.specs.Leaving.{Leaves}
 use Rattle.linked_queue.proofs.Leavings.{exchange_leaves}
-use Rattle.linked_queue.proofs.Linkings.{link_leaves, link_ready, linked_behind, linked_client, lost_link, more, unlinked}
+use Rattle.linked_queue.proofs.Linkings.{link_leaves, link_ready, linked_behind, linked_client, more, unlinked}
 use Rattle.linked_queue.proofs.linking.link.Goals as goal
 
 pub try_replace-requires-clause-open : goal.try_replace-requires-clause-open
@@ -104,10 +104,15 @@ returns g c =
           (seen_by g.P.Part.seen c.drop_strong.new.seat)) back c.drop_strong.ensures.dropped)
           (subst (λ (s : SlotId). KnowsStill (without_strong s c.try_replace.new.seat.view.core)
           (seen_by g.P.Part.seen c.try_replace.new.seat) (seen_by g.P.Part.seen c.drop_strong.new.seat)) back c.drop_strong.ensures.objects);
-      why = inr (inr (lost_link g.P.Kind.PayloadKind.fits (as_part g.P.Part.part c.args.domain.now) c.args.last c.args.node (seen_by g.P.Part.seen c.args.seat.now) (seen_by g.P.Part.seen c.copy_strong.new.seat)
-          c.requires.tail c.requires.load copies c.copy_strong.ensures.seen
-          c.copy_strong.ensures.objects (seen_by g.P.Part.seen c.try_replace.new.seat) (seen_by g.P.Part.seen c.drop_strong.new.seat)
-          c.in-Err.lost.now loses c.held_as.result c.held_as.ensures));
+      why = record {
+        copied = (seen_by g.P.Part.seen c.copy_strong.new.seat);
+        lost = (seen_by g.P.Part.seen c.try_replace.new.seat);
+        copies = copies;
+        expected = c.held_as.ensures;
+        loses = loses;
+        drops = subst (λ (s : SlotId). DropsStrong g.P.Kind.PayloadKind.fits (as_part g.P.Part.part c.args.domain.now) s (seen_by g.P.Part.seen c.try_replace.new.seat)
+            (seen_by g.P.Part.seen c.drop_strong.new.seat)) back c.drop_strong.ensures.dropped;
+      };
       room = c.drop_strong.ensures.room c.try_replace.ensures.room;
       beside_part = c.drop_strong.ensures.beside ∙ c.try_replace.ensures.beside
           ∙ c.copy_strong.ensures.beside;

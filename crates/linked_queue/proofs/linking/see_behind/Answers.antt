@@ -1,7 +1,7 @@
 use Rattle.linked_queue.proofs.Accepting.{kept_all}
 use Rattle.part_calls.proofs.Seen.{rest_seen}
 use Rattle.part_calls.specs.Parts.{as_part, seen_by}
-use Rattle.std.proofs.Common.{inl, inr, refl, ap}
+use Rattle.std.proofs.Common.{refl, ap}
 use Rattle.plain_state.specs.declared.act.EventPlace.TheVariants.{Field}
 use Rattle.acquire_retire.proofs.Wholes.{then_ok}
 use Rattle.atomic_shared.specs.Places.{named}
@@ -9,7 +9,8 @@ use Rattle.counted_handles.specs.declared.place.Place.TheVariants as place
 use Rattle.protected_loads.specs.References.{Loads}
 use Rattle.queue_law.specs.Lessons.{NextTells, next_next}
 use Rattle.linked_queue.specs.Queues.{ends_of}
-use Rattle.linked_queue.specs.Pushes.{PushDiffers, SeesBehind, SeesTail}
+use Rattle.linked_queue.specs.PushLosses.{MissesBehind}
+use Rattle.linked_queue.specs.Pushes.{SeesBehind, SeesTail}
 use Rattle.linked_queue.proofs.CellLoads.{found_sees}
 use Rattle.linked_queue.proofs.EndNodes.{sees_behind, still_tail}
 use Rattle.linked_queue.proofs.Sights.{sights}
@@ -24,8 +25,9 @@ returns g c =
     (NextTells (ends_of (as_part g.P.Part.part c.args.domain.now))) (λ own after v a w. refl) (seen_by g.P.Part.seen c.args.seat.now)
     (seen_by g.P.Part.seen c.try_load.new.seat) (rest_seen g.P.Part.part g.P.Part.seen c.args.domain.now c.args.seat.now c.requires.rest) c.try_load.ensures.objects c.try_load.result
     (λ e. ap (seen_by g.P.Part.seen) (c.try_load.ensures.refused e)) c.try_load.ensures.spent.0 c.try_load.ensures.loaded
-    c.try_load.ensures.moved (PushDiffers g.P.Kind.PayloadKind.fits (as_part g.P.Part.part c.args.domain.now))
-    (λ seen now m. inr (inl (c.args.old, ((seen_by g.P.Part.seen c.args.seat.now), (seen_by g.P.Part.seen c.try_load.new.seat), m)))) in
+    c.try_load.ensures.moved (λ seen now.
+    MissesBehind g.P.Kind.PayloadKind.fits (as_part g.P.Part.part c.args.domain.now) c.args.old seen now
+    (seen_by g.P.Part.seen c.args.seat.now) (seen_by g.P.Part.seen c.try_load.new.seat)) (λ seen now m. m) in
     record {
       loads = c.try_load.ensures.loaded;
       sees =

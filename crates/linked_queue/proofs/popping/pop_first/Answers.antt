@@ -1,58 +1,104 @@
-use Rattle.part_calls.specs.Parts.{as_part, seen_by}
-use Rattle.std.proofs.Common.{◌≡◌, ◌∙◌, ap, sym, subst}
+use Rattle.std.proofs.Common.{◌≡◌, ◌∙◌, inl, inr, ap, sym, subst, arith, ◌+◌}
 use Rattle.plain_state.specs.declared.slot.SlotId.{SlotId}
 use Rattle.acquire_retire.proofs.Wholes.{then_ok}
-use Rattle.atomic_shared.specs.Places.{named}
 use Rattle.control_word.specs.Resting.{IsSpent}
+use Rattle.part_calls.specs.Parts.{as_part, seen_by}
 use Rattle.linked_queue.specs.declared.queue.PopError.{PopError}
 use Rattle.linked_queue.specs.declared.queue.PopError.TheVariants as unpopped
-use Rattle.linked_queue.specs.Leaving.{found_by}
+use Rattle.linked_queue.specs.Losses.{IsWhyUnpopped, LosesAtHead, LosesBehind}
+use Rattle.linked_queue.specs.Pops.{IsWhyLost, PopsAtHeadWith, PopsBehind, adds_of, both_by, named_both}
 use Rattle.linked_queue.specs.Queues.{deeds_in}
-use Rattle.linked_queue.specs.Pops.{IsWhyUnpopped, PopsAtHead, PopsBehind}
+use Rattle.linked_queue.specs.Seeing.{MissesHead}
+use Rattle.linked_queue.proofs.Both.{both_left}
 use Rattle.linked_queue.proofs.Leavings.{drop_leaves, drop_spent, then_err}
-use Rattle.linked_queue.proofs.Poppings.{owns_found, pops_through, spent_by, why_of}
+use Rattle.linked_queue.proofs.Losings.{few_up, spent_by, why_of, why_up}
+use Rattle.linked_queue.proofs.Poppings.{pops_through}
 use Rattle.linked_queue.proofs.popping.pop_first.Goals as goal
 
 pub returns-in-Err-clause-why : goal.returns-in-Err-clause-why
 returns-in-Err-clause-why g c =
-    subst (λ (e : PopError). IsWhyUnpopped g.P.Kind.PayloadKind.fits (as_part g.P.Part.part c.args.domain.now) 3 e (seen_by g.P.Part.seen c.args.seat.now))
+    let d = as_part g.P.Part.part c.args.domain.now in
+    let fits = g.P.Kind.PayloadKind.fits in
+    let before = seen_by g.P.Part.seen c.args.seat.now in
+    let after = seen_by g.P.Part.seen c.see_head.new.seat in
+    subst (λ (e : PopError). IsWhyUnpopped fits d c.args.field (3 + adds_of c.args.field) e before
+    after)
     (sym c.refusal_of.ensures)
-    (why_of g.P.Kind.PayloadKind.fits (as_part g.P.Part.part c.args.domain.now) 3 c.in-Err.error (seen_by g.P.Part.seen c.args.seat.now) c.in-Err.ensures.why)
+    (why_of (λ seen now. MissesHead fits d seen now before after)
+    (λ seen now. LosesAtHead fits d c.args.field seen now before after)
+    (3 + adds_of c.args.field) c.in-Err.error before (λ seen now m. inl m) c.in-Err.ensures.why)
 
 pub drop_strong-requires-clause-owned : goal.drop_strong-requires-clause-owned
 drop_strong-requires-clause-owned g c =
-    let gains = c.in-Ok.ensures.leaves in
-    owns_found c.in-Ok.front.slot (found_by c.pop_behind-popped.result)
+    both_left c.in-Ok.front.slot (both_by c.pop_behind-popped.result)
     c.args.seat.now.view.core.owned c.see_head.new.seat.view.core.owned
-    c.pop_behind-popped.new.seat.view.core.owned gains.owns
+    c.pop_behind-popped.new.seat.view.core.owned c.in-Ok.ensures.leaves.owns
     c.pop_behind-popped.ensures.popped.leaves.owns
 
 pub returns-clause-events : goal.returns-clause-events
 returns-clause-events g c =
-    then_ok (λ found. PopsBehind g.P.Kind.PayloadKind.fits (as_part g.P.Part.part c.args.domain.now) c.slot.result (named found)
-    (seen_by g.P.Part.seen c.see_head.new.seat) (seen_by g.P.Part.seen c.pop_behind-popped.new.seat))
-    (λ found. PopsAtHead g.P.Kind.PayloadKind.fits (as_part g.P.Part.part c.args.domain.now) (named found) (seen_by g.P.Part.seen c.args.seat.now) (seen_by g.P.Part.seen c.drop_strong.new.seat))
+    let d = as_part g.P.Part.part c.args.domain.now in
+    let fits = g.P.Kind.PayloadKind.fits in
+    let before = seen_by g.P.Part.seen c.args.seat.now in
+    let seen = seen_by g.P.Part.seen c.see_head.new.seat in
+    let popped = seen_by g.P.Part.seen c.pop_behind-popped.new.seat in
+    let after = seen_by g.P.Part.seen c.drop_strong.new.seat in
+    then_ok (λ found. PopsBehind fits d c.args.field c.slot.result (named_both found) seen popped)
+    (λ found. PopsAtHeadWith fits d c.args.field (named_both found) before after)
     c.pop_behind-popped.result
     (λ found pops. record {
       front = c.in-Ok.front.slot;
-      seen = (seen_by g.P.Part.seen c.see_head.new.seat);
-      popped = (seen_by g.P.Part.seen c.pop_behind-popped.new.seat);
+      seen = seen;
+      popped = popped;
       loads = c.in-Ok.ensures.loads;
-      pops = subst (λ (s : SlotId). PopsBehind g.P.Kind.PayloadKind.fits (as_part g.P.Part.part c.args.domain.now) s (named found)
-          (seen_by g.P.Part.seen c.see_head.new.seat) (seen_by g.P.Part.seen c.pop_behind-popped.new.seat)) c.slot.ensures pops;
+      pops = subst (λ (s : SlotId). PopsBehind fits d c.args.field s (named_both found) seen popped)
+          c.slot.ensures pops;
       drops = c.drop_strong.ensures.dropped;
     })
     c.pop_behind-popped.ensures.events
 
 pub returns-clause-popped : goal.returns-clause-popped
 returns-clause-popped g c =
-    let gains = c.in-Ok.ensures.leaves in
-    pops_through c.in-Ok.front.slot (seen_by g.P.Part.seen c.args.seat.now) (seen_by g.P.Part.seen c.see_head.new.seat)
-    (seen_by g.P.Part.seen c.pop_behind-popped.new.seat) (seen_by g.P.Part.seen c.drop_strong.new.seat) (found_by c.pop_behind-popped.result)
-    gains (ap deeds_in c.see_head.ensures.beside) c.pop_behind-popped.ensures.popped
-    (drop_leaves c.in-Ok.front.slot (seen_by g.P.Part.seen c.pop_behind-popped.new.seat) (seen_by g.P.Part.seen c.drop_strong.new.seat)
-    c.drop_strong.ensures.dropped c.drop_strong.ensures.objects)
+    let popped = seen_by g.P.Part.seen c.pop_behind-popped.new.seat in
+    let after = seen_by g.P.Part.seen c.drop_strong.new.seat in
+    pops_through c.in-Ok.front.slot (seen_by g.P.Part.seen c.args.seat.now)
+    (seen_by g.P.Part.seen c.see_head.new.seat) popped after
+    (both_by c.pop_behind-popped.result) c.in-Ok.ensures.leaves
+    (ap deeds_in c.see_head.ensures.beside) c.pop_behind-popped.ensures.popped
+    (drop_leaves c.in-Ok.front.slot popped after c.drop_strong.ensures.dropped
+    c.drop_strong.ensures.objects)
     c.drop_strong.ensures.seen
+
+pub returns-clause-why : goal.returns-clause-why
+returns-clause-why g c =
+    let d = as_part g.P.Part.part c.args.domain.now in
+    let fits = g.P.Kind.PayloadKind.fits in
+    let before = seen_by g.P.Part.seen c.args.seat.now in
+    let seen = seen_by g.P.Part.seen c.see_head.new.seat in
+    let popped = seen_by g.P.Part.seen c.pop_behind-popped.new.seat in
+    let after = seen_by g.P.Part.seen c.drop_strong.new.seat in
+    let n = adds_of c.args.field in
+    then_err (λ error. IsWhyLost (λ was now.
+    LosesBehind fits d c.args.field c.slot.result was now seen popped) (2 + n) error seen)
+    (λ error. IsWhyUnpopped fits d c.args.field (3 + n) error before after)
+    c.pop_behind-popped.result
+    (λ error why. why_up
+    (λ was now. LosesBehind fits d c.args.field c.slot.result was now seen popped)
+    (λ was now. LosesAtHead fits d c.args.field was now before after) (2 + n) (3 + n) error before
+    seen
+    (λ was now loses. inr (record {
+      front = c.in-Ok.front.slot;
+      loaded = seen;
+      lost = popped;
+      loads = c.in-Ok.ensures.loads;
+      loses = subst (λ (s : SlotId). LosesBehind fits d c.args.field s was now seen popped)
+          c.slot.ensures loses;
+      drops = c.drop_strong.ensures.dropped;
+    }))
+    (few_up (2 + n) (3 + n) 1 before seen c.see_head.ensures.adds c.in-Ok.ensures.leaves.same
+    (omega arith))
+    why)
+    c.pop_behind-popped.ensures.why
 
 pub returns-in-Err-clause-spent : goal.returns-in-Err-clause-spent
 returns-in-Err-clause-spent g c = λ is.

@@ -1,10 +1,12 @@
-use Rattle.std.proofs.Common.{refl, subst}
+use Rattle.std.proofs.Common.{refl, subst, arith}
 use Rattle.plain_state.specs.declared.slot.SlotId.{SlotId}
 use Rattle.part_calls.specs.Parts.{as_part, seen_by}
 use Rattle.linked_queue.specs.Pushes.{Advances, Links}
 use Rattle.linked_queue.proofs.Leavings.{drop_leaves, drop_spent, leaves_same}
 use Rattle.linked_queue.proofs.Linkings.{then_gives}
 use Rattle.linked_queue.proofs.Pushings.{gives_both, l_there}
+use Rattle.linked_queue.specs.PushLosses.{LosesLast, LosesNode}
+use Rattle.linked_queue.proofs.Linkings.{why_later}
 use Rattle.linked_queue.proofs.pushing.push_node.Goals as goal
 
 pub drop_strong-requires-clause-owned : goal.drop_strong-requires-clause-owned
@@ -57,3 +59,20 @@ returns-in-Err-clause-spent g c = λ is.
     drop_spent c.args.node.slot (seen_by g.P.Part.seen c.link_last.new.seat)
     (seen_by g.P.Part.seen c.drop_strong-in-Err.new.seat) c.drop_strong-in-Err.ensures.dropped
     (c.in-Err.ensures.spent is)
+
+pub returns-in-Err-clause-why : goal.returns-in-Err-clause-why
+returns-in-Err-clause-why g c =
+    let d = as_part g.P.Part.part c.args.domain.now in
+    let fits = g.P.Kind.PayloadKind.fits in
+    let before = seen_by g.P.Part.seen c.args.seat.now in
+    let lost = seen_by g.P.Part.seen c.link_last.new.seat in
+    let after = seen_by g.P.Part.seen c.drop_strong-in-Err.new.seat in
+    why_later (λ was now. LosesLast fits d c.slot.result was now before lost)
+    (λ was now. LosesNode fits d c.args.node.slot was now before after) 3 3 0 refl c.in-Err.error
+    before before (omega arith) refl
+    (λ was now m. record {
+      lost = lost;
+      loses = subst (λ (s : SlotId). LosesLast fits d s was now before lost) c.slot.ensures m;
+      drops = c.drop_strong-in-Err.ensures.dropped;
+    })
+    c.in-Err.ensures.why

@@ -2,10 +2,10 @@ use Rattle.queue_law.specs.Lessons.{learn_next}
 use Rattle.linked_queue.proofs.Accepting.{kept_all, learn_kept}
 use Rattle.part_calls.proofs.Seen.{rest_seen}
 use Rattle.part_calls.specs.Parts.{as_part, seen_by}
-use Rattle.std.proofs.Common.{rules, inl, true, ap}
+use Rattle.std.proofs.Common.{rules, true, ap}
 use Rattle.linked_queue.specs.Cells.{HeadTells}
 use Rattle.linked_queue.specs.Queues.{ends_of}
-use Rattle.linked_queue.specs.Seeing.{Differs, SeesHead}
+use Rattle.linked_queue.specs.Seeing.{MissesHead, SeesHead}
 use Rattle.linked_queue.proofs.CellLoads.{cell_seen, cell_sights, cell_there, not_null}
 use Rattle.linked_queue.proofs.Nodes.{sees_head}
 use Rattle.counted_handles.specs.declared.place.Place.TheVariants as place
@@ -19,7 +19,8 @@ returns g c =
     let all = cell_sights g.P.Kind.PayloadKind.fits (as_part g.P.Part.part c.args.domain.now) true (HeadTells (ends_of (as_part g.P.Part.part c.args.domain.now)))
     (as_part g.P.Part.part c.args.domain.now).protocol.head c.args.head c.requires.head (seen_by g.P.Part.seen c.args.seat.now) (seen_by g.P.Part.seen c.try_load.new.seat)
     (rest_seen g.P.Part.part g.P.Part.seen c.args.domain.now c.args.seat.now c.requires.rest) c.try_load.ensures.objects c.try_load.result (λ e. ap (seen_by g.P.Part.seen) (c.try_load.ensures.refused e))
-    c.try_load.ensures.spent.0 c.try_load.ensures.loaded c.try_load.ensures.moved (Differs g.P.Kind.PayloadKind.fits (as_part g.P.Part.part c.args.domain.now)) (λ seen now m. inl m) in
+    c.try_load.ensures.spent.0 c.try_load.ensures.loaded c.try_load.ensures.moved (λ seen now. MissesHead g.P.Kind.PayloadKind.fits (as_part g.P.Part.part c.args.domain.now) seen now (seen_by g.P.Part.seen c.args.seat.now) (seen_by g.P.Part.seen c.try_load.new.seat))
+    (λ seen now m. m) in
     record {
       loads = search rules;
       there =

@@ -1,13 +1,13 @@
 use Rattle.linked_queue.proofs.Accepting.{kept_all}
 use Rattle.part_calls.proofs.Seen.{rest_seen}
 use Rattle.part_calls.specs.Parts.{as_part, seen_by}
-use Rattle.std.proofs.Common.{inl, inr, refl, ap}
+use Rattle.std.proofs.Common.{refl, ap}
 use Rattle.plain_state.specs.declared.act.EventPlace.TheVariants.{Field}
 use Rattle.counted_handles.specs.declared.place.Place.TheVariants as place
 use Rattle.protected_loads.specs.References.{Loads}
 use Rattle.queue_law.specs.Lessons.{NextTells, next_next}
 use Rattle.linked_queue.specs.Queues.{ends_of}
-use Rattle.linked_queue.specs.Seeing.{Differs, FindsLast, SeesNext}
+use Rattle.linked_queue.specs.Seeing.{FindsLast, MissesNext, SeesNext}
 use Rattle.linked_queue.proofs.CellLoads.{found_none, found_sees}
 use Rattle.linked_queue.proofs.Nodes.{finds_last, sees_next}
 use Rattle.linked_queue.proofs.Sights.{sights}
@@ -22,7 +22,8 @@ returns g c =
     (λ own after v a w. refl) (seen_by g.P.Part.seen c.args.seat.now) (seen_by g.P.Part.seen c.try_load.new.seat) (rest_seen g.P.Part.part g.P.Part.seen c.args.domain.now c.args.seat.now c.requires.rest)
     c.try_load.ensures.objects c.try_load.result (λ e. ap (seen_by g.P.Part.seen) (c.try_load.ensures.refused e))
     c.try_load.ensures.spent.0 c.try_load.ensures.loaded c.try_load.ensures.moved
-    (Differs g.P.Kind.PayloadKind.fits (as_part g.P.Part.part c.args.domain.now)) (λ seen now m. inr (inl (c.args.front, ((seen_by g.P.Part.seen c.args.seat.now), (seen_by g.P.Part.seen c.try_load.new.seat), m)))) in
+    (λ seen now. MissesNext g.P.Kind.PayloadKind.fits (as_part g.P.Part.part c.args.domain.now) c.args.front seen now (seen_by g.P.Part.seen c.args.seat.now) (seen_by g.P.Part.seen c.try_load.new.seat))
+    (λ seen now m. m) in
     record {
       loads = c.try_load.ensures.loaded;
       none =

@@ -1,6 +1,6 @@
 use Rattle.linked_queue.proofs.Accepting.{kept_all, take_kept}
 use Rattle.part_calls.specs.Parts.{as_part, seen_by}
-use Rattle.std.proofs.Common.{rules, ◌≡◌, ℕ, inl, inr, refl, ap, sym, ◌∙◌, subst}
+use Rattle.std.proofs.Common.{rules, ◌≡◌, ℕ, inl, refl, ap, sym, ◌∙◌, subst}
 use Rattle.std.specs.Prelude.{Some}
 use Rattle.plain_state.specs.declared.act.EventPlace.TheVariants.{Cell}
 use Rattle.plain_state.specs.declared.slot.SlotId.{SlotId}
@@ -14,7 +14,7 @@ use Rattle.queue_law.specs.Lessons.{TellsNothing}
 use Rattle.queue_law.specs.Pops.{take_next}
 use Rattle.linked_queue.specs.Leaving.{Leaves}
 use Rattle.linked_queue.proofs.Leavings.{exchange_leaves}
-use Rattle.linked_queue.proofs.Takings.{front_there, lost_to, take_ready, taken_deeds, taken_dummy, taken_leaves, unchanged}
+use Rattle.linked_queue.proofs.Takings.{front_there, take_ready, taken_deeds, taken_dummy, taken_leaves, unchanged}
 use Rattle.linked_queue.proofs.taking.take.Goals as goal
 
 pub try_replace-requires-clause-expected : goal.try_replace-requires-clause-expected
@@ -95,10 +95,17 @@ returns g c =
       refused = search rules;
       makes = search rules;
       spent = λ is. absurd (cc (is));
-      why = inl (inr (inr (inr (lost_to g.P.Kind.PayloadKind.fits (as_part g.P.Part.part c.args.domain.now) c.args.sight.front c.args.sight.next c.args.sight.item (seen_by g.P.Part.seen c.args.seat.now)
-          (seen_by g.P.Part.seen c.copy_strong.new.seat) c.requires.sees copies c.copy_strong.ensures.seen
-          c.copy_strong.ensures.objects (seen_by g.P.Part.seen c.try_replace.new.seat) (seen_by g.P.Part.seen c.drop_strong.new.seat)
-          c.in-Err.lost.now loses c.held_as.result c.held_as.ensures))));
+      why = (
+        c.held_as.ensures,
+        record {
+          copied = (seen_by g.P.Part.seen c.copy_strong.new.seat);
+          lost = (seen_by g.P.Part.seen c.try_replace.new.seat);
+          copies = copies;
+          loses = loses;
+          drops = subst (λ (s : SlotId). DropsStrong g.P.Kind.PayloadKind.fits (as_part g.P.Part.part c.args.domain.now) s (seen_by g.P.Part.seen c.try_replace.new.seat)
+              (seen_by g.P.Part.seen c.drop_strong.new.seat)) back c.drop_strong.ensures.dropped;
+        },
+      );
       leaves = unchanged g.P.Kind.PayloadKind.fits (as_part g.P.Part.part c.args.domain.now) c.args.sight.front c.args.sight.next c.args.sight.item (seen_by g.P.Part.seen c.args.seat.now)
           (seen_by g.P.Part.seen c.copy_strong.new.seat) c.requires.sees copies c.copy_strong.ensures.seen
           c.copy_strong.ensures.objects (seen_by g.P.Part.seen c.try_replace.new.seat) (seen_by g.P.Part.seen c.drop_strong.new.seat) c.in-Err.lost.now loses

@@ -6,6 +6,7 @@ use Rattle.word_lanes.proofs.Copied.{back_owns, copy_counts, copy_interns, copy_
 use Rattle.word_lanes.proofs.Counted.{counts_none}
 use Rattle.word_lanes.proofs.Offered.{texts}
 use Rattle.word_lanes.proofs.Kept.{owns_drop, uses_none, drop_counts, spent_drop}
+use Rattle.word_lanes.proofs.Unmade.{allows_same, copy_lacks}
 use Rattle.word_lanes.proofs.copying.offer_copy.Goals as goal
 
 pub returns-in_default-clause-refused : goal.returns-in_default-clause-refused
@@ -111,3 +112,15 @@ returns-in-Err-clause-adds g c =
     let adds = copy_adds _ c.args.domain.now c.args.handle.now.slot c.args.seat.now
     c.copy_strong.new.seat c.offer.new.seat c.in-Ok.ensures.copied.1 c.offer.ensures.adds in
     omega arith
+
+pub returns-in-Err-clause-lacks : goal.returns-in-Err-clause-lacks
+returns-in-Err-clause-lacks g c =
+    copy_lacks _ c.args.domain.now c.args.handle.now.slot c.in-Err.refused.why c.args.seat.now
+    c.copy_strong.new.seat c.offer.new.seat c.drop_strong.new.seat c.in-Ok.ensures.copied.1
+    c.in-Err.ensures.why c.in-Err.ensures.unmade
+    (allows_same c.copy_strong.new.seat c.offer.new.seat c.in-Err.ensures.kept)
+    (drop_counts _ c.args.domain.now c.in-Err.refused.back.slot c.offer.new.seat
+    c.drop_strong.new.seat c.drop_strong.ensures.dropped).1
+    (allows_same c.offer.new.seat c.drop_strong.new.seat
+    (owns_drop _ c.args.domain.now c.in-Err.refused.back.slot c.offer.new.seat
+    c.drop_strong.new.seat c.drop_strong.ensures.dropped c.drop_strong.ensures.objects))

@@ -1,9 +1,13 @@
 use Rattle.std.proofs.Common.{refl, sym, subst, arith}
+use Rattle.std.specs.Int.{div_ceil}
+use Rattle.std.specs.Prelude.{length}
 use Rattle.words_law.specs.Views.{View}
 use Rattle.word_lanes.specs.Counting.{UsesInterns}
+use Rattle.word_lanes.specs.Makes.{cause_in}
 use Rattle.word_lanes.proofs.Copied.{copy_ready}
 use Rattle.word_lanes.proofs.Kept.{owns_back, owns_drop, owns_on, spent_drop, uses_then, drop_counts}
 use Rattle.word_lanes.proofs.Passed.{had_more, piece_counts, piece_knows, piece_steps, piece_stops, piece_used, same_record, still_more}
+use Rattle.word_lanes.proofs.Unmade.{allows_same, intern_lacks, lacks_on}
 use Rattle.word_lanes.proofs.counting.count_piece.Goals as goal
 
 pub returns-in-Ok-pass_on-clause-counts : goal.returns-in-Ok-pass_on-clause-counts
@@ -105,3 +109,19 @@ returns-in-Err-pass_on-clause-makes g c =
     c.drop_strong.new.seat c.drop_strong.ensures.dropped).1 in
     let first = c.intern_piece.ensures.makes in
     let second = c.pass_on.ensures.makes in omega arith
+
+pub returns-in-Err-clause-lacks : goal.returns-in-Err-clause-lacks
+returns-in-Err-clause-lacks g c =
+    intern_lacks _ c.args.domain.now c.args.piece.now _ c.in-Err.why c.args.seat.now
+    c.intern_piece.new.seat c.in-Err.ensures.why c.intern_piece.ensures.makes
+
+pub returns-in-Err-pass_on-clause-lacks : goal.returns-in-Err-pass_on-clause-lacks
+returns-in-Err-pass_on-clause-lacks g c =
+    lacks_on c.args.domain.now (div_ceil (length c.args.piece.now) 120)
+    (cause_in c.in-Err-pass_on.error) c.args.seat.now c.intern_piece.new.seat c.pass_on.new.seat
+    c.drop_strong.new.seat c.intern_piece.ensures.makes c.in-Err-pass_on.ensures.lacks
+    (drop_counts _ c.args.domain.now c.in-Ok.handle.slot c.pass_on.new.seat
+    c.drop_strong.new.seat c.drop_strong.ensures.dropped).1
+    (allows_same c.pass_on.new.seat c.drop_strong.new.seat
+    (owns_drop _ c.args.domain.now c.in-Ok.handle.slot c.pass_on.new.seat
+    c.drop_strong.new.seat c.drop_strong.ensures.dropped c.drop_strong.ensures.objects))

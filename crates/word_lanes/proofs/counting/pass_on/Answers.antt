@@ -3,6 +3,7 @@ use Rattle.std.specs.Prelude.{Ok}
 use Rattle.directory_law.specs.Bytes.{text_bytes}
 use Rattle.word_lanes.proofs.Kept.{owns_on, uses_then}
 use Rattle.word_lanes.proofs.Passed.{ok_unless, passed}
+use Rattle.word_lanes.proofs.Unmade.{take_lacks}
 use Rattle.word_lanes.proofs.counting.pass_on.Goals as goal
 
 pub returns-in-Err-clause-why : goal.returns-in-Err-clause-why
@@ -42,3 +43,9 @@ pub returns-in-Err-take_one-clause-interns : goal.returns-in-Err-take_one-clause
 returns-in-Err-take_one-clause-interns g c =
     uses_then 0 0 c.args.seat.now.view.client c.offer_copy.new.seat.view.client
     c.take_one.new.seat.view.client c.offer_copy.ensures.interns c.take_one.ensures.interns
+
+pub returns-in-Err-take_one-clause-lacks : goal.returns-in-Err-take_one-clause-lacks
+returns-in-Err-take_one-clause-lacks g c =
+    take_lacks c.args.domain.now c.in-Err-take_one.why c.offer_copy.new.seat c.take_one.new.seat
+    c.args.tally.now c.take_one.new.tally c.in-Err-take_one.ensures.why
+    c.args.seat.now.view.core c.take_one.new.seat.view.core

@@ -1,5 +1,5 @@
 use Rattle.std.proofs.Common.{◌∙◌}
-use Rattle.words_law.proofs.Taken.{taken_occurs, times_gathered, occurs_in_files, held_in_files}
+use Rattle.words_law.proofs.Taken.{taken_occurs, times_gathered}
 use Rattle.words_law.specs.Fold.{taken_pieces}
 use Rattle.words_law.proofs.shares.counts_add_up.Goals as goal
 
@@ -9,6 +9,4 @@ returns c = record {
       times_gathered w (taken_pieces taker rounds files) seats
       ∙ taken_occurs w taker seats rounds files each;
   counted = times_gathered;
-  occurrences = occurs_in_files;
-  holders = held_in_files;
 }

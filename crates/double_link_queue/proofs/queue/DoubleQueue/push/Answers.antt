@@ -114,3 +114,13 @@ returns-in-Ok-push_at_last-clause-makes_kept g c =
     (seen_by g.P.Part.seen c.drop_strong.new.seat) c.drop_strong.ensures.dropped in
     let none = c.push_at_last.ensures.makes in
     let makes = c.load_node.ensures.makes_kept in omega arith
+
+pub returns-in-Ok-push_at_last-clause-events : goal.returns-in-Ok-push_at_last-clause-events
+returns-in-Ok-push_at_last-clause-events g c = record {
+  node = c.in-Ok.node.slot;
+  loaded = seen_by g.P.Part.seen c.load_node.new.seat;
+  pushed = seen_by g.P.Part.seen c.push_at_last.new.seat;
+  loads = c.in-Ok.ensures.events;
+  pushes = c.in-Ok-push_at_last.ensures.events;
+  drops = c.drop_strong.ensures.dropped;
+}

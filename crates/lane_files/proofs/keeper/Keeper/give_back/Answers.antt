@@ -1,6 +1,6 @@
 use Rattle.std.proofs.Common.{◌∷◌, ◌++◌, [], refl, sym, ap, ◌∙◌, arith, append-nil, append_assoc}
 use Rattle.word_lanes.proofs.Copied.{copy_ready}
-use Rattle.word_lanes.proofs.Kept.{owns_drop}
+use Rattle.word_lanes.proofs.Kept.{drop_counts, owns_drop}
 use Rattle.lane_files.proofs.Giving.{gives_next, gives_none, owned_next}
 use Rattle.lane_files.proofs.keeper.Keeper.give_back.Goals as goal
 
@@ -8,6 +8,7 @@ pub loop-self-init : goal.loop-self-init
 loop-self-init c = record {
   ready = c.requires.ready;
   client = refl;
+  makes = refl;
   first = c.requires.first;
   gone = ([], sym (append-nil c.args.self.now.kept.items), gives_none c.args.seat.now);
 }
@@ -34,6 +35,8 @@ loop-self-preserved c =
           (c.drop_strong.ensures.room c.loop-self.invariant.ready.room)
           c.drop_strong.ensures.rest;
       client = c.drop_strong.ensures.client ∙ c.loop-self.invariant.client;
+      makes = (drop_counts _ c.args.domain.now c.in-Some.handle.slot c.loop-self.seat
+          c.drop_strong.new.seat c.drop_strong.ensures.dropped).1 ∙ c.loop-self.invariant.makes;
       first = let t = c.loop-self-test.true in let e = c.len.ensures in
           let l = c.in-Some.ensures.len in omega (arith, t);
       gone = (

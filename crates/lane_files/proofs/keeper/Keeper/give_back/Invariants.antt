@@ -9,6 +9,7 @@ abbrev pub invariant-loop-self : goal.invariant-loop-self
 invariant-loop-self l = record {
   ready : IsReady l.domain l.shared l.seat;
   client : l.seat.view.client ≡ l.fn.seat.view.client;
+  makes : l.seat.view.core.makes ≡ l.fn.seat.view.core.makes;
   first : l.first ≤ vec_len l.self.kept;
   gone : (gone : List Handle) × (l.fn.self.kept.items ≡ l.self.kept.items ++ gone)
       × GivesUp (slots_of gone) l.fn.seat l.seat;

@@ -3,7 +3,7 @@ use Rattle.std.specs.Prelude.{◌==◌, cond}
 use Rattle.std.specs.HashSet.{contains_by}
 use Rattle.plain_state.specs.declared.slot.SlotId.{SlotId}
 use Rattle.counted_handles.specs.Handles.{Handle}
-use Rattle.word_lanes.proofs.Kept.{owns_drop}
+use Rattle.word_lanes.proofs.Kept.{drop_counts, owns_drop}
 use Rattle.lane_files.specs.Keeping.{has}
 use Rattle.lane_files.proofs.Keeping.{gives_one, keeps_one}
 use Rattle.lane_files.proofs.keeper.Keeper.keep.Goals as goal
@@ -29,3 +29,13 @@ returns-clause-keeps c =
     (λ s. c.in_default.ensures.marks s
     ∙ ap (λ (t : SlotId). cond (t.0 == s.0) true (has c.args.self.now s)) c.slot-slot.ensures)
     c.requires.owned refl
+
+pub returns-then-contains-clause-makes : goal.returns-then-contains-clause-makes
+returns-then-contains-clause-makes c =
+    (drop_counts _ c.args.domain.now c.args.handle.slot c.args.seat.now c.drop_strong.new.seat
+    c.drop_strong.ensures.dropped).1
+
+pub returns-in-Err-clause-makes : goal.returns-in-Err-clause-makes
+returns-in-Err-clause-makes c =
+    (drop_counts _ c.args.domain.now c.args.handle.slot c.args.seat.now c.drop_strong-in-Err.new.seat
+    c.drop_strong-in-Err.ensures.dropped).1

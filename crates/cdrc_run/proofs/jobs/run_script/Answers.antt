@@ -1,0 +1,31 @@
+use Rattle.std.proofs.Common.{List, ℕ, subst}
+use Rattle.std.proofs.lemmas.Result.{err_from_is_err_and}
+use Rattle.protocol_pairs.specs.Shares.{FitsItsPart}
+use Rattle.queue_protocol.specs.Nodes.{IsNodePayload}
+use Rattle.directory_law.specs.Bytes.{IsPiece}
+use Rattle.cdrc_scripts.specs.Domains.{IsScriptOn}
+use Rattle.cdrc_scripts.specs.Meaning.{IsScript}
+use Rattle.cdrc_run.proofs.Written.{script_output, script_why}
+use Rattle.cdrc_run.proofs.jobs.run_script.Goals as goal
+
+pub returns-in_err-content-clause-why : goal.returns-in_err-content-clause-why
+returns-in_err-content-clause-why g c =
+    let p = err_from_is_err_and c.from_residual.result c.from_residual.ensures.1 in
+    rw (p.1, p.2)
+    (script_why (FitsItsPart IsNodePayload IsPiece) (g.F.Files.told c.args.files.now) c.args.name.now _
+    c.in_err-content.field-0.0 c.in_err-content.ensures.why)
+
+pub returns-clause-output : goal.returns-clause-output
+returns-clause-output g c =
+    let content = c.in_ok-content.content.items in let done = c.in_ok-written.field-0 in
+    let bytes = done.written.text.items in let refused = done.written.refused in
+    script_output (g.F.Files.told c.args.files.now) c.args.name.now content bytes refused c.evidence.result
+    c.in_ok-content.ensures.content c.in_ok-content.ensures.within
+    (record {
+      means = subst (λ (t : List ℕ). IsScript t bytes refused) c.deref.ensures.value
+          c.in_ok-written.ensures.meaning;
+      seat = done.seat;
+      ran = subst (λ (t : List ℕ). IsScriptOn t bytes refused done.seat) c.deref.ensures.value
+          c.in_ok-written.ensures.on;
+      is = c.evidence.ensures;
+    })

@@ -1,0 +1,18 @@
+use Rattle.std.proofs.Common.{refl}
+use Rattle.protocol_pairs.specs.Shares.{FitsItsPart}
+use Rattle.queue_protocol.specs.Nodes.{IsNodePayload}
+use Rattle.directory_law.specs.Bytes.{IsPiece}
+use Rattle.cdrc_run.specs.Jobs.{job_of}
+use Rattle.cdrc_run.proofs.Ended.{ends_written}
+use Rattle.cdrc_run.proofs.Unread.{ends_without}
+use Rattle.cdrc_run.proofs.running.do_request.Goals as goal
+
+pub returns-in-Ok-clause-ends : goal.returns-in-Ok-clause-ends
+returns-in-Ok-clause-ends g c =
+    ends_written (FitsItsPart IsNodePayload IsPiece) (job_of c.args.request.now) _ _ c.written_end.result
+    c.in-Ok.output c.in-Ok.ensures.output c.written_end.ensures
+
+pub returns-in-Err-clause-ends : goal.returns-in-Err-clause-ends
+returns-in-Err-clause-ends g c =
+    ends_without (FitsItsPart IsNodePayload IsPiece) (job_of c.args.request.now) _ _ c.refused_end.result
+    refl c.in-Err.refusal c.in-Err.ensures.why c.refused_end.ensures

@@ -1,0 +1,146 @@
+//! What each job writes.
+ghost use Rattle.std.specs.Prelude.{◌≡◌, ◌≤◌, IfErr, IfOk, List, ℕ, length};
+ghost use Rattle.cdrc_run.specs.Jobs as jobs;
+ghost use Rattle.cdrc_run.specs.Jobs.{HasRanges, job_of};
+ghost use Rattle.cdrc_run.specs.Outputs.{IsOutputOf, IsWhyNoOutput, evidence};
+
+use crate::drawing::{count_drawn, draw_words};
+use crate::outcome::{Output, Why};
+use acquire_retire::Seat;
+use cdrc_scripts::{Scripted, Written, script};
+use cdrc_steps::steps;
+use command_line::{Request, WordsArgs};
+use deleter::Deleter;
+use directory_protocol::RecordKind;
+use lane_gate::{Files, Gate};
+use plain_protocol::NoLaw;
+use plain_state::PayloadKind;
+use protocol_pairs::PairKind;
+use queue_protocol::NodeKind;
+use script_desk::ScriptKind;
+use std::alloc::Global;
+use std::sync::Wait;
+use std::thread::Threads;
+use words_work::{WordsDone, WordsRefused, read_file, words_work};
+
+/// The most bytes of a file of lines.
+const MOST_BYTES: u64 = 67_108_864;
+
+/// The output of what the words of the command line ask for. It may wait for other threads.
+pub(crate) fn output_of<R: Threads + Wait + Sync, F: Files, G: Gate + Sync>(
+    rt: &R,
+    alloc: Global,
+    request: &Request,
+    files: &mut F,
+    gate: &G,
+) -> Result<Output, WordsRefused>
+    requires ranges { HasRanges request.now }
+    ensures output { IfOk result (λ output. IsOutputOf (job_of request.now) (F.told files.old)
+        output.text.items output.refused output.why) }
+    ensures why { IfErr result (IsWhyNoOutput
+        ⟦<PairKind<NodeKind, RecordKind> as PayloadKind>⟧.fits (job_of request.now)
+        (F.told files.old) (record {
+          faults = F.faults files.old;
+          faults_now = F.faults files.new;
+          overlong = F.overlong files.old;
+          overlong_now = F.overlong files.new;
+        })) }
+{
+    match request {
+        Request::Words(args) => count_files(rt, alloc, args, files, gate),
+        Request::Script(name) => run_script(alloc, name.as_str(), files),
+        Request::Steps(name) => run_steps(alloc, name.as_str(), files),
+        Request::Generate(draws) => Ok(draw_words(alloc, *draws)?),
+        Request::Bulk(drawn) => count_drawn(rt, alloc, *drawn, gate),
+    }
+}
+
+/// The text of files.
+fn count_files<R: Threads + Wait + Sync, F: Files, G: Gate + Sync>(
+    rt: &R,
+    alloc: Global,
+    args: &WordsArgs,
+    files: &mut F,
+    gate: &G,
+) -> Result<Output, WordsRefused>
+    requires ranges { HasRanges (Request.Words args.now) }
+    ensures output { IfOk result (λ output. IsOutputOf (job_of (Request.Words args.now))
+        (F.told files.old) output.text.items output.refused output.why) }
+    ensures why { IfErr result (IsWhyNoOutput
+        ⟦<PairKind<NodeKind, RecordKind> as PayloadKind>⟧.fits (job_of (Request.Words args.now))
+        (F.told files.old) (record {
+          faults = F.faults files.old;
+          faults_now = F.faults files.new;
+          overlong = F.overlong files.old;
+          overlong_now = F.overlong files.new;
+        })) }
+{
+    let weigh: Deleter<PairKind<NodeKind, RecordKind>, _> = Deleter::keep(|payload: &[u64; 16]| {
+        <PairKind<NodeKind, RecordKind> as PayloadKind>::weigh(payload)
+    });
+    let WordsDone {
+        bytes,
+        root,
+        tallies,
+    } = words_work(rt, alloc, args, files, gate, &weigh)?;
+    Ok(Output {
+        text: bytes,
+        refused: false,
+        why: Why::Words(root, tallies),
+    })
+}
+
+/// What a script writes.
+fn run_script<F: Files>(alloc: Global, name: &str, files: &mut F) -> Result<Output, WordsRefused>
+    ensures output { IfOk result (λ output. IsOutputOf (jobs.script name.now) (F.told files.old)
+        output.text.items output.refused output.why) }
+    ensures why { IfErr result (IsWhyNoOutput
+        ⟦<PairKind<NodeKind, RecordKind> as PayloadKind>⟧.fits (jobs.script name.now)
+        (F.told files.old) (record {
+          faults = F.faults files.old;
+          faults_now = F.faults files.new;
+          overlong = F.overlong files.old;
+          overlong_now = F.overlong files.new;
+        })) }
+{
+    let content = read_file(alloc, files, name, MOST_BYTES)?;
+    let Scripted { written, seat } = script(alloc, &content)?;
+    let Written { text, refused } = written;
+    Ok(Output {
+        text,
+        refused,
+        why: evidence(seat),
+    })
+}
+
+/// The evidence of a script.
+fn evidence(seat: Option<Seat<NoLaw<ScriptKind>>>) -> Why
+    ensures { result ≡ evidence seat }
+{
+    match seat {
+        Some(seat) => Why::Script(seat),
+        None => Why::Nothing,
+    }
+}
+
+/// What a list of steps writes.
+fn run_steps<F: Files>(alloc: Global, name: &str, files: &mut F) -> Result<Output, WordsRefused>
+    ensures output { IfOk result (λ output. IsOutputOf (jobs.steps name.now) (F.told files.old)
+        output.text.items output.refused output.why) }
+    ensures why { IfErr result (IsWhyNoOutput
+        ⟦<PairKind<NodeKind, RecordKind> as PayloadKind>⟧.fits (jobs.steps name.now)
+        (F.told files.old) (record {
+          faults = F.faults files.old;
+          faults_now = F.faults files.new;
+          overlong = F.overlong files.old;
+          overlong_now = F.overlong files.new;
+        })) }
+{
+    let content = read_file(alloc, files, name, MOST_BYTES)?;
+    let Written { text, refused } = steps(alloc, &content)?;
+    Ok(Output {
+        text,
+        refused,
+        why: Why::Nothing,
+    })
+}

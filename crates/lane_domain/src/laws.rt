@@ -1,0 +1,59 @@
+//! What is so of lanes in a domain that was opened for their work: their seats can begin, and which makes are refused.
+ghost use Rattle.std.specs.Prelude.{ℕ, ◌≤◌, All, ◌≡◌, ◌≢◌, ◌<◌, ◌+◌, ◌*◌, Some};
+ghost use Rattle.acquire_retire.specs.Domains.{DomainState};
+ghost use Rattle.acquire_retire.specs.Seats.{SeatState};
+ghost use Rattle.queue_law.specs.declared.view.Form.{Form};
+ghost use Rattle.words_law.specs.Views.{View};
+ghost use Rattle.words_protocol.specs.declared.law.WordsLaw.{WordsLaw};
+ghost use Rattle.word_lanes.specs.declared.shared.Shared.{Shared};
+ghost use Rattle.word_lanes.specs.Ready.{IsReady};
+ghost use Rattle.lane_files.specs.declared.work.Work.{Work};
+ghost use Rattle.lane_domain.specs.Opened.{IsDomainFor, fresh_lanes, fresh_seat};
+ghost use Rattle.lane_domain.specs.Sizes.{IsWithinLimits, most_slots, all_parts, all_pieces};
+ghost use Rattle.lane_domain.specs.Beginning.{CanBegin};
+ghost use Rattle.linked_queue.specs.Leaving.{Leaves};
+ghost use Rattle.slot_store.specs.declared.making.MakeError.TheVariants as unmade;
+ghost use Rattle.word_lanes.specs.Whys.{of_queue};
+ghost use Rattle.lane_files.specs.declared.lane.Lane.{Lane};
+ghost use Rattle.lane_files.specs.declared.refusal.LaneStop.{LaneStop};
+ghost use Rattle.lane_files.specs.Lanes.{StopsLane};
+ghost use Rattle.lane_files.specs.Makes.{HasItsMakes, cause_of};
+
+use directory_protocol::RecordKind;
+use plain_state::PayloadKind;
+use protocol_pairs::PairKind;
+use queue_protocol::NodeKind;
+
+/// The seats of the lanes as `open_lanes` answers them can begin, on what it answers with them.
+pub fn opened_seats_can_begin()
+    ensures { (work : Work) (lanes slots : ℕ) (form : Form) (d : DomainState WordsLaw)
+        (on : Shared) (root : SeatState View) → IsWithinLimits work → lanes ≤ 31 → 1 ≤ slots
+        → slots ≤ most_slots → IsDomainFor work lanes slots form d → IsReady d on root
+        → All (CanBegin d on) (fresh_lanes d lanes) }
+{}
+
+/// A seat of the domain as it was opened, which attached since then and made nothing, has its makes.
+pub fn attached_seats_have_makes()
+    ensures { (d : DomainState WordsLaw) (n : ℕ) (begun : SeatState View)
+        → Leaves (fresh_seat d n).view.core.owned (of_queue (fresh_seat d n)) (of_queue begun)
+        → begun.view.core.makes ≡ (fresh_seat d n).view.core.makes → HasItsMakes d begun }
+{}
+
+/// No lane that began with its makes stops for want of a make.
+pub fn lanes_have_makes()
+    ensures { (work : Work) (lanes slots : ℕ) (form : Form) (d : DomainState WordsLaw)
+        (stop : LaneStop) (begun seat : SeatState View) (before after : Lane)
+        → IsDomainFor work lanes slots form d → HasItsMakes d begun
+        → StopsLane ⟦<PairKind<NodeKind, RecordKind> as PayloadKind>⟧.fits d work stop begun seat
+        before after → cause_of stop ≢ Some unmade.MakesSpent }
+{}
+
+/// Where a lane stops since each slot was found taken, there are fewer slots than makes: those of all tickets, and two.
+pub fn full_domains_lack_slots()
+    ensures { (work : Work) (lanes slots : ℕ) (form : Form) (d : DomainState WordsLaw)
+        (stop : LaneStop) (begun seat : SeatState View) (before after : Lane)
+        → IsDomainFor work lanes slots form d
+        → StopsLane ⟦<PairKind<NodeKind, RecordKind> as PayloadKind>⟧.fits d work stop begun seat
+        before after → cause_of stop ≡ Some unmade.Full
+        → slots < work.rounds * (all_pieces work + all_parts work) + 2 }
+{}

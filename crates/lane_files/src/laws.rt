@@ -1,0 +1,35 @@
+//! Which makes are refused to lanes.
+ghost use Rattle.std.specs.Prelude.{◌≡◌, ◌≢◌, ◌<◌, Some};
+ghost use Rattle.acquire_retire.specs.Domains.{DomainState};
+ghost use Rattle.acquire_retire.specs.Seats.{SeatState};
+ghost use Rattle.claim_law.specs.Claims.{makes_given};
+ghost use Rattle.slot_store.specs.declared.making.MakeError.TheVariants as unmade;
+ghost use Rattle.words_law.specs.Views.{View};
+ghost use Rattle.words_protocol.specs.declared.law.WordsLaw.{WordsLaw};
+ghost use Rattle.lane_files.specs.declared.lane.Lane.{Lane};
+ghost use Rattle.lane_files.specs.declared.refusal.LaneStop.{LaneStop};
+ghost use Rattle.lane_files.specs.declared.work.Work.{Work};
+ghost use Rattle.lane_files.specs.Lanes.{StopsLane};
+ghost use Rattle.lane_files.specs.Makes.{GrantsMakes, HasItsMakes, cause_of};
+
+use directory_protocol::RecordKind;
+use plain_state::PayloadKind;
+use protocol_pairs::PairKind;
+use queue_protocol::NodeKind;
+
+/// Where each ticket grants the makes for its file, no lane stops for want of a make.
+pub fn lanes_have_makes()
+    ensures { (d : DomainState WordsLaw) (work : Work) (stop : LaneStop)
+        (old new : SeatState View) (before after : Lane) → GrantsMakes d.terms.grants work
+        → HasItsMakes d old
+        → StopsLane ⟦<PairKind<NodeKind, RecordKind> as PayloadKind>⟧.fits d work stop old new
+        before after → cause_of stop ≢ Some unmade.MakesSpent }
+{}
+
+/// Where a lane stops since each slot was found taken, the domain was given more makes than it has slots.
+pub fn full_domains_lack_slots()
+    ensures { (d : DomainState WordsLaw) (work : Work) (stop : LaneStop)
+        (old new : SeatState View) (before after : Lane)
+        → StopsLane ⟦<PairKind<NodeKind, RecordKind> as PayloadKind>⟧.fits d work stop old new
+        before after → cause_of stop ≡ Some unmade.Full → d.shape.slots < makes_given d.terms }
+{}

@@ -1,5 +1,0 @@
-use Rattle.lane_gathering.proofs.Alike.{all_alike}
-use Rattle.lane_gathering.proofs.laws.lanes_keep_files.Goals as goal
-
-pub returns : goal.returns
-returns c = all_alike

@@ -1,4 +1,0 @@
-pub mod Deeds
-pub mod Gathering
-pub mod Kept
-pub mod Shutting

@@ -1,0 +1,32 @@
+use Rattle.lane_reports.proofs.Audited.{is_audited, objects_same}
+use Rattle.lane_reports.proofs.audits.audit_settled.Goals as goal
+
+pub returns-then-tail_is_null-clause-found : goal.returns-then-tail_is_null-clause-found
+returns-then-tail_is_null-clause-found g c =
+    let audit = c.audit_domain.ensures in
+    is_audited _ _ c.args.rank.now c.args.domain.now c.args.root.now c.audit_domain.new.seat
+    c.holds_nothing-head_is_null.new.root c.holds_nothing-tail_is_null.new.root
+    c.in_ok-found.found c.requires.cells audit.stays audit.whole audit.objects audit.client
+    c.holds_nothing-head_is_null.ensures.learns c.holds_nothing-tail_is_null.ensures.learns
+    c.holds_nothing-tail_is_null.ensures.rest c.requires.settled c.requires.under_none
+    c.requires.weakly c.in_ok-found.ensures.found c.if-found-eq0.true
+    (c.holds_nothing-head_is_null.ensures.nothing c.if-head_is_null.true)
+    (c.holds_nothing-tail_is_null.ensures.nothing c.if-tail_is_null.true)
+
+pub returns-then-tail_is_null-clause-objects : goal.returns-then-tail_is_null-clause-objects
+returns-then-tail_is_null-clause-objects g c =
+    let audit = c.audit_domain.ensures in
+    objects_same _ (λ words. 0) c.args.rank.now c.args.domain.now c.args.root.now
+    c.audit_domain.new.seat c.holds_nothing-head_is_null.new.root
+    c.holds_nothing-tail_is_null.new.root c.in_ok-found.found c.requires.cells audit.stays
+    audit.whole audit.objects audit.client c.holds_nothing-head_is_null.ensures.learns
+    c.holds_nothing-tail_is_null.ensures.learns
+
+pub returns-clause-objects : goal.returns-clause-objects
+returns-clause-objects g c =
+    let audit = c.audit_domain.ensures in
+    objects_same _ (λ words. 0) c.args.rank.now c.args.domain.now c.args.root.now
+    c.audit_domain.new.seat c.holds_nothing-head_is_null.new.root
+    c.holds_nothing-tail_is_null.new.root c.in_ok-found.found c.requires.cells audit.stays
+    audit.whole audit.objects audit.client c.holds_nothing-head_is_null.ensures.learns
+    c.holds_nothing-tail_is_null.ensures.learns

@@ -1,0 +1,49 @@
+use Rattle.std.proofs.Common.{List, ◌++◌, ◌∷◌, [], refl, ap, sym, ◌∙◌, append-nil, append_assoc, subst}
+use Rattle.counted_handles.specs.Handles.{Handle}
+use Rattle.slot_store.proofs.Quieting.{no_items}
+use Rattle.lane_files.specs.Keeping.{GivesUp, slots_of}
+use Rattle.lane_files.proofs.Giving.{gives_none}
+use Rattle.word_lanes.proofs.Kept.{owns_drop}
+use Rattle.lane_reports.proofs.Dropped.{gives_more, next_owned}
+use Rattle.lane_reports.proofs.giving.give_all.Goals as goal
+
+pub loop-handle-init : goal.loop-handle-init
+loop-handle-init c = record {
+  all = c.into_iter-handle-iterator.ensures.into_iter_gives.0;
+  gives = gives_none c.args.root.now;
+  client = refl;
+  room = c.requires.room;
+  rest = c.requires.rest;
+}
+
+pub drop_strong-requires-clause-owned : goal.drop_strong-requires-clause-owned
+drop_strong-requires-clause-owned c =
+    next_owned c.args.kept.items c.loop-handle.yielded c.loop-handle.handle-iterator.rest.items
+    c.next.new.self.rest.items c.in-Some.handle c.loop-handle.invariant.all
+    c.in-Some.ensures.steps.0 c.args.root.now c.loop-handle.root c.loop-handle.invariant.gives
+    c.requires.owned
+
+pub loop-handle-preserved : goal.loop-handle-preserved
+loop-handle-preserved c = record {
+  all = append_assoc c.loop-handle.yielded (c.in-Some.handle ∷ []) c.next.new.self.rest.items
+      ∙ sym (ap (λ (hs : List Handle). c.loop-handle.yielded ++ hs) c.in-Some.ensures.steps.0)
+      ∙ c.loop-handle.invariant.all;
+  gives = gives_more c.args.kept.items c.loop-handle.yielded
+      c.loop-handle.handle-iterator.rest.items c.next.new.self.rest.items c.in-Some.handle
+      c.loop-handle.invariant.all c.in-Some.ensures.steps.0 c.args.root.now c.loop-handle.root
+      c.loop-handle.invariant.gives c.requires.owned c.drop_strong.new.seat
+      (owns_drop _ c.args.domain.now c.in-Some.handle.slot c.loop-handle.root
+      c.drop_strong.new.seat c.drop_strong.ensures.dropped c.drop_strong.ensures.objects);
+  client = c.drop_strong.ensures.client ∙ c.loop-handle.invariant.client;
+  room = c.drop_strong.ensures.room c.loop-handle.invariant.room;
+  rest = c.drop_strong.ensures.rest;
+}
+
+pub returns-clause-gives : goal.returns-clause-gives
+returns-clause-gives c =
+    subst (λ (hs : List Handle). GivesUp (slots_of hs) c.args.root.now c.loop-handle.root)
+    (sym (append-nil c.loop-handle.yielded)
+    ∙ sym (ap (λ (hs : List Handle). c.loop-handle.yielded ++ hs) (no_items c.loop-handle.handle-iterator.rest.items
+    (sym c.loop-handle.handle-iterator.rest.ok.0 ∙ c.in-None.ensures.steps.0)))
+    ∙ c.loop-handle.invariant.all)
+    c.loop-handle.invariant.gives

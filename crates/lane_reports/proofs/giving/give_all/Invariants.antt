@@ -1,0 +1,14 @@
+use Rattle.std.proofs.Common.{◌≡◌, ◌++◌}
+use Rattle.core_events.specs.Steps.{HasRoom}
+use Rattle.control_word.specs.Resting.{IsAtRest}
+use Rattle.lane_files.specs.Keeping.{GivesUp, slots_of}
+use Rattle.lane_reports.proofs.giving.give_all.Given as goal
+
+abbrev pub invariant-loop-handle : goal.invariant-loop-handle
+invariant-loop-handle l = record {
+  all : l.yielded ++ l.handle-iterator.rest.items ≡ l.fn.kept.items;
+  gives : GivesUp (slots_of l.yielded) l.fn.root l.root;
+  client : l.root.view.client ≡ l.fn.root.view.client;
+  room : HasRoom l.root.view.core;
+  rest : IsAtRest l.domain l.root;
+}

@@ -1,0 +1,20 @@
+use Rattle.std.proofs.Common.{◌≡◌, ◌≤◌, ◌+◌, ◌++◌, length}
+use Rattle.std.specs.Prelude.{Some, vec_capacity}
+use Rattle.plain_state.specs.State.{Plain}
+use Rattle.directory_calls.specs.Steps.{Leaves}
+use Rattle.domain_rule.specs.Views.{own_of}
+use Rattle.lane_reports.specs.Holders.{IsRoot}
+use Rattle.lane_reports.specs.Rows.{AreRowsOf}
+use Rattle.lane_reports.proofs.rows.count_rows.Given as goal
+
+abbrev pub invariant-loop-of : goal.invariant-loop-of
+invariant-loop-of l = record {
+  all : l.yielded ++ l.of-iterator.rest.items ≡ l.initial.of-iterator.rest.items;
+  room : length l.rows.items + length l.of-iterator.rest.items ≤ vec_capacity l.rows;
+  rows : (p : Plain) → (own_of l.fn.root.view).whole ≡ Some p
+      → AreRowsOf p l.tallies l.yielded l.rows.items;
+  whole : (own_of l.root.view).whole ≡ (own_of l.fn.root.view).whole;
+  leaves : Leaves l.fn.root.view.core.owned l.fn.root.view.core.weaks l.fn.root l.root;
+  client : l.root.view.client ≡ l.fn.root.view.client;
+  ready : IsRoot l.domain l.shared l.root;
+}

@@ -1,0 +1,60 @@
+-- A seat that is alone, and how many references it counts.
+use Rattle.std.specs.Prelude.{◌≡◌, ◌==◌, ◌<◌, ◌↔◌, Bool, true, ℕ, List, Some}
+use Rattle.std.specs.HashSet.{HashSet, contains_by}
+use Rattle.plain_state.specs.declared.slot.SlotId.{SlotId}
+use Rattle.plain_state.specs.Lists.{times}
+use Rattle.plain_state.specs.References.{strong_refs}
+use Rattle.plain_state.specs.State.{Plain}
+use Rattle.core_events.specs.Steps.{HasRoom}
+use Rattle.counted_handles.specs.Handles.{Handle}
+use Rattle.domain_rule.specs.Views.{IsAlone, own_of}
+use Rattle.acquire_retire.specs.Domains.{DomainState}
+use Rattle.acquire_retire.specs.Seats.{SeatState}
+use Rattle.control_word.specs.Resting.{IsAtRest}
+use Rattle.directory_calls.specs.Directories.{HasQuota, IsOver}
+use Rattle.directory_law.specs.declared.view.View.{View as DirectoryView}
+use Rattle.lane_files.specs.Keeping.{slots_of}
+use Rattle.text_reading.specs.Reading.{HasTwoFree}
+use Rattle.word_lanes.specs.declared.shared.Shared.{Shared}
+use Rattle.words_law.specs.Law.{WordsLaw as Law}
+use Rattle.words_law.specs.Views.{View}
+use Rattle.words_protocol.specs.declared.law.WordsLaw.{WordsLaw}
+use Rattle.words_protocol.specs.Sides.{area_of, ends_of}
+
+-- the number of this slot is one of these
+unfoldable pub has : {S : Type 0} → HashSet ℕ S → SlotId → Bool
+has held s = contains_by (λ n. s.0 == n) held
+
+-- of the slots of these references, and of no other, this is so
+abbrev pub AreSlotsOf : List Handle → (SlotId → Bool) → Type 0
+AreSlotsOf kept is_held =
+    (s : SlotId) → (is_held s ≡ true) ↔ (0 < times s (slots_of kept))
+
+-- of each of these slots the seat owns a reference
+abbrev pub OwnsEach : (SlotId → Bool) → SeatState View → Type 0
+OwnsEach is_held seat = (s : SlotId) → is_held s ≡ true → 0 < times s seat.view.core.owned
+
+-- what a seat knows of the directory, and how that changes
+abbrev pub texts : View → DirectoryView
+texts v = v.1
+
+abbrev pub with_texts : View → DirectoryView → View
+with_texts v w = (v.0, w)
+
+-- The seat is alone in a domain with this directory, at rest, with room for a batch, and two of its announcement words
+-- stand for nothing.
+pub record IsRoot (d : DomainState WordsLaw) (on : Shared) (seat : SeatState View) : Type 0 where
+  pub rest : IsAtRest d seat
+  pub room : HasRoom seat.view.core
+  pub over : IsOver d d.protocol.pair.right on.directory
+  pub quota : HasQuota seat.view.client.1
+  pub free : HasTwoFree seat.view.core
+  pub alone : IsAlone seat.view
+
+-- the law of the domain's protocol
+abbrev pub law_of : DomainState WordsLaw → Plain → List View → Type 0
+law_of d = Law (ends_of d.protocol.pair.left) (area_of d.protocol.pair.right)
+
+-- there are n strong references to s in the whole state, where the seat knows it
+abbrev pub IsCount : SlotId → ℕ → SeatState View → Type 0
+IsCount s n seat = (p : Plain) → (own_of seat.view).whole ≡ Some p → n ≡ strong_refs p s

@@ -1,0 +1,59 @@
+-- The record and the row of a word, as a seat that is alone tells them.
+use Rattle.std.specs.Prelude.{◌≡◌, ◌^◌, ◌<◌, ◌≤◌, ℕ, List, [], ◌∷◌, length, map}
+use Rattle.plain_state.specs.declared.slot.SlotId.{SlotId}
+use Rattle.plain_state.specs.Lists.{times}
+use Rattle.plain_state.specs.References.{strong_refs}
+use Rattle.plain_state.specs.State.{Plain}
+use Rattle.cdrc_text.specs.declared.row.Row.{Row}
+use Rattle.acquire_retire.specs.Seats.{SeatState}
+use Rattle.control_word.specs.Resting.{IsSpent}
+use Rattle.words_law.specs.Views.{View}
+use Rattle.words_rest.specs.Kept.{TellsWord}
+use Rattle.lane_reports.specs.declared.records.WordRecord.{WordRecord}
+use Rattle.lane_reports.specs.declared.refusal.RowsError.{RowsError}
+use Rattle.lane_reports.specs.declared.refusal.RowsError.TheVariants as refused
+use Rattle.lane_reports.specs.Kept.{lives_in}
+use Rattle.lane_reports.specs.Words.{Tallies, counted_in}
+
+-- the words of some rows, and of some records
+abbrev pub words_of : List Row → List (List ℕ)
+words_of rows = map (λ (r : Row). r.word.items) rows
+
+abbrev pub words_in : List WordRecord → List (List ℕ)
+words_in records = map (λ (r : WordRecord). r.word.items) records
+
+-- each word that was counted has 1 to 4,096 bytes, and was counted fewer than 2^63 times
+abbrev pub AreWords : Tallies → Type 0
+AreWords tallies =
+    (w : List ℕ) → 0 < counted_in tallies w
+    → (1 ≤ length w) × (length w ≤ 4096) × (counted_in tallies w < 2 ^ 63)
+
+-- the record is in one of these slots, and the seat's view tells its word in the life in which it has that slot
+pub record IsRecordOf (kept : List SlotId) (seat : SeatState View) (r : WordRecord) : Type 0 where
+  pub held : 0 < times r.slot kept
+  pub tells : TellsWord seat.view.client.1 r.word.items r.slot (lives_in seat r.slot)
+
+abbrev pub IsOwnedBy : SeatState View → WordRecord → Type 0
+IsOwnedBy seat r = 0 < times r.slot seat.view.core.owned
+
+abbrev pub IsFewIn : Tallies → WordRecord → Type 0
+IsFewIn tallies r = counted_in tallies r.word.items < 2 ^ 63
+
+-- the row says how often the tallies counted the record's word, and how many strong references the record has
+pub record IsRowOf (p : Plain) (tallies : Tallies) (r : WordRecord) (row : Row) : Type 0 where
+  pub word : row.word ≡ r.word
+  pub occurrences : row.occurrences ≡ counted_in tallies r.word.items
+  pub holders : row.holders ≡ strong_refs p r.slot
+
+-- one row for each record, in order
+abbrev pub AreRowsOf : Plain → Tallies → List WordRecord → List Row → Type 0
+AreRowsOf p tallies [] [] = Unit {0}
+AreRowsOf p tallies [] (row ∷ rows) = ⊥
+AreRowsOf p tallies (r ∷ records) [] = ⊥
+AreRowsOf p tallies (r ∷ records) (row ∷ rows) =
+    IsRowOf p tallies r row × AreRowsOf p tallies records rows
+
+-- why there are no rows: no add is left; or there was no memory
+abbrev pub IsWhyNoRows : RowsError → SeatState View → Type 0
+IsWhyNoRows refused.Spent seat = IsSpent seat.view.core
+IsWhyNoRows refused.OutOfMemory seat = Unit {0}

@@ -1,0 +1,149 @@
+//! The records of the words that were counted.
+ghost use Rattle.std.specs.Prelude.{◌≡◌, ◌<◌, ◌≤◌, true, IfErr, IfOk, IfSome, IsErr, length};
+ghost use Rattle.std.specs.List.{All};
+ghost use Rattle.control_word.specs.Resting.{IsSpent};
+ghost use Rattle.directory_calls.specs.Learning.{LearnsIn};
+ghost use Rattle.directory_calls.specs.Steps.{Leaves};
+ghost use Rattle.plain_state.specs.declared.slot.SlotId.{SlotId};
+ghost use Rattle.plain_state.specs.Lists.{times};
+ghost use Rattle.lane_files.specs.Keeping.{slots_of};
+ghost use Rattle.lane_reports.specs.Holders.{AreSlotsOf, IsRoot, OwnsEach, has, texts, with_texts};
+ghost use Rattle.lane_reports.specs.Kept.{lives_in};
+ghost use Rattle.lane_reports.specs.Rows.{AreWords, IsRecordOf, IsWhyNoRows, words_in};
+ghost use Rattle.lane_reports.specs.Words.{AreCounted};
+ghost use Rattle.words_rest.specs.Kept.{TellsWord};
+
+use crate::refusal::RowsError;
+use crate::words::distinct_words;
+use acquire_retire::{Domain, Seat, SlotId};
+use cdrc_text::Tally;
+use control_word::drop_strong;
+use counted_handles::{Spent, Strong};
+use crossbeam_utils::Backoff;
+use out_of_memory::OutOfMemory;
+use protocol_pairs::Right;
+use queue_protocol::NodeKind;
+use std::alloc::Global;
+use std::collections::HashSet;
+use std::sync::Wait;
+use text_reading::pairs_have_pieces;
+use weak_intern::find;
+use word_lanes::Shared;
+use words_protocol::WordsLaw;
+
+/// A word, and the slot of its record.
+#[derive(Drop)]
+pub(crate) struct WordRecord {
+    pub word: Vec<u8>,
+    pub slot: SlotId,
+}
+
+/// The numbers of the slots of these references, each once. A step of a set for each of them.
+pub(crate) fn kept_slots(alloc: Global, kept: &[Strong]) -> Result<HashSet<u32>, OutOfMemory>
+    ensures { IfOk result (λ held. AreSlotsOf kept.now (has held)) }
+{
+    let mut held = HashSet::new(alloc);
+    for handle in kept {
+        held.insert(handle.slot().0)?;
+    }
+    Ok(held)
+}
+
+/// The record of each word that some tally counted, in byte order. The seat is alone, and owns the references that are
+/// kept; each record is that of one of them. `Spent` comes only where the seat has no add left, and `OutOfMemory` of an
+/// allocation failure. It takes a walk of the directory for each word, and tries one again that comes to no such record,
+/// so the call may not return.
+pub(crate) fn find_records<R: Wait>(
+    rt: &R,
+    alloc: Global,
+    domain: &Domain<WordsLaw>,
+    root: &mut Seat<WordsLaw>,
+    shared: &Shared,
+    kept: &[Strong],
+    tallies: &[Tally],
+) -> Result<Vec<WordRecord>, RowsError>
+    requires ready { IsRoot domain.now shared.now root.old }
+    requires kept { (s : SlotId) → times s (slots_of kept.now)
+        ≤ times s root.old.view.core.owned }
+    requires words { AreWords tallies.now }
+    ensures words { IfOk result (λ records.
+        AreCounted tallies.now (words_in records.items)) }
+    ensures records { IfOk result (λ records.
+        All (IsRecordOf (slots_of kept.now) root.new) records.items) }
+    ensures why { IfErr result (λ error. IsWhyNoRows error root.new) }
+    ensures leaves { Leaves root.old.view.core.owned root.old.view.core.weaks root.old root.new }
+    ensures learns { LearnsIn texts with_texts 0 root.old.view.client root.new.view.client }
+    ensures ready { IsRoot domain.now shared.now root.new }
+{
+    let held = kept_slots(alloc, kept)?;
+    let words = distinct_words(alloc, tallies)?;
+    let mut records = Vec::with_capacity(alloc, words.len())?;
+    for word in words {
+        let slot = find_record(rt, domain, root, shared, &held, word.as_slice())?;
+        records.push_reserved(WordRecord { word, slot });
+    }
+    Ok(records)
+}
+
+/// The slot of the live record of a word of 1 to 4,096 bytes, which is one of those in the slots `held`, of each of which
+/// the seat owns a reference.
+fn find_record<R: Wait>(
+    rt: &R,
+    domain: &Domain<WordsLaw>,
+    root: &mut Seat<WordsLaw>,
+    shared: &Shared,
+    held: &HashSet<u32>,
+    word: &[u8],
+) -> Result<SlotId, Spent>
+    requires ready { IsRoot domain.now shared.now root.old }
+    requires held { OwnsEach (has held.now) root.old }
+    requires word { (1 ≤ length word.now) × (length word.now ≤ 4096) }
+    ensures held { IfOk result (λ slot. has held.now slot ≡ true) }
+    ensures tells { IfOk result (λ slot. TellsWord root.new.view.client.1 word.now slot
+        (lives_in root.new slot)) }
+    ensures spent { IsErr result → IsSpent root.new.view.core }
+    ensures leaves { Leaves root.old.view.core.owned root.old.view.core.weaks root.old root.new }
+    ensures learns { LearnsIn texts with_texts 0 root.old.view.client root.new.view.client }
+    ensures ready { IsRoot domain.now shared.now root.new }
+{
+    let backoff = Backoff::new();
+    for _ in rt.forever() {
+        if let Some(slot) = find_held(rt, domain, root, shared, held, word)? {
+            return Ok(slot);
+        }
+        backoff.spin();
+    }
+    unreachable!()
+}
+
+/// The slot of the live record of a word, where it is one of these. The reference that the walk gained is given up.
+fn find_held<R: Wait>(
+    rt: &R,
+    domain: &Domain<WordsLaw>,
+    root: &mut Seat<WordsLaw>,
+    shared: &Shared,
+    held: &HashSet<u32>,
+    word: &[u8],
+) -> Result<Option<SlotId>, Spent>
+    requires ready { IsRoot domain.now shared.now root.old }
+    requires held { OwnsEach (has held.now) root.old }
+    requires word { (1 ≤ length word.now) × (length word.now ≤ 4096) }
+    ensures held { IfOk result (λ found. IfSome found (λ slot. has held.now slot ≡ true)) }
+    ensures tells { IfOk result (λ found. IfSome found (λ slot.
+        TellsWord root.new.view.client.1 word.now slot (lives_in root.new slot))) }
+    ensures spent { IsErr result → IsSpent root.new.view.core }
+    ensures leaves { Leaves root.old.view.core.owned root.old.view.core.weaks root.old root.new }
+    ensures learns { LearnsIn texts with_texts 0 root.old.view.client root.new.view.client }
+    ensures ready { IsRoot domain.now shared.now root.new }
+{
+    pairs_have_pieces::<NodeKind>();
+    let Some(found) = find::<R, Right, WordsLaw>(rt, domain, root, &shared.directory, word)? else {
+        return Ok(None);
+    };
+    let slot = found.slot();
+    drop_strong(domain, root, found);
+    if held.contains(&slot.0) {
+        return Ok(Some(slot));
+    }
+    Ok(None)
+}

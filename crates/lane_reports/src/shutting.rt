@@ -1,0 +1,43 @@
+//! The queue is shut, and what ended is destroyed.
+ghost use Rattle.std.specs.Prelude.{◌≡◌};
+ghost use Rattle.core_events.specs.Steps.{HasRoom};
+ghost use Rattle.control_word.specs.Resting.{IsAtRest, IsUnderNone};
+ghost use Rattle.deleter.specs.Weighing.{Weighs};
+ghost use Rattle.domain_rule.specs.Views.{IsAlone};
+ghost use Rattle.word_lanes.specs.Ready.{IsReady};
+ghost use Rattle.lane_reports.specs.Shutting.{ShutsAndSettles};
+
+use acquire_retire::{Domain, Seat};
+use deleter::Deleter;
+use directory_protocol::RecordKind;
+use hand_queues::HandQueue;
+use plain_state::PayloadKind;
+use protocol_pairs::{Left, PairKind};
+use queue_protocol::NodeKind;
+use slot_store::settle;
+use word_lanes::Shared;
+use words_protocol::WordsLaw;
+
+/// Shuts the queue, once every other seat has left, and then destroys all that may be destroyed: nothing stays retired
+/// and nothing dying. What the seat owns stays. Its steps are those of the queue's `shut` and of `settle`. No make.
+pub fn shut_and_settle<F: Fn(&[u64; 16]) -> u64>(
+    domain: &Domain<WordsLaw>,
+    root: &mut Seat<WordsLaw>,
+    shared: &Shared,
+    weigh: &Deleter<PairKind<NodeKind, RecordKind>, F>,
+)
+    requires ready { IsReady domain.now shared.now root.old }
+    requires alone { IsAlone root.old.view }
+    requires none { IsUnderNone root.old.view.core }
+    requires laid { root.old.view.client.0.stand.laid ≡ 2 }
+    requires weighs { Weighs ⟦<PairKind<NodeKind, RecordKind> as PayloadKind>⟧.fits
+        ⟦<PairKind<NodeKind, RecordKind> as PayloadKind>⟧.weight F.Fn weigh.now }
+    ensures shuts { ShutsAndSettles domain.now root.old root.new }
+    ensures alone { IsAlone root.new.view }
+    ensures none { IsUnderNone root.new.view.core }
+    ensures room { HasRoom root.new.view.core }
+    ensures rest { IsAtRest domain.now root.new }
+{
+    shared.queue.shut::<Left, WordsLaw>(domain, root);
+    let _weights = settle(domain, root, weigh);
+}

@@ -1,0 +1,80 @@
+//! What a field of an item holds, which a pop may read before it takes the item.
+ghost use Rattle.std.specs.Prelude.{◌≡◌, ◌<◌, ◌≤◌, ◌+◌, IfErr, IfOk, IfSome, Some};
+ghost use Rattle.plain_state.specs.Lists.{times};
+ghost use Rattle.core_events.specs.Steps.{HasRoom};
+ghost use Rattle.atomic_shared.specs.Places.{named};
+ghost use Rattle.control_word.specs.Resting.{IsAtRest, IsSpent};
+ghost use Rattle.counted_handles.specs.declared.refusal.LoadError.TheVariants as unloaded;
+ghost use Rattle.part_calls.specs.Parts.{HasBeside, as_part, seen_by};
+ghost use Rattle.queue_law.specs.Views.{first_view};
+ghost use Rattle.linked_queue.specs.Leaving.{Leaves, found_by, with_found};
+ghost use Rattle.linked_queue.specs.Losses.{MissesContent};
+ghost use Rattle.linked_queue.specs.Pops.{Reads, adds_of};
+ghost use Rattle.linked_queue.specs.Seeing.{IsWhyUnread};
+
+use acquire_retire::{Domain, Seat, SlotId};
+use counted_handles::Strong;
+use part_calls::{LoadError, Place, try_load};
+use plain_protocol::Still;
+use queue_protocol::{HasQueue, QueueLaw};
+
+/// A reference to what this field of an item holds, where a field is named.
+pub(crate) fn see_content<S, P: HasQueue<S>>(
+    domain: &Domain<P>,
+    seat: &mut Seat<P>,
+    item: SlotId,
+    field: Option<u32>,
+) -> Result<Option<Strong>, LoadError>
+    requires rest { IsAtRest domain.now seat.old }
+    requires room { HasRoom seat.old.view.core }
+    requires item { 0 < times item seat.old.view.core.owned }
+    requires field { IfSome field (λ f. f < 2) }
+    ensures reads { IfOk result (λ found. Reads P.Kind.fits (as_part P.part domain.now)
+        field item (named found) (seen_by P.seen seat.old) (seen_by P.seen seat.new)) }
+    ensures client { (P.seen seat.new.view.client) ≡ (P.seen seat.old.view.client) }
+    ensures adds { seat.new.view.core.adds ≤ seat.old.view.core.adds + adds_of field }
+    ensures makes { seat.new.view.core.makes ≡ seat.old.view.core.makes }
+    ensures leaves { Leaves (with_found (found_by result) seat.old.view.core.owned)
+        (seen_by P.seen seat.old) (seen_by P.seen seat.new) }
+    ensures why { IfErr result (λ error. IsWhyUnread (λ seen now.
+        MissesContent P.Kind.fits (as_part P.part domain.now) field item seen now
+        (seen_by P.seen seat.old) (seen_by P.seen seat.new)) error (seen_by P.seen seat.old)) }
+    ensures spent { IfErr result (λ error. error ≡ unloaded.Spent → IsSpent seat.new.view.core) }
+    ensures beside_part { HasBeside P.with_seen first_view seat.old seat.new }
+    ensures room { HasRoom seat.new.view.core }
+    ensures rest { IsAtRest domain.now seat.new }
+{
+    match field {
+        Some(field) => load_content(domain, seat, item, field),
+        None => Ok(None),
+    }
+}
+
+/// A reference to what this field of an item holds.
+fn load_content<S, P: HasQueue<S>>(
+    domain: &Domain<P>,
+    seat: &mut Seat<P>,
+    item: SlotId,
+    field: u32,
+) -> Result<Option<Strong>, LoadError>
+    requires rest { IsAtRest domain.now seat.old }
+    requires room { HasRoom seat.old.view.core }
+    requires item { 0 < times item seat.old.view.core.owned }
+    requires field { field < 2 }
+    ensures reads { IfOk result (λ found. Reads P.Kind.fits (as_part P.part domain.now)
+        (Some field) item (named found) (seen_by P.seen seat.old) (seen_by P.seen seat.new)) }
+    ensures client { (P.seen seat.new.view.client) ≡ (P.seen seat.old.view.client) }
+    ensures adds { seat.new.view.core.adds ≤ seat.old.view.core.adds + 1 }
+    ensures makes { seat.new.view.core.makes ≡ seat.old.view.core.makes }
+    ensures leaves { Leaves (with_found (found_by result) seat.old.view.core.owned)
+        (seen_by P.seen seat.old) (seen_by P.seen seat.new) }
+    ensures why { IfErr result (λ error. IsWhyUnread (λ seen now.
+        MissesContent P.Kind.fits (as_part P.part domain.now) (Some field) item seen now
+        (seen_by P.seen seat.old) (seen_by P.seen seat.new)) error (seen_by P.seen seat.old)) }
+    ensures spent { IfErr result (λ error. error ≡ unloaded.Spent → IsSpent seat.new.view.core) }
+    ensures beside_part { HasBeside P.with_seen first_view seat.old seat.new }
+    ensures room { HasRoom seat.new.view.core }
+    ensures rest { IsAtRest domain.now seat.new }
+{
+    try_load::<QueueLaw, S, P, _>(domain, seat, Place::Field(item, field), Still)
+}

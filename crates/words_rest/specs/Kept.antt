@@ -1,0 +1,55 @@
+-- What a view of the directory tells of references that are kept.
+use Rattle.std.specs.Prelude.{ℕ, ◌≡◌, ◌<◌, ◌++◌, All, List, [], ◌∷◌, slice_index_or}
+use Rattle.plain_state.specs.declared.slot.SlotId.{SlotId}
+use Rattle.plain_state.specs.Lists.{times}
+use Rattle.plain_state.specs.State.{Plain, seat_at, slot_at}
+use Rattle.plain_protocol.specs.Laws.{Meets}
+use Rattle.queue_law.specs.Chain.{Ends}
+use Rattle.directory_law.specs.declared.view.View.{View as DirectoryView}
+use Rattle.directory_law.specs.Bytes.{AreBytes, IsTextOf}
+use Rattle.directory_law.specs.Cells.{Area}
+use Rattle.directory_law.specs.Payloads.{Text}
+use Rattle.words_law.specs.Known.{KnowsText}
+use Rattle.words_law.specs.Law.{WordsLaw}
+use Rattle.words_law.specs.Texts.{AllPieces}
+use Rattle.words_law.specs.Views.{View, gone}
+
+-- the view tells the text of these bytes for a slot, in a life
+abbrev pub TellsWord : DirectoryView → List ℕ → SlotId → ℕ → Type 0
+TellsWord v w s life =
+    (text : Text) × IsTextOf w text
+    × KnowsText v (record { slot = s.0; life = life; payload = [] }) text
+
+-- it tells these words of these slots, in order
+abbrev pub TellsEach : (SlotId → ℕ) → List (List ℕ) → List SlotId → DirectoryView → Type 0
+TellsEach lives [] [] v = Unit {0}
+TellsEach lives [] (s ∷ ss) v = ⊥
+TellsEach lives (w ∷ ws) [] v = ⊥
+TellsEach lives (w ∷ ws) (s ∷ ss) v = TellsWord v w s (lives s) × TellsEach lives ws ss v
+
+-- Each of these words has a slot, of which the view tells it in the life that is given for that slot. The references
+-- that are kept are to these slots, to each once.
+pub record TellsRecords (lives : SlotId → ℕ) (words : List (List ℕ)) (kept : List SlotId)
+    (v : DirectoryView) : Type 0 where
+  pub slots : List SlotId
+  pub tells : TellsEach lives words slots v
+  pub once : (s : SlotId) → 0 < times s slots → times s kept ≡ 1
+  pub only : (s : SlotId) → times s slots ≡ 0 → times s kept ≡ 0
+
+-- the same of several files, whose references are kept one after the other's
+abbrev pub TellsFiles : (SlotId → ℕ) → List (List (List ℕ)) → List SlotId → DirectoryView → Type 0
+TellsFiles lives [] kept v = kept ≡ []
+TellsFiles lives (words ∷ files) kept v =
+    (first : List SlotId) × (others : List SlotId) × TellsRecords lives words first v
+    × TellsFiles lives files others v × (kept ≡ first ++ others)
+
+-- the law holds, and seat 0 owns just these references, of which its view tells the words of the files, in the lives
+-- that the slots are in
+pub record KeepsRecordsOf (u : Ends) (z : Area) (p : Plain) (views : List View)
+    (lives : SlotId → ℕ) (files : List (List (List ℕ))) (kept : List SlotId) : Type 0 where
+  pub meets : Meets (WordsLaw u z) p views
+  pub fit : AllPieces p
+  pub owned : (s : SlotId) → times s (seat_at p 0).owned ≡ times s kept
+  pub life : (s : SlotId) → 0 < times s kept → lives s ≡ (slot_at p s).life
+  pub tells : TellsFiles lives files kept (slice_index_or views 0 gone).1
+  pub bytes : All (λ (words : List (List ℕ)). All AreBytes words) files

@@ -1,0 +1,5 @@
+pub mod Told
+pub mod Sizes
+pub mod Refusing
+pub mod Named
+pub mod Deciding

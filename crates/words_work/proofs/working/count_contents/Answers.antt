@@ -1,0 +1,44 @@
+use Rattle.std.proofs.Common.{ℕ, List, ap, subst, ◌∙◌}
+use Rattle.cdrc_text.specs.Fold.{File}
+use Rattle.cdrc_text.specs.Text.{IsReport}
+use Rattle.lane_domain.specs.Sizes.{texts_in}
+use Rattle.protocol_pairs.specs.Shares.{FitsItsPart}
+use Rattle.queue_protocol.specs.Nodes.{IsNodePayload}
+use Rattle.directory_law.specs.Bytes.{IsPiece}
+use Rattle.lane_reports.specs.Refusals.{IsWhyNothing}
+use Rattle.lane_reports.specs.Reporting.{IsLast}
+use Rattle.lane_reports.specs.declared.counted.CountError.{CountError}
+use Rattle.lane_reports.specs.declared.counted.CountError.TheVariants as uncounted
+use Rattle.words_work.specs.Limits.{slots_for}
+use Rattle.words_work.proofs.working.count_contents.Goals as goal
+
+pub returns-in-Ok-clause-done : goal.returns-in-Ok-clause-done
+returns-in-Ok-clause-done g c =
+    let plan = c.args.plan in let work = c.in_ok-work.work in let on = c.in_ok-work.ensures.on in
+    let counted = c.in-Ok.field-0 in
+    let slots = c.slots_for-slots.ensures ∙ ap (slots_for plan) on.texts in
+    record {
+      within = c.in_ok-work.ensures.within;
+      text = subst (λ (fs : List File). IsReport fs plan.rounds counted.text.items) on.texts
+          (subst (λ (n : ℕ). IsReport (texts_in work) n counted.text.items) on.often c.in-Ok.ensures.report);
+      work = work;
+      on = on;
+      counts = c.in-Ok.ensures.counts;
+      root = subst (λ (n : ℕ). IsLast work plan.lanes n counted.root) slots c.in-Ok.ensures.root;
+    }
+
+pub returns-in-Err-Full-clause-why : goal.returns-in-Err-Full-clause-why
+returns-in-Err-Full-clause-why g c =
+    let plan = c.args.plan in let work = c.in_ok-work.work in let on = c.in_ok-work.ensures.on in
+    let slots = c.slots_for-slots.ensures ∙ ap (slots_for plan) on.texts in
+    let fits = FitsItsPart IsNodePayload IsPiece in
+    let why = subst (λ (e : CountError). IsWhyNothing fits work plan.lanes c.slots_for-slots.result plan.form e)
+    c.in-Err-Full.field-0-is c.in-Err-Full.ensures.why in (
+      c.in_ok-work.ensures.within,
+      record {
+        work = work;
+        on = on;
+        full = subst (λ (n : ℕ). IsWhyNothing fits work plan.lanes n plan.form
+            (uncounted.Full c.in-Err-Full.seat)) slots why;
+      },
+    )

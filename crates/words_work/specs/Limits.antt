@@ -1,0 +1,79 @@
+-- How contents are to be counted, and within which limits.
+use Rattle.std.specs.Prelude.{ℕ, ◌+◌, ◌*◌, ◌<◌, ◌≤◌, ◌⊎◌, Bool, true, false, List, length, map, string_bytes, unwrap_or, IfSome}
+use Rattle.std.specs.List.{sum_by}
+use Rattle.command_line.specs.declared.asked.WordsArgs.{WordsArgs}
+use Rattle.queue_law.specs.declared.view.Form.{Form}
+use Rattle.queue_law.specs.declared.view.Form.TheVariants.{Linked, Double}
+use Rattle.cdrc_text.specs.Fold.{File}
+use Rattle.cdrc_text.specs.Pieces.{pieces_of}
+use Rattle.lane_domain.specs.Sizes.{slots_of_words}
+use Rattle.words_work.specs.Contents.{bytes_in}
+use Rattle.words_work.specs.declared.plan.Plan.{Plan}
+
+abbrev pub form_of : Bool → Form
+form_of false = Linked
+form_of true = Double
+
+-- the plan that the words of a command line tell
+abbrev pub plan_of : WordsArgs → Plan
+plan_of args = record {
+  lanes = args.lanes;
+  rounds = args.rounds;
+  slots = args.slots;
+  form = form_of args.double;
+}
+
+-- 1 to 31 lanes, 1 to 1,000 rounds, and 1 to 4,194,304 slots, if there are any
+pub record IsPlan (plan : Plan) : Type 0 where
+  pub lanes : (1 ≤ plan.lanes) × (plan.lanes ≤ 31)
+  pub rounds : (1 ≤ plan.rounds) × (plan.rounds ≤ 1000)
+  pub slots : IfSome plan.slots (λ n. (1 ≤ n) × (n ≤ 4194304))
+
+-- the names of the files
+abbrev pub names_of : WordsArgs → List (List ℕ)
+names_of args = map string_bytes args.names.items
+
+-- how many pieces the files have, and how many slots the records of these take
+abbrev pub pieces_in_all : List File → ℕ
+pieces_in_all files = sum_by (λ (f : File). length f) files
+
+abbrev pub parts_in_all : List File → ℕ
+parts_in_all files = sum_by slots_of_words files
+
+-- so many slots serve, whatever the lanes do: one for each object that is made, and two
+abbrev pub slots_needed : ℕ → List File → ℕ
+slots_needed rounds files = rounds * (pieces_in_all files + parts_in_all files) + 2
+
+-- the slots that are asked for, or so many as serve
+abbrev pub slots_for : Plan → List File → ℕ
+slots_for plan files = unwrap_or plan.slots (slots_needed plan.rounds files)
+
+abbrev pub most_files : ℕ
+most_files = 4096
+
+abbrev pub most_bytes : ℕ
+most_bytes = 67108864
+
+abbrev pub most_pieces : ℕ
+most_pieces = 1000000
+
+abbrev pub most_slots : ℕ
+most_slots = 4194304
+
+-- contents that may be counted in so many rounds
+pub record IsWithinLimits (rounds : ℕ) (contents : List (List ℕ)) : Type 0 where
+  pub files : length contents ≤ most_files
+  pub bytes : bytes_in contents ≤ most_bytes
+  pub pieces : rounds * pieces_in_all (map pieces_of contents) ≤ most_pieces
+  pub slots : slots_needed rounds (map pieces_of contents) ≤ most_slots
+
+-- their pieces, in all rounds, are too many
+abbrev pub HasTooMany : ℕ → List (List ℕ) → Type 0
+HasTooMany rounds contents =
+    (most_pieces < rounds * pieces_in_all (map pieces_of contents))
+    ⊎ (most_slots < slots_needed rounds (map pieces_of contents))
+
+-- they pass a limit
+abbrev pub PassesLimit : ℕ → List (List ℕ) → Type 0
+PassesLimit rounds contents =
+    (most_files < length contents) ⊎ ((most_bytes < bytes_in contents) ⊎ HasTooMany rounds contents)

@@ -1,0 +1,29 @@
+//! The words of named files, counted on lanes, as one call.
+//!
+//! `words_work` reads the files in order, cuts them into pieces, and counts these on a domain that is sized by them. The
+//! rule that it keeps: the bytes that it answers are the text of the files' contents, whatever the lanes do; and each
+//! refusal but that of no memory comes only where its cause is there. `count_contents` does the same with contents that
+//! were had in another way, and `read_file` and `read_files` only read.
+//!
+//! It isn't promised that a call returns, since lanes may retry and a gate may wait, nor when memory is enough.
+//!
+//! ```text
+//! let done = words_work(rt, alloc, &args, &mut files, &gate, &weigh)?;      // args of `command_line` done.bytes
+//! // `3 2 a`, `1 1 b`, and three lines of numbers
+//! ```
+#![tactic(auto)]
+
+mod cutting;
+mod outcome;
+mod plan;
+mod reading;
+#[cfg(test)]
+mod tests;
+#[cfg(test)]
+mod tests_refusals;
+mod working;
+
+pub use outcome::{WordsDone, WordsRefused};
+pub use plan::Plan;
+pub use reading::{read_file, read_files};
+pub use working::{count_contents, words_work};

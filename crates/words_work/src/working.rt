@@ -1,0 +1,179 @@
+//! How contents are counted, and how files are.
+ghost use Rattle.std.specs.Prelude.{◌≡◌, ◌≤◌, ◌<◌, ℕ, List, IfErr, IfOk, OnOk, length};
+ghost use Rattle.deleter.specs.Weighing.{Weighs};
+ghost use Rattle.lane_gate.specs.Causes.{Stood};
+ghost use Rattle.lane_files.specs.Work.{IsWork};
+ghost use Rattle.lane_domain.specs.Sizes as domain;
+ghost use Rattle.words_work.specs.Contents.{AreTold, bytes_in};
+ghost use Rattle.words_work.specs.Cuts.{IsWhyUncutOf};
+ghost use Rattle.words_work.specs.Limits.{IsPlan, IsWithinLimits, PassesLimit, most_bytes, most_files, names_of, plan_of, slots_for};
+ghost use Rattle.words_work.specs.Outcomes.{IsCounted, IsDone, IsDoneOrStopped, IsTooLargeOrNoMemory, IsWhyNotDone, IsWhyUncounted, IsWorkOn, bytes_of};
+
+use crate::cutting::cut_files;
+use crate::outcome::{WordsDone, WordsRefused};
+use crate::plan::Plan;
+use crate::reading::read_files;
+use command_line::WordsArgs;
+use deleter::Deleter;
+use directory_protocol::RecordKind;
+use lane_domain::{count_pieces, count_slots, is_within_limits};
+use lane_files::Work;
+use lane_gate::{Files, Gate};
+use lane_reports::{CountError, Counted, count_words};
+use plain_state::PayloadKind;
+use protocol_pairs::PairKind;
+use queue_law::Form;
+use queue_protocol::NodeKind;
+use std::alloc::Global;
+use std::sync::Wait;
+use std::thread::Threads;
+
+/// The most files of one run.
+const MOST_FILES: usize = 4096;
+
+/// The plan that the words of a command line tell.
+fn plan_of(args: &WordsArgs) -> Plan
+    ensures { result ≡ plan_of args.now }
+{
+    Plan {
+        lanes: args.lanes,
+        rounds: args.rounds,
+        slots: args.slots,
+        form: if args.double {
+            Form::Double
+        } else {
+            Form::Linked
+        },
+    }
+}
+
+/// The work on these contents, if one domain serves it.
+fn work_on(alloc: Global, rounds: u64, contents: Vec<Vec<u8>>) -> Result<Work, WordsRefused>
+    requires rounds { (1 ≤ rounds) × (rounds ≤ 1000) }
+    requires some { 1 ≤ length contents.items }
+    requires few { length contents.items ≤ most_files }
+    requires bytes { bytes_in (bytes_of contents.items) ≤ most_bytes }
+    ensures work { IfOk result IsWork }
+    ensures on { IfOk result (IsWorkOn rounds (bytes_of contents.items)) }
+    ensures domain { IfOk result domain.IsWithinLimits }
+    ensures within { OnOk result (IsWithinLimits rounds (bytes_of contents.items)) }
+    ensures why { IfErr result (IsWhyUncutOf rounds (bytes_of contents.items)) }
+{
+    let files = cut_files(alloc, contents)?;
+    let work = Work { files, rounds };
+    if !is_within_limits(&work) {
+        return Err(WordsRefused::TooLarge);
+    }
+    Ok(work)
+}
+
+/// The slots that are asked for, or one for each object that is made.
+fn slots_for(plan: Plan, work: &Work) -> u32
+    requires work { IsWork work.now }
+    requires within { domain.IsWithinLimits work.now }
+    requires rounds { work.now.rounds ≡ plan.rounds }
+    ensures { result ≡ slots_for plan (domain.texts_in work.now) }
+{
+    match plan.slots {
+        Some(slots) => slots,
+        None => (work.rounds * (count_pieces(work) + count_slots(work)) + 2) as u32,
+    }
+}
+
+/// Counts the words of 1 to 4,096 contents of at most 67,108,864 bytes together, as the plan says.
+///
+/// TooLarge comes exactly where they have more than 1,000,000 pieces in all rounds, or where more than 4,194,304 slots
+/// would be needed, for each piece one and its record's, and two more. Full and Spent come with the seat that was
+/// refused while the lanes ran. It may wait for other threads. It takes the steps of `cut`, for each content, and of
+/// `count_words`.
+pub fn count_contents<R: Threads + Wait + Sync, G: Gate + Sync, D: Fn(&[u64; 16]) -> u64 + Sync>(
+    rt: &R,
+    alloc: Global,
+    plan: Plan,
+    contents: Vec<Vec<u8>>,
+    gate: &G,
+    weigh: &Deleter<PairKind<NodeKind, RecordKind>, D>,
+) -> Result<WordsDone, WordsRefused>
+    requires plan { IsPlan plan }
+    requires some { 1 ≤ length contents.items }
+    requires few { length contents.items ≤ most_files }
+    requires bytes { bytes_in (bytes_of contents.items) ≤ most_bytes }
+    requires weighs { Weighs ⟦<PairKind<NodeKind, RecordKind> as PayloadKind>⟧.fits
+        ⟦<PairKind<NodeKind, RecordKind> as PayloadKind>⟧.weight D.Fn weigh.now }
+    ensures done { IfOk result (IsCounted plan (bytes_of contents.items)) }
+    ensures why { IfErr result (IsWhyUncounted
+        ⟦<PairKind<NodeKind, RecordKind> as PayloadKind>⟧.fits plan (bytes_of contents.items)) }
+{
+    let work = work_on(alloc, plan.rounds, contents)?;
+    let slots = slots_for(plan, &work);
+    match count_words(rt, alloc, &work, plan.lanes, slots, plan.form, gate, weigh) {
+        Ok(
+            Counted {
+                text,
+                root,
+                tallies,
+            },
+        ) => Ok(WordsDone {
+            bytes: text,
+            root,
+            tallies,
+        }),
+        Err(CountError::OutOfMemory) => Err(WordsRefused::OutOfMemory),
+        Err(CountError::Full(seat)) => Err(WordsRefused::Full(seat)),
+        Err(CountError::Spent(seat)) => Err(WordsRefused::Spent(seat)),
+    }
+}
+
+/// Counts the words of named files: reads them in order, each once, and counts their contents as the words of the
+/// command line say. It answers their text, seat 0, which is alone by then, and how often each seat counted each word.
+///
+/// Read comes only where the source's count of faults rose in this call. TooLarge comes exactly where a limit is
+/// passed: there are more than 4,096 files, and then none is read; the files have more than 67,108,864 bytes together;
+/// their pieces, times the rounds, are more than 1,000,000; or more than 4,194,304 slots would be needed, for each
+/// piece one and its record's, and two more. Full and Spent come with the seat that was refused while the lanes ran.
+/// OutOfMemory may come in place of any. It may wait for other threads.
+pub fn words_work<
+    R: Threads + Wait + Sync,
+    F: Files,
+    G: Gate + Sync,
+    D: Fn(&[u64; 16]) -> u64 + Sync,
+>(
+    rt: &R,
+    alloc: Global,
+    args: &WordsArgs,
+    files: &mut F,
+    gate: &G,
+    weigh: &Deleter<PairKind<NodeKind, RecordKind>, D>,
+) -> Result<WordsDone, WordsRefused>
+    requires plan { IsPlan (plan_of args.now) }
+    requires some { 1 ≤ length (names_of args.now) }
+    requires weighs { Weighs ⟦<PairKind<NodeKind, RecordKind> as PayloadKind>⟧.fits
+        ⟦<PairKind<NodeKind, RecordKind> as PayloadKind>⟧.weight D.Fn weigh.now }
+    ensures done { IfOk result
+        (IsDone (F.told files.old) (names_of args.now) (plan_of args.now)) }
+    ensures why { IfErr result (IsWhyNotDone ⟦<PairKind<NodeKind, RecordKind> as PayloadKind>⟧.fits
+        (F.told files.old) (names_of args.now) (plan_of args.now) (record {
+          faults = F.faults files.old;
+          faults_now = F.faults files.new;
+          overlong = F.overlong files.old;
+          overlong_now = F.overlong files.new;
+        })) }
+    ensures many { most_files < length (names_of args.now) → files.new ≡ files.old }
+    ensures refuses { (contents : List (List ℕ)) →
+        AreTold (F.told files.old) (names_of args.now) contents →
+        PassesLimit args.now.rounds contents →
+        Stood (F.faults files.old) (F.faults files.new) → IsTooLargeOrNoMemory result }
+    ensures accepts { (contents : List (List ℕ)) →
+        AreTold (F.told files.old) (names_of args.now) contents →
+        IsWithinLimits args.now.rounds contents →
+        Stood (F.faults files.old) (F.faults files.new) → IsDoneOrStopped result }
+    ensures tells { (other : List ℕ) → F.told files.new other ≡ F.told files.old other }
+    ensures faults_last { F.faults files.old ≤ F.faults files.new }
+    ensures overlong_last { F.overlong files.old ≤ F.overlong files.new }
+{
+    if MOST_FILES < args.names.len() {
+        return Err(WordsRefused::TooLarge);
+    }
+    let contents = read_files(alloc, files, &args.names)?;
+    count_contents(rt, alloc, plan_of(args), contents, gate, weigh)
+}
