@@ -16,8 +16,8 @@ use Rattle.core_events.specs.Runs.{AreTerms, IsShape, view_at}
 use Rattle.core_events.specs.Steps.{May, place}
 use Rattle.core_events.specs.Words.{place_at}
 use Rattle.core_law.proofs.Always.{history_sound}
-use Rattle.core_invariant.proofs.InRange.{content_in, open_in_range, put_in_range, readable_in_range}
-use Rattle.core_invariant.proofs.Writes.{IsPlace}
+use Rattle.core_law.proofs.InRange.{content_in, open_in_range, put_in_range, readable_in_range}
+use Rattle.core_law.proofs.Writes.{IsPlace}
 use Rattle.domain_rule.specs.declared.view.SeatView.{SeatView}
 use Rattle.acquire_retire.specs.Calls.{Stepped}
 use Rattle.acquire_retire.specs.Domains.{DomainState, IsDomain, StoredDomain}

@@ -20,10 +20,10 @@ use Rattle.core_events.specs.Good.{SeatLaw}
 use Rattle.core_events.specs.Runs.{AreTerms, Core, IsShape, after, view_at}
 use Rattle.core_events.specs.Steps.{ended, moved}
 use Rattle.core_functions.specs.Phases.{phase_after}
-use Rattle.core_invariant.specs.Sound.{Sound}
+use Rattle.core_law.specs.Sound.{Sound}
 use Rattle.core_law.proofs.Always.{history_sound, step_keeps}
-use Rattle.core_invariant.proofs.Kit.{below_but, below_none, below_same, one_other, one_same, times_cons, times_none, times_push, total_at}
-use Rattle.core_invariant.proofs.Parts.{sound_good}
+use Rattle.core_law.proofs.Kit.{below_but, below_none, below_same, one_other, one_same, times_cons, times_none, times_push, total_at}
+use Rattle.core_law.proofs.Parts.{sound_good}
 use Rattle.dying_slots.specs.Dying.{waiting_of}
 use Rattle.dying_slots.proofs.Waiting.{all_wait, destroyed_waiting, ends_waiting, few_waiting}
 use Rattle.domain_rule.specs.declared.view.SeatView.{SeatView}

@@ -13,7 +13,7 @@ use Rattle.core_events.specs.declared.shape.Shape.{Shape}
 use Rattle.core_events.specs.declared.view.CoreView.{CoreView}
 use Rattle.core_events.specs.Runs.{AreTerms, Core, History, IsShape, view_at}
 use Rattle.core_events.specs.Views.{Terms, allowed_makes, granted}
-use Rattle.core_invariant.proofs.Parts.{sound_good}
+use Rattle.core_law.proofs.Parts.{sound_good}
 use Rattle.core_law.proofs.Always.{history_sound}
 use Rattle.core_law.proofs.Grants.{history_grants}
 use Rattle.core_promises.proofs.Granted.{seat_granted}

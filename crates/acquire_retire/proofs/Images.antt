@@ -23,12 +23,12 @@ use Rattle.core_events.specs.Runs.{Core, view_at}
 use Rattle.core_events.specs.Shows.{show_slot, shows}
 use Rattle.core_events.specs.Words.{cell_at, each_from, field_at, payload_at, slot_at, slot_in, weak_cell_at, weak_field_at}
 use Rattle.counter_word.specs.Words.{ZERO, has_zero}
-use Rattle.core_invariant.specs.Sound.{Sound}
+use Rattle.core_law.specs.Sound.{Sound}
 use Rattle.core_law.proofs.Always.{history_sound}
-use Rattle.core_invariant.proofs.Parts.{sound_good}
-use Rattle.core_shows.proofs.Bridge.{shown_slot, shown_strong, shown_weak, total_zero}
-use Rattle.core_invariant.proofs.Each.{get_each, length_each}
-use Rattle.core_shows.proofs.Lists.{each_push, each_same}
+use Rattle.core_law.proofs.Parts.{sound_good}
+use Rattle.core_law.proofs.Bridge.{shown_slot, shown_strong, shown_weak, total_zero}
+use Rattle.core_law.proofs.Each.{get_each, length_each}
+use Rattle.core_law.proofs.Lists.{each_push, each_same}
 use Rattle.domain_rule.specs.declared.view.SeatView.{SeatView}
 use Rattle.domain_rule.specs.declared.view.Whole.{Whole}
 use Rattle.domain_rule.specs.Reading.{HasRead}

@@ -8,7 +8,7 @@ use Rattle.core_events.specs.declared.view.CoreView.{CoreView}
 use Rattle.core_events.specs.Shows.{show_seat}
 use Rattle.core_events.specs.Steps.{CanLeave}
 use Rattle.domain_rule.specs.declared.view.Known.{Known}
-use Rattle.core_invariant.specs.Sound.{Sound}
+use Rattle.core_law.specs.Sound.{Sound}
 use Rattle.core_law.proofs.Always.{history_sound}
 use Rattle.domain_rule.specs.declared.view.SeatView.{SeatView}
 use Rattle.domain_rule.specs.Opening.{joined_view, merged_object, merged_objects}

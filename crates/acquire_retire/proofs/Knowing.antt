@@ -15,9 +15,9 @@ use Rattle.core_events.specs.Good.{SeatLaw, staying_room}
 use Rattle.core_events.specs.Runs.{view_at}
 use Rattle.core_events.specs.Views.{no_view, room_of}
 use Rattle.core_events.specs.Words.{word_count}
-use Rattle.core_invariant.specs.Sound.{Sound}
+use Rattle.core_law.specs.Sound.{Sound}
 use Rattle.core_law.proofs.Always.{history_sound}
-use Rattle.core_invariant.proofs.Kit.{total_at}
+use Rattle.core_law.proofs.Kit.{total_at}
 use Rattle.domain_rule.specs.declared.view.SeatView.{SeatView}
 use Rattle.domain_rule.specs.Reading.{FoundIn, HasRead}
 use Rattle.domain_rule.specs.Rule.{Kept}

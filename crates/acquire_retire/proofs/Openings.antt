@@ -13,8 +13,8 @@ use Rattle.core_events.specs.declared.shape.Quota.{Quota}
 use Rattle.core_events.specs.Runs.{AreTerms, IsShape}
 use Rattle.core_events.specs.Words.{each_from}
 use Rattle.core_events.specs.Words.{first_words, slot_at, word_count}
-use Rattle.core_invariant.proofs.Starts.{start_sound}
-use Rattle.core_shows.proofs.Lists.{each_push}
+use Rattle.core_law.proofs.Starts.{start_sound}
+use Rattle.core_law.proofs.Lists.{each_push}
 use Rattle.domain_rule.specs.declared.view.SeatView.{SeatView}
 use Rattle.domain_rule.specs.declared.view.Whole.{Whole}
 use Rattle.domain_rule.specs.Opening.{first_of, opened_more, opened_view}

@@ -18,7 +18,7 @@ use Rattle.core_events.specs.Good.{SeatLaw}
 use Rattle.core_events.specs.Runs.{Core, History, IsShape, after}
 use Rattle.core_events.specs.Steps.{May, next, place}
 use Rattle.core_events.specs.Words.{word_count}
-use Rattle.core_invariant.proofs.InRange.{place_in}
+use Rattle.core_law.proofs.InRange.{place_in}
 use Rattle.core_law.proofs.Trails.{changed_trail}
 use Rattle.domain_rule.specs.declared.view.SeatView.{SeatView}
 use Rattle.domain_rule.specs.declared.view.Whole.{Whole}

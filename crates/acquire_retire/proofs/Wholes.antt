@@ -15,8 +15,8 @@ use Rattle.core_events.specs.Views.{Terms}
 use Rattle.core_events.specs.declared.view.CoreView.{CoreView}
 use Rattle.core_events.specs.Runs.{Core}
 use Rattle.core_events.specs.Shows.{shows}
-use Rattle.core_invariant.specs.Sound.{Sound}
-use Rattle.core_shows.proofs.Lawful.{shows_lawful}
+use Rattle.core_law.specs.Sound.{Sound}
+use Rattle.core_law.proofs.Lawful.{shows_lawful}
 use Rattle.domain_rule.specs.declared.view.SeatView.{SeatView}
 use Rattle.domain_rule.specs.declared.view.Whole.{Whole}
 use Rattle.domain_rule.specs.Rule.{Kept, clients}

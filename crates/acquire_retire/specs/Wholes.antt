@@ -11,7 +11,7 @@ use Rattle.core_events.specs.Runs.{Core, view_at}
 use Rattle.core_events.specs.Shows.{shows}
 use Rattle.counter_word.specs.Words.{ZERO}
 use Rattle.plain_state.specs.declared.slot.SlotId.{SlotId}
-use Rattle.core_invariant.specs.Sound.{Sound}
+use Rattle.core_law.specs.Sound.{Sound}
 use Rattle.domain_rule.specs.declared.view.SeatView.{SeatView}
 use Rattle.domain_rule.specs.declared.view.Whole.{Whole}
 use Rattle.domain_rule.specs.Views.{core_in, own_of}

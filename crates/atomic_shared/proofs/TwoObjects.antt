@@ -14,7 +14,7 @@ use Rattle.plain_protocol.specs.Owns.{OwnPart}
 use Rattle.core_events.specs.declared.shape.Shape.{Shape}
 use Rattle.core_events.specs.declared.view.CoreView.{CoreView}
 use Rattle.core_events.specs.Steps.{without_given}
-use Rattle.core_invariant.proofs.Kit.{one_other, one_same, times_push, times_without}
+use Rattle.core_law.proofs.Kit.{one_other, one_same, times_push, times_without}
 use Rattle.acquire_retire.specs.Domains.{DomainState}
 use Rattle.acquire_retire.specs.Seats.{SeatState}
 use Rattle.retiring_stores.specs.Exchanging.{Stores}

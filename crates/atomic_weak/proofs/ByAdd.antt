@@ -15,7 +15,7 @@ use Rattle.core_events.specs.declared.view.CoreView.{CoreView}
 use Rattle.core_events.specs.Shows.{show_seat}
 use Rattle.core_events.specs.Steps.{IsIdle}
 use Rattle.core_events.specs.Views.{Holds}
-use Rattle.core_invariant.proofs.Kit.{times_push}
+use Rattle.core_law.proofs.Kit.{times_push}
 use Rattle.acquire_retire.specs.Calls.{IsSameView, Steps, same_view}
 use Rattle.acquire_retire.specs.Collecting.{move}
 use Rattle.acquire_retire.specs.Domains.{DomainState}

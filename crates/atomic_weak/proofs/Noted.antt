@@ -16,7 +16,7 @@ use Rattle.core_events.specs.Shows.{show_seat}
 use Rattle.core_events.specs.Steps.{with_note}
 use Rattle.core_events.specs.Views.{Holds, note_of, valid_of}
 use Rattle.core_functions.proofs.Snapshots.{snapshot_at}
-use Rattle.core_shows.proofs.Losing.{valid_loses}
+use Rattle.core_law.proofs.Losing.{valid_loses}
 use Rattle.protected_loads.proofs.Noting.{announced_not_valid, announced_same, more_has, same_has, snapshot_gains}
 
 -- a note that stands for something is there

@@ -18,7 +18,7 @@ use Rattle.core_events.specs.declared.view.Note.TheVariants as note
 use Rattle.core_events.specs.Shows.{show_seat}
 use Rattle.core_events.specs.Steps.{with_note}
 use Rattle.core_events.specs.Views.{note_of}
-use Rattle.core_invariant.proofs.Steady.{noted_in_range}
+use Rattle.core_law.proofs.Steady.{noted_in_range}
 use Rattle.acquire_retire.specs.Calls.{IsSameView, same_view}
 use Rattle.acquire_retire.specs.Collecting.{move}
 use Rattle.acquire_retire.specs.Domains.{DomainState}

@@ -2,7 +2,7 @@
 use Rattle.std.proofs.Common.{ℕ, ◌+◌, ◌<◌, ◌≤◌, refl, subst, sym, arith}
 use Rattle.std.specs.Prelude.{All}
 use Rattle.core_events.specs.Runs.{IsShape}
-use Rattle.core_invariant.proofs.Each.{get_each, length_each}
+use Rattle.core_law.proofs.Each.{get_each, length_each}
 use Rattle.acquire_retire.specs.Domains.{DomainState}
 use Rattle.acquire_retire.specs.Openings.{begun_seat, opened_seats}
 use Rattle.acquire_retire.specs.Seats.{SeatState}

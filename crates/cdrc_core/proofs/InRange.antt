@@ -10,9 +10,9 @@ use Rattle.core_events.specs.Words.{word_count}
 use Rattle.core_events.specs.Views.{no_view}
 use Rattle.core_events.specs.Steps.{May, place}
 use Rattle.core_events.specs.Runs.{Core, view_at}
-use Rattle.core_invariant.specs.Sound.{Sound}
-use Rattle.core_invariant.proofs.InRange.{content_in, open_in_range, place_in, put_in_range, readable_in_range}
-use Rattle.core_invariant.proofs.Steady.{named_in_range}
+use Rattle.core_law.specs.Sound.{Sound}
+use Rattle.core_law.proofs.InRange.{content_in, open_in_range, place_in, put_in_range, readable_in_range}
+use Rattle.core_law.proofs.Steady.{named_in_range}
 use Rattle.cdrc_core.specs.Kept.{Kept}
 use Rattle.core_promises.proofs.Granted.{seat_granted}
 use Rattle.core_views.specs.Fits.{IsFit, IsWordFor}

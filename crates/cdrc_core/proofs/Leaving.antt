@@ -11,8 +11,8 @@ use Rattle.core_events.specs.Views.{no_view, room_of}
 use Rattle.core_events.specs.Steps.{noted}
 use Rattle.core_events.specs.Runs.{Core, Enabled, after, left_behind, taken_over, view_at, views_after}
 use Rattle.core_events.specs.Good.{staying_room}
-use Rattle.core_invariant.specs.Sound.{Sound}
-use Rattle.core_invariant.proofs.Kit.{total_at}
+use Rattle.core_law.specs.Sound.{Sound}
+use Rattle.core_law.proofs.Kit.{total_at}
 use Rattle.cdrc_core.specs.State.{State}
 
 abbrev state : Shape → Core → State

@@ -8,8 +8,8 @@ use Rattle.core_events.specs.Good.{Good}
 use Rattle.core_events.specs.Views.{Terms}
 use Rattle.core_events.specs.Runs.{AreTerms, Enabled, Core, IsShape, after, start}
 use Rattle.core_law.proofs.Always.{step_keeps}
-use Rattle.core_invariant.proofs.Parts.{sound_good}
-use Rattle.core_invariant.proofs.Starts.{start_sound}
+use Rattle.core_law.proofs.Parts.{sound_good}
+use Rattle.core_law.proofs.Starts.{start_sound}
 use Rattle.cdrc_core.specs.Kept.{Kept}
 use Rattle.cdrc_core.specs.State.{State}
 use Rattle.core_law.proofs.Grants.{first_few, grants_after}

@@ -1,7 +1,7 @@
 //! The text of a count of words: what a word of the input is, and how the counts are written.
 //!
-//! `pieces` finds the words of a text. A word is a field of the bytes, a maximal run without Unicode White_Space,
-//! and a field longer than 4,096 bytes counts as its consecutive pieces of 4,096 bytes, the last being the rest. `Tally`
+//! `pieces` finds the words of a text. A word is a field of the bytes, a maximal run without Unicode White_Space, and
+//! a field longer than 4,096 bytes counts as its consecutive pieces of 4,096 bytes, the last being the rest. `Tally`
 //! counts words. `report` writes a line for each word and three lines of totals, byte for byte as `report_of` says.
 //!
 //! Only an allocation failure is left open: no contract says when it comes.

@@ -19,16 +19,16 @@ use Rattle.core_events.specs.Runs.{Core, after, found, view_at}
 use Rattle.core_events.specs.Steps.{May, counter_at, moved, next, owed_at, place, plus_one}
 use Rattle.core_events.specs.Views.{Holds, of_slot, slot_of}
 use Rattle.core_events.specs.Words.{bit_alone, bit_in, bits_at, payload_at, strong_at, ticket_at, weak_at}
-use Rattle.core_invariant.specs.Sound.{Sound}
-use Rattle.core_invariant.specs.Slots.{numbers}
-use Rattle.core_invariant.proofs.Bits.{bit_most, bits_bound, bits_off, bits_other, given_other, taken_other}
-use Rattle.core_invariant.proofs.Held.{held_named}
-use Rattle.core_invariant.proofs.InRange.{open_in_range, owed_named, phase_there, put_in_range}
-use Rattle.core_invariant.proofs.Kit.{one_same, slot_cases, times_push, total_at, total_set}
-use Rattle.core_invariant.proofs.Phases.{in_give}
-use Rattle.core_invariant.proofs.Put.{at_seat}
-use Rattle.core_invariant.proofs.Steady.{named_in_range}
-use Rattle.core_invariant.proofs.Writes.{OffBits, place_off_bits}
+use Rattle.core_law.specs.Sound.{Sound}
+use Rattle.core_law.specs.Slots.{numbers}
+use Rattle.core_law.proofs.Bits.{bit_most, bits_bound, bits_off, bits_other, given_other, taken_other}
+use Rattle.core_law.proofs.Held.{held_named}
+use Rattle.core_law.proofs.InRange.{open_in_range, owed_named, phase_there, put_in_range}
+use Rattle.core_law.proofs.Kit.{one_same, slot_cases, times_push, total_at, total_set}
+use Rattle.core_law.proofs.Phases.{in_give}
+use Rattle.core_law.proofs.Put.{at_seat}
+use Rattle.core_law.proofs.Steady.{named_in_range}
+use Rattle.core_law.proofs.Writes.{OffBits, place_off_bits}
 use Rattle.core_law.proofs.Live.{giver_clear}
 use Rattle.claim_law.specs.Claims.{claimed, claims}
 use Rattle.claim_law.proofs.Going.{claims_go, won}

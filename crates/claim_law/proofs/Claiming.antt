@@ -11,10 +11,10 @@ use Rattle.core_events.specs.Runs.{AreTerms, Core, Enabled, History, IsShape, af
 use Rattle.core_events.specs.Shows.{filled}
 use Rattle.core_events.specs.Steps.{CanLeave, answer, moved}
 use Rattle.core_events.specs.Views.{Terms, alone}
-use Rattle.core_invariant.specs.Sound.{Sound}
-use Rattle.core_invariant.proofs.Kit.{times_append, times_none}
-use Rattle.core_invariant.proofs.Starts.{total_none}
-use Rattle.core_shows.proofs.Bridge.{total_zero}
+use Rattle.core_law.specs.Sound.{Sound}
+use Rattle.core_law.proofs.Kit.{times_append, times_none}
+use Rattle.core_law.proofs.Starts.{total_none}
+use Rattle.core_law.proofs.Bridge.{total_zero}
 use Rattle.claim_law.specs.Claims.{claimed, claims, makes_used}
 use Rattle.claim_law.proofs.Going.{claims_go, grows, won}
 use Rattle.claim_law.proofs.Totals.{LagsLeft, SumLags, always_lags, sum_lags}

@@ -7,7 +7,7 @@ use Rattle.plain_state.specs.Lists.{times}
 use Rattle.core_events.specs.declared.view.CoreView.{CoreView}
 use Rattle.core_events.specs.Views.{no_view}
 use Rattle.core_events.specs.Counts.{one, sum_below, total}
-use Rattle.core_invariant.proofs.Kit.{below_none, one_other, times_cons, times_none}
+use Rattle.core_law.proofs.Kit.{below_none, one_other, times_cons, times_none}
 
 pub total_cons : (f : CoreView → ℕ) (v : CoreView) (vs : List CoreView)
     → total f (v ∷ vs) ≡ f v + total f vs

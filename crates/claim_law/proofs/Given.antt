@@ -12,13 +12,13 @@ use Rattle.core_events.specs.Counts.{total}
 use Rattle.core_events.specs.Runs.{AreTerms, Core, Enabled, History, IsShape, after, found, view_at}
 use Rattle.core_events.specs.Steps.{HasMake, moved}
 use Rattle.core_events.specs.Views.{Terms, first_view, first_views, granted}
-use Rattle.core_invariant.specs.Sound.{Sound}
-use Rattle.core_invariant.proofs.Starts.{first_at, length_views}
+use Rattle.core_law.specs.Sound.{Sound}
+use Rattle.core_law.proofs.Starts.{first_at, length_views}
 use Rattle.core_law.proofs.Always.{history_sound}
 use Rattle.core_law.proofs.Grants.{history_grants}
 use Rattle.core_law.proofs.Trails.{changed_trail}
-use Rattle.core_shows.proofs.Bridge.{total_zero}
-use Rattle.core_shows.proofs.Lists.{total_plus}
+use Rattle.core_law.proofs.Bridge.{total_zero}
+use Rattle.core_law.proofs.Lists.{total_plus}
 use Rattle.claim_law.specs.Claims.{makes_given, makes_used}
 use Rattle.claim_law.proofs.Counting.{EachMost, total_cons, total_gap, total_most, total_nil}
 use Rattle.claim_law.proofs.Going.{grows}

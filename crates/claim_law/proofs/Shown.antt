@@ -16,10 +16,10 @@ use Rattle.core_events.specs.Runs.{AreTerms, Core, Enabled, History, IsShape, af
 use Rattle.core_events.specs.Steps.{answer, moved}
 use Rattle.core_events.specs.Views.{Terms, no_view}
 use Rattle.core_events.specs.Words.{bit_in, bits_at}
-use Rattle.core_invariant.specs.Sound.{Sound}
-use Rattle.core_invariant.proofs.FirstWords.{bit_first}
-use Rattle.core_invariant.proofs.Starts.{first_trail}
-use Rattle.core_invariant.proofs.Joined as joined
+use Rattle.core_law.specs.Sound.{Sound}
+use Rattle.core_law.proofs.FirstWords.{bit_first}
+use Rattle.core_law.proofs.Starts.{first_trail}
+use Rattle.core_law.proofs.Joined as joined
 use Rattle.core_law.proofs.Always.{history_sound, is_leave}
 use Rattle.core_law.proofs.Trails.{changed_trail, views_plain}
 use Rattle.claim_law.specs.Claims.{ShownBy, ShowsTaken, claims}

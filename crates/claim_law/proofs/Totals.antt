@@ -12,13 +12,13 @@ use Rattle.core_events.specs.Counts.{total}
 use Rattle.core_events.specs.Runs.{AreTerms, Core, Enabled, History, IsShape, after, found, left_behind, start, taken_over, view_at}
 use Rattle.core_events.specs.Steps.{CanLeave, moved, noted}
 use Rattle.core_events.specs.Views.{Terms, no_view}
-use Rattle.core_invariant.specs.Sound.{Sound}
-use Rattle.core_invariant.proofs.Joined as joined
-use Rattle.core_invariant.proofs.Kit.{total_set}
+use Rattle.core_law.specs.Sound.{Sound}
+use Rattle.core_law.proofs.Joined as joined
+use Rattle.core_law.proofs.Kit.{total_set}
 use Rattle.core_law.proofs.Always.{history_sound, is_leave}
 use Rattle.core_law.proofs.Trails.{views_plain}
-use Rattle.core_shows.proofs.Bridge.{shown_seat}
-use Rattle.core_shows.proofs.Seats.{enabled_seat}
+use Rattle.core_law.proofs.Bridge.{shown_seat}
+use Rattle.core_law.proofs.Seats.{enabled_seat}
 
 -- f grows by no more than g does
 abbrev pub Lags : (CoreView → ℕ) → (CoreView → ℕ) → CoreView → CoreView → Type 0

@@ -14,8 +14,8 @@
 //! | `gen` | none | SEED below 2^64, WORDS up to 1,000,000, VOCABULARY 1 to 1,000,000 |
 //! | `bulk` | `--lanes` | SEED, WORDS up to 500,000, VOCABULARY as in `gen` |
 //!
-//! `--lanes` has 1 to 31, by default 2. `--rounds` has 1 to 1,000, by default 1. `--slots` has 1 to 4,194,304, and there
-//! are none by default. `--queue` has `linked` or `double`, by default `linked`.
+//! `--lanes` has 1 to 31, by default 2. `--rounds` has 1 to 1,000, by default 1. `--slots` has 1 to 4,194,304, and
+//! there are none by default. `--queue` has `linked` or `double`, by default `linked`.
 //!
 //! Only an allocation failure is left open: no contract says when it comes. Files aren't opened here.
 //!

@@ -15,7 +15,7 @@ use Rattle.core_events.specs.Shows.{show_seat}
 use Rattle.core_events.specs.Steps.{HasRoom, answer, changed}
 use Rattle.core_events.specs.Views.{slot_of}
 use Rattle.counter_word.specs.Words.{HELP, has_help}
-use Rattle.core_invariant.proofs.Kit.{times_without}
+use Rattle.core_law.proofs.Kit.{times_without}
 use Rattle.acquire_retire.specs.declared.payment.Payment.{Payment}
 use Rattle.acquire_retire.specs.declared.payment.Payment.TheVariants as payment
 use Rattle.acquire_retire.specs.Calls.{IsSameView, Steps, same_view}

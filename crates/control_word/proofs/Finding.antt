@@ -16,12 +16,12 @@ use Rattle.core_events.specs.Runs.{view_at}
 use Rattle.core_events.specs.Shows.{shows}
 use Rattle.core_events.specs.Views.{Holds, HoldsStrongly, Terms}
 use Rattle.counter_word.specs.Words.{ZERO, value}
-use Rattle.core_invariant.specs.Sound.{Sound}
-use Rattle.core_invariant.proofs.Held.{held_named, held_taken, strongly_refs}
-use Rattle.core_invariant.proofs.Steady.{named_in_range}
+use Rattle.core_law.specs.Sound.{Sound}
+use Rattle.core_law.proofs.Held.{held_named, held_taken, strongly_refs}
+use Rattle.core_law.proofs.Steady.{named_in_range}
 use Rattle.core_law.proofs.Always.{history_sound}
-use Rattle.core_shows.proofs.Bridge.{shown_strong}
-use Rattle.core_shows.proofs.Told.{counts_shown}
+use Rattle.core_law.proofs.Bridge.{shown_strong}
+use Rattle.core_law.proofs.Told.{counts_shown}
 use Rattle.domain_rule.specs.declared.view.SeatView.{SeatView}
 use Rattle.domain_rule.specs.Told.{Told}
 

@@ -12,7 +12,7 @@ use Rattle.core_events.specs.declared.view.CoreView.{CoreView}
 use Rattle.core_events.specs.declared.view.Phase.TheVariants as phase
 use Rattle.core_events.specs.Shows.{show_seat}
 use Rattle.core_events.specs.Steps.{answer, changed}
-use Rattle.core_invariant.proofs.Kit.{times_without}
+use Rattle.core_law.proofs.Kit.{times_without}
 use Rattle.core_events.specs.Views.{slot_of}
 use Rattle.acquire_retire.specs.Calls.{IsSameView, Steps, same_view}
 use Rattle.acquire_retire.specs.Collecting.{move}

@@ -9,11 +9,11 @@ use Rattle.core_events.specs.Views.{Terms}
 use Rattle.core_events.specs.Steps.{CanLeave}
 use Rattle.core_events.specs.Runs.{Core, Enabled, after, run, AreEnabled, History, newest_first, start, view_at, views_after, IsShape, AreTerms}
 use Rattle.core_events.specs.Good.{Good}
-use Rattle.core_invariant.specs.Sound.{Sound}
+use Rattle.core_law.specs.Sound.{Sound}
 use Rattle.core_law.proofs.Keeps.{keeps}
 use Rattle.core_law.proofs.Leaves.{leave_sound}
-use Rattle.core_invariant.proofs.Starts.{start_sound}
-use Rattle.core_invariant.proofs.Parts.{sound_good}
+use Rattle.core_law.proofs.Starts.{start_sound}
+use Rattle.core_law.proofs.Parts.{sound_good}
 
 leave_keeps : (z : Shape) (c : Core) (n j : ℕ) → Sound z c → Enabled z c n (act.Leave j)
     → Sound z (after z c n (act.Leave j))

@@ -15,14 +15,14 @@ use Rattle.core_events.specs.Views.{Holds, without}
 use Rattle.core_events.specs.Steps.{plus_one, minus_one, IsIdle, HasAdd}
 use Rattle.core_events.specs.Runs.{Core, view_at}
 use Rattle.core_events.specs.Counts.{strong, listed}
-use Rattle.core_invariant.specs.Slots.{numbers}
-use Rattle.core_invariant.specs.Sound.{Sound}
-use Rattle.core_invariant.proofs.Kit.{one_same, one_other, times_push, times_without, total_at, kind_one, entry_cons}
-use Rattle.core_invariant.proofs.Held.{held_taken, held_named}
-use Rattle.core_invariant.proofs.Put.{put, adds_fit, at_seat}
-use Rattle.core_invariant.proofs.SlotSame.{slot_same}
-use Rattle.core_invariant.proofs.Steady.{named_in_range}
-use Rattle.core_invariant.proofs.Phases.{in_idle, in_finish, at_idle, at_finish, at_zero}
+use Rattle.core_law.specs.Slots.{numbers}
+use Rattle.core_law.specs.Sound.{Sound}
+use Rattle.core_law.proofs.Kit.{one_same, one_other, times_push, times_without, total_at, kind_one, entry_cons}
+use Rattle.core_law.proofs.Held.{held_taken, held_named}
+use Rattle.core_law.proofs.Put.{put, adds_fit, at_seat}
+use Rattle.core_law.proofs.SlotSame.{slot_same}
+use Rattle.core_law.proofs.Steady.{named_in_range}
+use Rattle.core_law.proofs.Phases.{in_idle, in_finish, at_idle, at_finish, at_zero}
 use Rattle.core_law.proofs.SlotSteps as slot
 use Rattle.core_law.proofs.Live.{live_most, is_low, dead_goes_on, count_few, owned_counts, plus_fits, minus_fits}
 use Rattle.core_law.proofs.OneWord.{Having, having, with_having, SameOf, strong_step}

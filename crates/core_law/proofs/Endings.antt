@@ -11,13 +11,13 @@ use Rattle.counter_word.specs.Words.{ZERO, HELP}
 use Rattle.core_events.specs.Views.{slot_of}
 use Rattle.core_events.specs.Runs.{Core, view_at}
 use Rattle.core_events.specs.Counts.{strong}
-use Rattle.core_invariant.specs.Slots.{numbers}
-use Rattle.core_invariant.specs.Sound.{Sound}
-use Rattle.core_invariant.proofs.Kit.{one_same, one_other, times_push}
-use Rattle.core_invariant.proofs.Put.{put}
-use Rattle.core_invariant.proofs.SlotSame.{slot_same}
-use Rattle.core_invariant.proofs.InRange.{phase_there}
-use Rattle.core_invariant.proofs.Phases.{in_finish, in_help, in_zero, at_idle, at_finish, at_help, at_zero}
+use Rattle.core_law.specs.Slots.{numbers}
+use Rattle.core_law.specs.Sound.{Sound}
+use Rattle.core_law.proofs.Kit.{one_same, one_other, times_push}
+use Rattle.core_law.proofs.Put.{put}
+use Rattle.core_law.proofs.SlotSame.{slot_same}
+use Rattle.core_law.proofs.InRange.{phase_there}
+use Rattle.core_law.proofs.Phases.{in_finish, in_help, in_zero, at_idle, at_finish, at_help, at_zero}
 use Rattle.core_law.proofs.SlotSteps as slot
 use Rattle.core_law.proofs.Live.{live_most, is_asked}
 use Rattle.core_law.proofs.OneWord.{having, strong_step}

@@ -12,7 +12,7 @@ use Rattle.core_events.specs.declared.view.Move.{Move}
 use Rattle.core_events.specs.Words.{slot_in}
 use Rattle.core_events.specs.Steps.{CanGive, without_given, exchanged}
 use Rattle.core_events.specs.Counts.{one, in_word, listed}
-use Rattle.core_invariant.proofs.Kit.{kind_one, times_without, entry_push, in_word_slot, in_word_null}
+use Rattle.core_law.proofs.Kit.{kind_one, times_without, entry_push, in_word_slot, in_word_null}
 use Rattle.core_law.proofs.Counters.{kind_none}
 
 pub in_word_other : (s : SlotId) (w : ℕ) → w ≢ s.0 + 1 → in_word s w ≡ 0

@@ -21,17 +21,17 @@ use Rattle.core_events.specs.Steps.{IsIdle, HasRoom, CanGive, exchanged}
 use Rattle.core_events.specs.Runs.{Core, view_at}
 use Rattle.core_events.specs.Counts.{in_word, listed, naming, noting, in_phase, finishing, helping, baring, filling, giving, dying_times, refs, adds_used, guarding, is_live_word}
 use Rattle.core_events.specs.Good.{SeatLaw}
-use Rattle.core_invariant.specs.Slots.{numbers, SlotLaw}
-use Rattle.core_invariant.specs.Sound.{Sound, covering}
-use Rattle.core_invariant.proofs.Kit.{kind_one, in_word_null, by_slot}
-use Rattle.core_invariant.proofs.SlotSame.{slot_same}
-use Rattle.core_invariant.proofs.Bits.{bits_off, ticket_off}
+use Rattle.core_law.specs.Slots.{numbers, SlotLaw}
+use Rattle.core_law.specs.Sound.{Sound, covering}
+use Rattle.core_law.proofs.Kit.{kind_one, in_word_null, by_slot}
+use Rattle.core_law.proofs.SlotSame.{slot_same}
+use Rattle.core_law.proofs.Bits.{bits_off, ticket_off}
 use Rattle.core_law.proofs.Counters.{kind_none}
 use Rattle.core_law.proofs.SlotSteps as slot
-use Rattle.core_invariant.proofs.Writes.{IsPlace, place_off_notes, place_off_bits, place_off_strong, place_off_weak, places_put, places_at, fields_sum, fields_sum_off}
-use Rattle.core_invariant.proofs.Put.{put, put_sound, announced_put, guarded_put, unripe_put, tickets_put, fit_put, at_seat, totals}
-use Rattle.core_invariant.proofs.Steady.{nothing_seen, named_in_range}
-use Rattle.core_invariant.proofs.Guards.{guards_all}
+use Rattle.core_law.proofs.Writes.{IsPlace, place_off_notes, place_off_bits, place_off_strong, place_off_weak, places_put, places_at, fields_sum, fields_sum_off}
+use Rattle.core_law.proofs.Put.{put, put_sound, announced_put, guarded_put, unripe_put, tickets_put, fit_put, at_seat, totals}
+use Rattle.core_law.proofs.Steady.{nothing_seen, named_in_range}
+use Rattle.core_law.proofs.Guards.{guards_all}
 use Rattle.core_law.proofs.Exchange.{SameBut, exchanged_listed, exchanged_retired, in_word_other, joined_length, joined_times, same_but}
 
 module _ (z : Shape) (c : Core) (n : ℕ) (so : Sound z c) (hn : n < z.seats) where

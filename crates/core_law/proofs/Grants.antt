@@ -22,7 +22,7 @@ use Rattle.core_events.specs.Views.{Terms, first_views, no_view, note_of, slot_o
 use Rattle.core_events.specs.Steps.{changed, ended, exchanged, given_up, is_last, is_valid, paid, moved, noted}
 use Rattle.core_events.specs.Runs.{Core, History, found, left_behind, taken_over, view_at, views_after}
 use Rattle.core_events.specs.declared.outcome.Outcome.TheVariants as outcome
-use Rattle.core_invariant.proofs.Starts.{first_at}
+use Rattle.core_law.proofs.Starts.{first_at}
 
 either_way : (b : Bool) (x y : CoreView) (gs : List ℕ) → x.grants ≡ gs → y.grants ≡ gs
     → (if b then x else y).grants ≡ gs

@@ -26,16 +26,16 @@ use Rattle.core_events.specs.Views.{IsOpen, IsRipeField, slot_of}
 use Rattle.core_events.specs.Steps.{May, CanGive}
 use Rattle.core_events.specs.Runs.{Core, view_at, Enabled, after, HasNullFields}
 use Rattle.core_events.specs.Counts.{strong, weak, dying_times, is_live_word}
-use Rattle.core_invariant.specs.Sound.{Sound, covering}
-use Rattle.core_invariant.proofs.Kit.{by_test, one_other, total_at}
-use Rattle.core_invariant.proofs.Held.{strongly_refs, held_named}
-use Rattle.core_invariant.proofs.Bits.{bit_most, clear_stays}
-use Rattle.core_invariant.proofs.Guards.{guards_same}
-use Rattle.core_invariant.proofs.Writes.{IsPlace, OffBits, payload_off}
-use Rattle.core_invariant.proofs.Put.{law_alike, at_seat}
-use Rattle.core_invariant.proofs.Wrote.{wrote_off}
-use Rattle.core_invariant.proofs.Steady.{steady_sound, off_rest, named_in_range}
-use Rattle.core_invariant.proofs.InRange.{open_in_range, readable_in_range, ripe_in_range, phase_there}
+use Rattle.core_law.specs.Sound.{Sound, covering}
+use Rattle.core_law.proofs.Kit.{by_test, one_other, total_at}
+use Rattle.core_law.proofs.Held.{strongly_refs, held_named}
+use Rattle.core_law.proofs.Bits.{bit_most, clear_stays}
+use Rattle.core_law.proofs.Guards.{guards_same}
+use Rattle.core_law.proofs.Writes.{IsPlace, OffBits, payload_off}
+use Rattle.core_law.proofs.Put.{law_alike, at_seat}
+use Rattle.core_law.proofs.Wrote.{wrote_off}
+use Rattle.core_law.proofs.Steady.{steady_sound, off_rest, named_in_range}
+use Rattle.core_law.proofs.InRange.{open_in_range, readable_in_range, ripe_in_range, phase_there}
 use Rattle.core_law.proofs.OneWord.{trail_step}
 use Rattle.core_law.proofs.Lives as life
 use Rattle.core_law.proofs.Tickets.{ticket_step}

@@ -20,13 +20,13 @@ use Rattle.core_events.specs.Views.{slot_of}
 use Rattle.core_events.specs.Steps.{May, noted, decremented, given_up, paid, paid_outcome, owed_at, counter_at, minus_one}
 use Rattle.core_events.specs.Runs.{Core, view_at, after}
 use Rattle.core_events.specs.Counts.{strong, weak}
-use Rattle.core_invariant.specs.Slots.{numbers}
-use Rattle.core_invariant.specs.Sound.{Sound}
-use Rattle.core_invariant.proofs.Kit.{by_test, one_same, entry_cons}
-use Rattle.core_invariant.proofs.InRange.{owed_named, phase_there}
-use Rattle.core_invariant.proofs.Flags.{flags, cleared}
-use Rattle.core_invariant.proofs.Put.{put, adds_fit}
-use Rattle.core_invariant.proofs.Steady.{named_in_range}
+use Rattle.core_law.specs.Slots.{numbers}
+use Rattle.core_law.specs.Sound.{Sound}
+use Rattle.core_law.proofs.Kit.{by_test, one_same, entry_cons}
+use Rattle.core_law.proofs.InRange.{owed_named, phase_there}
+use Rattle.core_law.proofs.Flags.{flags, cleared}
+use Rattle.core_law.proofs.Put.{put, adds_fit}
+use Rattle.core_law.proofs.Steady.{named_in_range}
 use Rattle.core_law.proofs.OneWord.{trail_step}
 use Rattle.core_law.proofs.Counters as counter
 use Rattle.core_law.proofs.Endings as ending

@@ -18,13 +18,13 @@ use Rattle.core_events.specs.Steps.{CanLeave, noted}
 use Rattle.core_events.specs.Runs.{Core, view_at, taken_over, left_behind}
 use Rattle.core_events.specs.Counts.{total, listed, finishing, helping, baring, filling, giving, guarding, waiting, ticket_times, number_times}
 use Rattle.core_events.specs.Good.{SeatLaw, staying_room, word_of_note}
-use Rattle.core_invariant.specs.Slots.{numbers}
-use Rattle.core_invariant.specs.Sound.{Sound}
-use Rattle.core_invariant.proofs.Kit.{entry_append, entry_none, times_append, times_none}
-use Rattle.core_invariant.proofs.SlotSame.{slot_same}
-use Rattle.core_invariant.proofs.Steady.{nothing_seen}
-use Rattle.core_invariant.proofs.Guards.{guards_all}
-use Rattle.core_invariant.proofs.Joined.{parts, at0, atj, joined_length, two, by_seat}
+use Rattle.core_law.specs.Slots.{numbers}
+use Rattle.core_law.specs.Sound.{Sound}
+use Rattle.core_law.proofs.Kit.{entry_append, entry_none, times_append, times_none}
+use Rattle.core_law.proofs.SlotSame.{slot_same}
+use Rattle.core_law.proofs.Steady.{nothing_seen}
+use Rattle.core_law.proofs.Guards.{guards_all}
+use Rattle.core_law.proofs.Joined.{parts, at0, atj, joined_length, two, by_seat}
 
 no_number : (t : ℕ) → number_times t [] ≡ 0
 unfolding number_times

@@ -5,7 +5,7 @@ use Rattle.std.proofs.lemmas.Bool.Decides.{nat_tests}
 use Rattle.counter_word.specs.Words.{ZERO, HELP}
 use Rattle.core_events.specs.Steps.{plus_one, minus_one}
 use Rattle.core_events.specs.Counts.{is_live_word}
-use Rattle.core_invariant.specs.Slots.{Numbers, SlotLaw}
+use Rattle.core_law.specs.Slots.{Numbers, SlotLaw}
 
 -- 1 where it is
 abbrev pub live_one : ℕ → ℕ

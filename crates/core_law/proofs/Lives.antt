@@ -12,16 +12,16 @@ use Rattle.core_events.specs.Steps.{IsIdle, HasAdd, HasMake}
 use Rattle.core_events.specs.Views.{slot_of}
 use Rattle.core_events.specs.Runs.{Core, view_at}
 use Rattle.core_events.specs.Counts.{strong, free_bit, giving}
-use Rattle.core_invariant.specs.Slots.{numbers}
-use Rattle.core_invariant.specs.Sound.{Sound}
-use Rattle.core_invariant.proofs.Kit.{one_same, one_other, times_push, total_at}
-use Rattle.core_invariant.proofs.Put.{put, at_seat}
-use Rattle.core_invariant.proofs.InRange.{phase_there}
-use Rattle.core_invariant.proofs.Phases.{in_idle, in_bare, in_blank, in_give, at_idle, at_bare, at_blank, at_give}
+use Rattle.core_law.specs.Slots.{numbers}
+use Rattle.core_law.specs.Sound.{Sound}
+use Rattle.core_law.proofs.Kit.{one_same, one_other, times_push, total_at}
+use Rattle.core_law.proofs.Put.{put, at_seat}
+use Rattle.core_law.proofs.InRange.{phase_there}
+use Rattle.core_law.proofs.Phases.{in_idle, in_bare, in_blank, in_give, at_idle, at_bare, at_blank, at_give}
 use Rattle.core_law.proofs.SlotSteps as slot
 use Rattle.core_law.proofs.Live.{giver_clear, live_most, is_low}
 use Rattle.core_law.proofs.OneWord.{Having, having, strong_step, weak_step, bit_step}
-use Rattle.core_invariant.proofs.Bits.{taken_bit, taken_other, given_bit, given_other}
+use Rattle.core_law.proofs.Bits.{taken_bit, taken_other, given_bit, given_other}
 
 module _ (z : Shape) (c : Core) (n : ℕ) (so : Sound z c) (hn : n < z.seats) where
   abbrev v : CoreView

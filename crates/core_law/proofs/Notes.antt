@@ -24,15 +24,15 @@ use Rattle.core_events.specs.Steps.{IsIdle}
 use Rattle.core_events.specs.Runs.{Core, view_at}
 use Rattle.core_events.specs.Counts.{one, places, in_note, strong, total, adds_used, is_live_word}
 use Rattle.core_events.specs.Good.{SeatLaw, word_of_note}
-use Rattle.core_invariant.specs.Slots.{numbers}
-use Rattle.core_invariant.specs.Sound.{Sound, covering}
-use Rattle.core_invariant.proofs.Kit.{noting_set, noting_at, in_word_same, total_at}
-use Rattle.core_invariant.proofs.Flags.{live_low, live_taken}
-use Rattle.core_invariant.proofs.Writes.{OffBits, note_off, places_off, IsPlace, places_at}
-use Rattle.core_invariant.proofs.Bits.{bits_off, ticket_off}
-use Rattle.core_invariant.proofs.Guards.{guards_same}
-use Rattle.core_invariant.proofs.Wrote.{wrote_off}
-use Rattle.core_invariant.proofs.Put.{put, put_sound, still_sound, announced_put, guarded_put, unripe_put, tickets_put, fit_put, ripe_times, at_seat, adds_fit, law_alike, Alike}
+use Rattle.core_law.specs.Slots.{numbers}
+use Rattle.core_law.specs.Sound.{Sound, covering}
+use Rattle.core_law.proofs.Kit.{noting_set, noting_at, in_word_same, total_at}
+use Rattle.core_law.proofs.Flags.{live_low, live_taken}
+use Rattle.core_law.proofs.Writes.{OffBits, note_off, places_off, IsPlace, places_at}
+use Rattle.core_law.proofs.Bits.{bits_off, ticket_off}
+use Rattle.core_law.proofs.Guards.{guards_same}
+use Rattle.core_law.proofs.Wrote.{wrote_off}
+use Rattle.core_law.proofs.Put.{put, put_sound, still_sound, announced_put, guarded_put, unripe_put, tickets_put, fit_put, ripe_times, at_seat, adds_fit, law_alike, Alike}
 
 module _ (z : Shape) (c : Core) (n : ℕ) (so : Sound z c) (hn : n < z.seats) where
   abbrev v : CoreView

@@ -16,16 +16,16 @@ use Rattle.core_events.specs.Views.{allowed_makes, no_view}
 use Rattle.core_events.specs.Runs.{Core, view_at}
 use Rattle.core_events.specs.Counts.{listed, strong}
 use Rattle.core_events.specs.Good.{SeatLaw}
-use Rattle.core_invariant.specs.Sound.{Sound, covering}
-use Rattle.core_invariant.proofs.Kit.{by_slot}
-use Rattle.core_invariant.proofs.Writes.{strong_off, weak_off}
-use Rattle.core_invariant.proofs.Put.{put, still_sound, HasLaw, SlotWords, SameWords, at_seat, Totals, totals, Alike, laws_but, ripe_times}
-use Rattle.core_invariant.proofs.Guards.{guards_same}
-use Rattle.core_invariant.proofs.Steady.{OffRest, steady_seat, steady_sound, keeps_live, KeepsLive, off_rest}
+use Rattle.core_law.specs.Sound.{Sound, covering}
+use Rattle.core_law.proofs.Kit.{by_slot}
+use Rattle.core_law.proofs.Writes.{strong_off, weak_off}
+use Rattle.core_law.proofs.Put.{put, still_sound, HasLaw, SlotWords, SameWords, at_seat, Totals, totals, Alike, laws_but, ripe_times}
+use Rattle.core_law.proofs.Guards.{guards_same}
+use Rattle.core_law.proofs.Steady.{OffRest, steady_seat, steady_sound, keeps_live, KeepsLive, off_rest}
 use Rattle.core_law.proofs.Live.{live_one}
-use Rattle.core_invariant.proofs.Phases.{IsAt, not_scan, same_phase}
-use Rattle.core_invariant.proofs.Wrote.{WroteStrong, wrote_strong, strong_other, strong_before, WroteWeak, wrote_weak, weak_other, weak_before, WroteBit, wrote_bit, bit_other, bits_past}
-use Rattle.core_invariant.proofs.Bits.{bits_bound, bits_other}
+use Rattle.core_law.proofs.Phases.{IsAt, not_scan, same_phase}
+use Rattle.core_law.proofs.Wrote.{WroteStrong, wrote_strong, strong_other, strong_before, WroteWeak, wrote_weak, weak_other, weak_before, WroteBit, wrote_bit, bit_other, bits_past}
+use Rattle.core_law.proofs.Bits.{bits_bound, bits_other}
 
 -- what a step on a counter or a bit may change of a view
 pub record Having : Type 0 where

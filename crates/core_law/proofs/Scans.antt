@@ -18,20 +18,20 @@ use Rattle.core_events.specs.Views.{no_view, note_of}
 use Rattle.core_events.specs.Steps.{IsIdle}
 use Rattle.core_events.specs.Runs.{Core, view_at}
 use Rattle.core_events.specs.Counts.{guarding, waiting, has_passed, total, strong, dying_times, adds_used, is_live_word}
-use Rattle.core_invariant.specs.Slots.{numbers}
-use Rattle.core_invariant.specs.Sound.{Sound, covering}
+use Rattle.core_law.specs.Slots.{numbers}
+use Rattle.core_law.specs.Sound.{Sound, covering}
 use Rattle.core_events.specs.Good.{word_of_note}
-use Rattle.core_invariant.proofs.Kit.{entry_none, total_set, total_at, times_none}
-use Rattle.core_invariant.proofs.Flags.{live_taken}
-use Rattle.core_invariant.proofs.Held.{guard_le, total_le}
-use Rattle.core_invariant.proofs.Ripening.{ripened_times, ripens_not}
+use Rattle.core_law.proofs.Kit.{entry_none, total_set, total_at, times_none}
+use Rattle.core_law.proofs.Flags.{live_taken}
+use Rattle.core_law.proofs.Held.{guard_le, total_le}
+use Rattle.core_law.proofs.Ripening.{ripened_times, ripens_not}
 use Rattle.announce_slots.proofs.Counting.{seen_at}
 use Rattle.plain_state.proofs.Ejections.{kept_times, split_times, split_length}
-use Rattle.core_invariant.proofs.Put.{put, still_sound, at_seat, adds_fit}
-use Rattle.core_invariant.proofs.Phases.{Counted, in_idle, in_scan}
-use Rattle.core_invariant.proofs.Steady.{noted_in_range}
+use Rattle.core_law.proofs.Put.{put, still_sound, at_seat, adds_fit}
+use Rattle.core_law.proofs.Phases.{Counted, in_idle, in_scan}
+use Rattle.core_law.proofs.Steady.{noted_in_range}
 use Rattle.core_law.proofs.Live.{dying_once}
-use Rattle.core_invariant.proofs.Guards.{guards_all, guards_open, guards_passed, passed_cases, read_passed}
+use Rattle.core_law.proofs.Guards.{guards_all, guards_open, guards_passed, passed_cases, read_passed}
 
 module _ (z : Shape) (c : Core) (n : ℕ) (so : Sound z c) (hn : n < z.seats) where
   abbrev v : CoreView

@@ -3,8 +3,8 @@
 use Rattle.std.proofs.Common.{◌≡◌, ◌≢◌, ℕ, ◌+◌, ◌^◌, ◌<◌, ◌≤◌, arith}
 use Rattle.counter_word.specs.Words.{ZERO, HELP}
 use Rattle.core_events.specs.Steps.{plus_one, minus_one}
-use Rattle.core_invariant.specs.Slots.{Numbers, SlotLaw, free, bare, blank, counted, asked, over, husk}
-use Rattle.core_invariant.proofs.SlotSame.{SameNumbers}
+use Rattle.core_law.specs.Slots.{Numbers, SlotLaw, free, bare, blank, counted, asked, over, husk}
+use Rattle.core_law.proofs.SlotSame.{SameNumbers}
 
 -- an add finds no zero flag
 pub add_up : (a b : ℕ) (m n : Numbers) → SlotLaw a m → a < 2 ^ 60 → b ≡ a + 1 → m.strong < ZERO

@@ -13,13 +13,13 @@ use Rattle.core_events.specs.Views.{granted}
 use Rattle.core_events.specs.Steps.{plus_one, IsIdle, HasAdd}
 use Rattle.core_events.specs.Runs.{Core, view_at}
 use Rattle.core_events.specs.Counts.{total, ticket_times, number_times, is_live_word}
-use Rattle.core_invariant.specs.Sound.{Sound, covering}
-use Rattle.core_invariant.proofs.Kit.{total_set}
-use Rattle.core_invariant.proofs.Writes.{past_off}
-use Rattle.core_invariant.proofs.Guards.{guards_same}
-use Rattle.core_invariant.proofs.Put.{put, at_seat, adds_fit, law_alike}
-use Rattle.core_invariant.proofs.Steady.{steady_put}
-use Rattle.core_invariant.proofs.Wrote.{wrote_off}
+use Rattle.core_law.specs.Sound.{Sound, covering}
+use Rattle.core_law.proofs.Kit.{total_set}
+use Rattle.core_law.proofs.Writes.{past_off}
+use Rattle.core_law.proofs.Guards.{guards_same}
+use Rattle.core_law.proofs.Put.{put, at_seat, adds_fit, law_alike}
+use Rattle.core_law.proofs.Steady.{steady_put}
+use Rattle.core_law.proofs.Wrote.{wrote_off}
 
 -- one number more in a list
 number_push : (t w : ℕ) (ts : List ℕ) → number_times t (ts ++ w ∷ []) ≡ number_times t ts

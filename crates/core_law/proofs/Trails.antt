@@ -14,10 +14,10 @@ use Rattle.core_events.specs.declared.view.CoreView.{CoreView}
 use Rattle.core_events.specs.declared.view.Move.{Move}
 use Rattle.core_events.specs.Steps.{May, changed, moved, noted}
 use Rattle.core_events.specs.Runs.{Core, view_at, found, Enabled, after, views_after, run, AreEnabled, outcome_of, moves_of, start, taken_over, left_behind, IsShape, AreTerms}
-use Rattle.core_invariant.specs.Sound.{Sound}
+use Rattle.core_law.specs.Sound.{Sound}
 use Rattle.core_law.proofs.Always.{step_keeps, is_leave}
-use Rattle.core_invariant.proofs.Put.{at_seat}
-use Rattle.core_invariant.proofs.Starts.{start_sound, first_trail}
+use Rattle.core_law.proofs.Put.{at_seat}
+use Rattle.core_law.proofs.Starts.{start_sound, first_trail}
 
 -- the two views have the same trail and the same trails of seats that left, and both have left or neither has
 pub record SameTrail (v u : CoreView) : Type 0 where

@@ -13,13 +13,13 @@ use Rattle.core_events.specs.Views.{Holds, without}
 use Rattle.core_events.specs.Steps.{plus_one, minus_one, IsIdle, HasAdd}
 use Rattle.core_events.specs.Runs.{Core, view_at, HasNullFields}
 use Rattle.core_events.specs.Counts.{weak}
-use Rattle.core_invariant.specs.Slots.{numbers}
-use Rattle.core_invariant.specs.Sound.{Sound}
-use Rattle.core_invariant.proofs.Kit.{one_same, one_other, times_push, times_without, total_at}
-use Rattle.core_invariant.proofs.Held.{held_taken, held_named}
-use Rattle.core_invariant.proofs.Put.{put, at_seat, ripe_times}
-use Rattle.core_invariant.proofs.Steady.{named_in_range}
-use Rattle.core_invariant.proofs.Phases.{in_idle, in_give, at_idle, at_give}
+use Rattle.core_law.specs.Slots.{numbers}
+use Rattle.core_law.specs.Sound.{Sound}
+use Rattle.core_law.proofs.Kit.{one_same, one_other, times_push, times_without, total_at}
+use Rattle.core_law.proofs.Held.{held_taken, held_named}
+use Rattle.core_law.proofs.Put.{put, at_seat, ripe_times}
+use Rattle.core_law.proofs.Steady.{named_in_range}
+use Rattle.core_law.proofs.Phases.{in_idle, in_give, at_idle, at_give}
 use Rattle.core_law.proofs.SlotSteps as slot
 use Rattle.core_law.proofs.Live.{plus_fits, minus_fits}
 use Rattle.core_law.proofs.OneWord.{Having, having, with_having, weak_step}

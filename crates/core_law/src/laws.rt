@@ -7,7 +7,7 @@ ghost use Rattle.core_events.specs.declared.shape.Shape.{Shape};
 ghost use Rattle.core_events.specs.Views.{Terms};
 ghost use Rattle.core_events.specs.Good.{Good};
 ghost use Rattle.core_events.specs.Runs.{AreEnabled, AreTerms, Core, Enabled, History, IsShape, after, moves_of, newest_first, run, start, view_at};
-ghost use Rattle.core_invariant.specs.Sound.{Sound};
+ghost use Rattle.core_law.specs.Sound.{Sound};
 
 /// For every shape and quotas in their ranges and every list of events that are enabled in turn,
 /// the invariant holds of the state after them.
@@ -34,7 +34,7 @@ pub fn run_has_history()
         → History z ts (newest_first es []) (run z (start z ts) es) }
 {}
 
-/// Each event keeps the invariant, in the form of `core_invariant`.
+/// Each event keeps the invariant, in the form of `invariant`.
 pub fn step_keeps()
     ensures { (z : Shape) (c : Core) (n : ℕ) (a : Act) → Sound z c → Enabled z c n a
         → Sound z (after z c n a) }

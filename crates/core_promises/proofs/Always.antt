@@ -4,12 +4,12 @@ use Rattle.core_events.specs.declared.shape.Shape.{Shape}
 use Rattle.core_events.specs.Runs.{AreEnabled, AreTerms, Core, History, IsShape, after, run, start}
 use Rattle.core_events.specs.Shows.{shows}
 use Rattle.core_events.specs.Views.{Terms}
-use Rattle.core_invariant.specs.Sound.{Sound}
-use Rattle.core_invariant.proofs.Starts.{start_sound}
+use Rattle.core_law.specs.Sound.{Sound}
+use Rattle.core_law.proofs.Starts.{start_sound}
 use Rattle.core_law.proofs.Always.{always_sound, history_sound, step_keeps}
-use Rattle.core_shows.specs.Shown.{AllShow}
-use Rattle.core_shows.proofs.Events.{event_shows}
-use Rattle.core_shows.proofs.Lawful.{shows_lawful}
+use Rattle.core_law.specs.Shown.{AllShow}
+use Rattle.core_law.proofs.Events.{event_shows}
+use Rattle.core_law.proofs.Lawful.{shows_lawful}
 use Rattle.plain_state.specs.Lawful.{Lawful}
 use Rattle.std.proofs.Common.{List, [], ◌∷◌}
 

@@ -8,7 +8,7 @@ use Rattle.core_events.specs.Counts.{total}
 use Rattle.core_events.specs.Good.{staying_room}
 use Rattle.core_events.specs.Runs.{Core, view_at}
 use Rattle.core_events.specs.Views.{no_view}
-use Rattle.core_invariant.specs.Sound.{Sound}
+use Rattle.core_law.specs.Sound.{Sound}
 use Rattle.core_promises.specs.Finds.{DeferredFit, deferred}
 
 -- seat by seat at most as much is at most as much together

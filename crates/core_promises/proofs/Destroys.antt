@@ -22,15 +22,15 @@ use Rattle.core_events.specs.Steps.{is_last}
 use Rattle.core_events.specs.Views.{Terms, note_of, slot_of}
 use Rattle.core_events.specs.Words.{bit_in}
 use Rattle.counter_word.specs.Words.{has_help}
-use Rattle.core_invariant.specs.Sound.{Sound}
-use Rattle.core_invariant.proofs.Each.{length_each}
-use Rattle.core_invariant.proofs.FirstWords.{bit_first}
-use Rattle.core_invariant.proofs.Kit.{times_none}
-use Rattle.core_invariant.proofs.Starts.{total_none}
+use Rattle.core_law.specs.Sound.{Sound}
+use Rattle.core_law.proofs.Each.{length_each}
+use Rattle.core_law.proofs.FirstWords.{bit_first}
+use Rattle.core_law.proofs.Kit.{times_none}
+use Rattle.core_law.proofs.Starts.{total_none}
 use Rattle.core_law.proofs.Always.{history_sound}
-use Rattle.core_shows.proofs.Bridge.{shown_slot}
-use Rattle.core_shows.proofs.Events.{event_shows}
-use Rattle.core_shows.proofs.Lawful.{shows_lawful}
+use Rattle.core_law.proofs.Bridge.{shown_slot}
+use Rattle.core_law.proofs.Events.{event_shows}
+use Rattle.core_law.proofs.Lawful.{shows_lawful}
 use Rattle.core_promises.specs.Destroyed.{DestroyedOnce, destroys, standing}
 use Rattle.core_promises.proofs.Ledger.{balanced, falls}
 

@@ -19,15 +19,15 @@ use Rattle.core_events.specs.Runs.{Core, Enabled, found, view_at}
 use Rattle.core_events.specs.Steps.{answer, owed_at}
 use Rattle.core_events.specs.Views.{Holds, slot_noted, slot_of}
 use Rattle.counter_word.specs.Words.{ZERO, HELP, has_help, low, value}
-use Rattle.core_invariant.specs.Slots.{Numbers, SlotLaw, numbers, free, bare, blank, counted, asked, over, husk}
-use Rattle.core_invariant.specs.Sound.{Sound}
-use Rattle.core_invariant.proofs.Flags.{flags}
-use Rattle.core_invariant.proofs.Held.{held_named}
-use Rattle.core_invariant.proofs.Kit.{one_same, total_at}
-use Rattle.core_invariant.proofs.Put.{adds_fit}
+use Rattle.core_law.specs.Slots.{Numbers, SlotLaw, numbers, free, bare, blank, counted, asked, over, husk}
+use Rattle.core_law.specs.Sound.{Sound}
+use Rattle.core_law.proofs.Flags.{flags}
+use Rattle.core_law.proofs.Held.{held_named}
+use Rattle.core_law.proofs.Kit.{one_same, total_at}
+use Rattle.core_law.proofs.Put.{adds_fit}
 use Rattle.plain_state.proofs.Kit.{entry_cons, entry_self}
-use Rattle.core_invariant.proofs.Parts.{sound_good, value_is}
-use Rattle.core_invariant.proofs.Steady.{named_in_range}
+use Rattle.core_law.proofs.Parts.{sound_good, value_is}
+use Rattle.core_law.proofs.Steady.{named_in_range}
 use Rattle.core_promises.specs.Finds.{NeverWraps, TellsTruly}
 
 -- where references are counted, the strong word is their count, and where weak ones are or the slot is

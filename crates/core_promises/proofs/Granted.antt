@@ -9,7 +9,7 @@ use Rattle.core_events.specs.Views.{granted}
 use Rattle.core_events.specs.Runs.{Core, view_at}
 use Rattle.core_events.specs.Counts.{number_times, ticket_times, tickets_drawn}
 use Rattle.core_events.specs.Good.{TicketLaw}
-use Rattle.core_invariant.proofs.Kit.{total_at}
+use Rattle.core_law.proofs.Kit.{total_at}
 
 -- 1 where they are the same ticket
 unfoldable same_one : ℕ → ℕ → ℕ

@@ -26,7 +26,7 @@ use Rattle.core_events.specs.Runs.{left_behind, taken_over}
 use Rattle.core_law.proofs.Trails.{changed_trail}
 use Rattle.core_events.specs.Views.{about, alone, note_of, slot_of}
 use Rattle.core_promises.specs.Made.{MadeByStarts, claimed_by, making, making_after, started, started_before, starts}
-use Rattle.core_invariant.proofs.Kit.{times_append, times_none}
+use Rattle.core_law.proofs.Kit.{times_append, times_none}
 
 -- one move more
 making_push : (s : Option SlotId) (ms : List Move) (m : Move)

@@ -12,10 +12,10 @@ use Rattle.core_events.specs.Shows.{filled}
 use Rattle.core_events.specs.Steps.{moved}
 use Rattle.core_events.specs.Views.{Terms, no_view}
 use Rattle.core_events.specs.Runs.{AreTerms, Core, Enabled, History, IsShape, after, found, start, view_at}
-use Rattle.core_invariant.specs.Sound.{Sound}
-use Rattle.core_invariant.proofs.Joined as joined
-use Rattle.core_invariant.proofs.Kit.{times_none}
-use Rattle.core_invariant.proofs.Starts.{first_at}
+use Rattle.core_law.specs.Sound.{Sound}
+use Rattle.core_law.proofs.Joined as joined
+use Rattle.core_law.proofs.Kit.{times_none}
+use Rattle.core_law.proofs.Starts.{first_at}
 use Rattle.core_law.proofs.Always.{history_sound, is_leave}
 use Rattle.core_law.proofs.Trails.{changed_trail, views_plain}
 use Rattle.core_promises.specs.Made.{MadeByStarts}

@@ -17,13 +17,13 @@ use Rattle.core_events.specs.declared.view.Move.{Move}
 use Rattle.core_events.specs.Steps.{May, moved, noted}
 use Rattle.core_events.specs.Views.{Terms, first_view, no_view}
 use Rattle.core_events.specs.Runs.{AreEnabled, AreTerms, Core, Enabled, IsShape, after, found, left_behind, moves_of, outcome_of, run, start, taken_over, view_at}
-use Rattle.core_invariant.specs.Sound.{Sound}
-use Rattle.core_invariant.proofs.Joined.{is_0, is_j, is_m}
-use Rattle.core_invariant.proofs.Starts.{first_at, first_trail, start_sound}
+use Rattle.core_law.specs.Sound.{Sound}
+use Rattle.core_law.proofs.Joined.{is_0, is_j, is_m}
+use Rattle.core_law.proofs.Starts.{first_at, first_trail, start_sound}
 use Rattle.core_law.proofs.Always.{is_leave, step_keeps}
 use Rattle.core_law.proofs.Trails.{changed_trail, views_plain}
-use Rattle.core_shows.proofs.Bridge.{shown_seat}
-use Rattle.core_shows.proofs.Seats.{enabled_seat}
+use Rattle.core_law.proofs.Bridge.{shown_seat}
+use Rattle.core_law.proofs.Seats.{enabled_seat}
 use Rattle.core_promises.specs.Trails.{left_trail, trail_of}
 use Rattle.core_promises.proofs.Records.{Has, found_last, found_still, has_more}
 

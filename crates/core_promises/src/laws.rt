@@ -9,8 +9,8 @@ ghost use Rattle.core_events.specs.Runs.{AreEnabled, AreTerms, Core, Enabled, Hi
 ghost use Rattle.core_events.specs.Shows.{shows};
 ghost use Rattle.core_events.specs.Steps.{answer};
 ghost use Rattle.core_events.specs.Views.{Terms, granted};
-ghost use Rattle.core_invariant.specs.Sound.{Sound};
-ghost use Rattle.core_shows.specs.Shown.{AllShow};
+ghost use Rattle.core_law.specs.Sound.{Sound};
+ghost use Rattle.core_law.specs.Shown.{AllShow};
 ghost use Rattle.core_promises.specs.Finds.{DeferredFit, NeverWraps, TellsTruly};
 ghost use Rattle.core_promises.specs.Destroyed.{DestroyedOnce};
 ghost use Rattle.core_promises.specs.Made.{MadeByStarts};

@@ -1,6 +1,6 @@
 //! What the core promises of every list of events, in the words of who builds on it.
 //!
-//! `core_law` proves the invariant of all histories, and `core_shows` what a core shows. Here stands what follows:
+//! `core_law` proves the invariant of all histories, and what a core shows. Here stands what follows:
 //! counter words never wrap, an answer tells what is so, what is deferred is bounded, each object is destroyed at most
 //! once. Each promise is the clause of a function without a body. Nothing is promised about which event comes, or when.
 //!

@@ -16,7 +16,7 @@ use Rattle.core_events.specs.Steps.{answer, moved}
 use Rattle.core_law.proofs.Trails.{changed_trail}
 use Rattle.acquire_retire.specs.Collecting.{WalksBy, move}
 use Rattle.core_events.specs.Views.{Holds, held_times}
-use Rattle.core_invariant.proofs.Kit.{times_none}
+use Rattle.core_law.proofs.Kit.{times_none}
 use Rattle.control_word.specs.Moves.{KnowsStill}
 use Rattle.protected_loads.proofs.Telling.{holds_has}
 use Rattle.domain_rule.specs.Told.{Happened}

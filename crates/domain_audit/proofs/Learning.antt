@@ -24,8 +24,8 @@ use Rattle.core_events.specs.Shows.{show_seat, shows}
 use Rattle.core_events.specs.ShownSteps.{releases}
 use Rattle.core_events.specs.Steps.{May, with_note}
 use Rattle.core_events.specs.Views.{note_of}
-use Rattle.core_invariant.specs.Sound.{Sound}
-use Rattle.core_shows.proofs.Events.{event_shows}
+use Rattle.core_law.specs.Sound.{Sound}
+use Rattle.core_law.proofs.Events.{event_shows}
 use Rattle.domain_rule.specs.declared.view.SeatView.{SeatView}
 use Rattle.domain_rule.specs.declared.view.Whole.{Whole}
 use Rattle.domain_rule.specs.Rule.{OthersLeft}

@@ -23,15 +23,15 @@ use Rattle.core_events.specs.Good.{SeatLaw}
 use Rattle.core_events.specs.Runs.{Core, view_at}
 use Rattle.core_events.specs.Shows.{show_seat, show_slot, shows}
 use Rattle.core_events.specs.Words.{each_from, payload_at}
-use Rattle.core_invariant.specs.Slots.{Numbers, SlotLaw, asked, bare, blank, counted, free, husk, numbers, over}
-use Rattle.core_invariant.specs.Sound.{Sound}
-use Rattle.core_invariant.proofs.Each.{get_each, length_each}
-use Rattle.core_invariant.proofs.Kit.{entry_append, times_none}
-use Rattle.core_invariant.proofs.Parts.{stage_in, stage_is}
-use Rattle.core_invariant.proofs.Put.{adds_fit}
-use Rattle.core_shows.proofs.Bridge.{refs_past, shown_dying, shown_past, shown_seat, shown_stage, shown_strong, shown_weak, total_zero}
-use Rattle.core_shows.proofs.Lawful.{shows_lawful}
-use Rattle.core_shows.proofs.Lists.{seats_sum}
+use Rattle.core_law.specs.Slots.{Numbers, SlotLaw, asked, bare, blank, counted, free, husk, numbers, over}
+use Rattle.core_law.specs.Sound.{Sound}
+use Rattle.core_law.proofs.Each.{get_each, length_each}
+use Rattle.core_law.proofs.Kit.{entry_append, times_none}
+use Rattle.core_law.proofs.Parts.{stage_in, stage_is}
+use Rattle.core_law.proofs.Put.{adds_fit}
+use Rattle.core_law.proofs.Bridge.{refs_past, shown_dying, shown_past, shown_seat, shown_stage, shown_strong, shown_weak, total_zero}
+use Rattle.core_law.proofs.Lawful.{shows_lawful}
+use Rattle.core_law.proofs.Lists.{seats_sum}
 use Rattle.domain_audit.specs.Lone.{CanBeAudited, IsLone}
 use Rattle.domain_audit.proofs.OneSeat.{HasNothing, IsLoneState, can_be_audited}
 

@@ -9,7 +9,7 @@ use Rattle.core_events.specs.declared.outcome.Outcome.TheVariants as outcome
 use Rattle.core_events.specs.declared.view.Move.{Move}
 use Rattle.core_events.specs.Runs.{view_at}
 use Rattle.core_events.specs.Shows.{shows}
-use Rattle.core_invariant.specs.Sound.{Sound}
+use Rattle.core_law.specs.Sound.{Sound}
 use Rattle.domain_rule.specs.declared.view.SeatView.{SeatView}
 use Rattle.domain_rule.specs.Rule.{OthersLeft}
 use Rattle.acquire_retire.specs.Calls.{IsSameView, same_view}

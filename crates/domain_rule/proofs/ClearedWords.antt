@@ -19,13 +19,13 @@ use Rattle.core_events.specs.declared.view.CoreView.{CoreView}
 use Rattle.core_events.specs.Words.{slot_in, field_at}
 use Rattle.core_events.specs.Shows.{show_slot, shows}
 use Rattle.core_events.specs.Runs.{Core, Enabled, after, view_at}
-use Rattle.core_invariant.specs.Sound.{Sound}
-use Rattle.core_invariant.proofs.Kit.{total_at}
-use Rattle.core_invariant.proofs.Steady.{named_in_range}
-use Rattle.core_shows.proofs.Bridge.{shown_dying, shown_seat, shown_slot}
-use Rattle.core_shows.proofs.Events.{event_shows}
-use Rattle.core_shows.proofs.Lawful.{shows_lawful}
-use Rattle.core_shows.proofs.Told.{held_stays}
+use Rattle.core_law.specs.Sound.{Sound}
+use Rattle.core_law.proofs.Kit.{total_at}
+use Rattle.core_law.proofs.Steady.{named_in_range}
+use Rattle.core_law.proofs.Bridge.{shown_dying, shown_seat, shown_slot}
+use Rattle.core_law.proofs.Events.{event_shows}
+use Rattle.core_law.proofs.Lawful.{shows_lawful}
+use Rattle.core_law.proofs.Told.{held_stays}
 use Rattle.domain_rule.specs.Rule.{IsCleared}
 use Rattle.domain_rule.specs.Views.{is_field_of}
 use Rattle.domain_rule.proofs.Cleared.{FieldsStay, fields_stay}

@@ -15,9 +15,9 @@ use Rattle.core_events.specs.Counts.{total}
 use Rattle.core_events.specs.Views.{Terms, first_views, no_view}
 use Rattle.core_events.specs.Steps.{moved, noted}
 use Rattle.core_events.specs.Runs.{Core, view_at, found, Enabled, after, start, taken_over, left_behind, History, IsShape, AreTerms}
-use Rattle.core_invariant.specs.Sound.{Sound}
-use Rattle.core_invariant.proofs.Kit.{total_set}
-use Rattle.core_invariant.proofs.Starts.{total_none}
+use Rattle.core_law.specs.Sound.{Sound}
+use Rattle.core_law.proofs.Kit.{total_set}
+use Rattle.core_law.proofs.Starts.{total_none}
 use Rattle.core_law.proofs.Trails.{changed_trail, views_plain}
 use Rattle.core_law.proofs.Always.{history_sound, is_leave}
 use Rattle.domain_rule.specs.Rule.{OthersLeft}

@@ -17,7 +17,7 @@ use Rattle.core_events.specs.Words.{bit_in}
 use Rattle.counter_word.specs.Words.{ZERO, has_help, value}
 use Rattle.core_events.specs.Views.{note_of, slot_of}
 use Rattle.core_events.specs.Steps.{changed, ended, exchanged, given_up, is_last, is_valid, paid}
-use Rattle.core_invariant.proofs.Kit.{times_append, one_other, times_without}
+use Rattle.core_law.proofs.Kit.{times_append, one_other, times_without}
 
 module _ (s : SlotId) (v : CoreView) where
   -- the slot stands in the dying list of u as often as in that of v

@@ -31,13 +31,13 @@ use Rattle.core_events.specs.Steps.{CanLeave, noted}
 use Rattle.core_events.specs.Runs.{Core, view_at, taken_over, left_behind, Enabled, after}
 use Rattle.core_events.specs.Shows.{filled, show_seat, shows}
 use Rattle.core_events.specs.Views.{snapshots}
-use Rattle.core_invariant.specs.Sound.{Sound}
-use Rattle.core_invariant.proofs.Held.{valid_find}
-use Rattle.core_invariant.proofs.Joined.{parts, is_j, is_0, is_m}
-use Rattle.core_shows.proofs.Bridge.{shown_past}
-use Rattle.core_shows.proofs.Events.{event_shows}
-use Rattle.core_shows.proofs.Lawful.{shows_lawful}
-use Rattle.core_invariant.proofs.Each.{length_each, get_each}
+use Rattle.core_law.specs.Sound.{Sound}
+use Rattle.core_law.proofs.Held.{valid_find}
+use Rattle.core_law.proofs.Joined.{parts, is_j, is_0, is_m}
+use Rattle.core_law.proofs.Bridge.{shown_past}
+use Rattle.core_law.proofs.Events.{event_shows}
+use Rattle.core_law.proofs.Lawful.{shows_lawful}
+use Rattle.core_law.proofs.Each.{length_each, get_each}
 use Rattle.domain_rule.specs.declared.view.Known.{Known}
 use Rattle.domain_rule.specs.declared.view.SeatView.{SeatView}
 use Rattle.domain_rule.specs.Opening.{joined_view, gone_view, merged_object, merged_objects, same_object}

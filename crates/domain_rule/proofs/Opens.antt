@@ -18,7 +18,7 @@ use Rattle.core_events.specs.declared.shape.Shape.{Shape}
 use Rattle.core_events.specs.Views.{Terms}
 use Rattle.core_events.specs.Words.{first_words}
 use Rattle.core_events.specs.Runs.{start, IsShape, AreTerms}
-use Rattle.core_invariant.proofs.Starts.{start_sound}
+use Rattle.core_law.proofs.Starts.{start_sound}
 use Rattle.domain_rule.specs.declared.view.Known.{Known}
 use Rattle.domain_rule.specs.declared.view.Whole.{Whole}
 use Rattle.domain_rule.specs.declared.view.SeatView.{SeatView}

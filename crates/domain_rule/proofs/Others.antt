@@ -16,14 +16,14 @@ use Rattle.core_events.specs.Counts.{one, total, naming, baring, filling, in_pha
 use Rattle.core_events.specs.Runs.{Core, Enabled, after, view_at}
 use Rattle.core_events.specs.Shows.{filled, show_seat, show_slot, shows}
 use Rattle.core_events.specs.Views.{held_times, no_view}
-use Rattle.core_invariant.specs.Slots.{Numbers, numbers, SlotLaw, free, bare, blank, counted, asked, over, husk}
-use Rattle.core_invariant.specs.Sound.{Sound}
-use Rattle.core_invariant.proofs.Held.{held_named, held_taken}
-use Rattle.core_invariant.proofs.Kit.{one_same, total_at, total_set}
-use Rattle.core_invariant.proofs.Steady.{named_in_range}
-use Rattle.core_shows.proofs.Events.{event_shows}
-use Rattle.core_shows.proofs.Lists.{total_plus}
-use Rattle.core_invariant.proofs.Each.{length_each}
+use Rattle.core_law.specs.Slots.{Numbers, numbers, SlotLaw, free, bare, blank, counted, asked, over, husk}
+use Rattle.core_law.specs.Sound.{Sound}
+use Rattle.core_law.proofs.Held.{held_named, held_taken}
+use Rattle.core_law.proofs.Kit.{one_same, total_at, total_set}
+use Rattle.core_law.proofs.Steady.{named_in_range}
+use Rattle.core_law.proofs.Events.{event_shows}
+use Rattle.core_law.proofs.Lists.{total_plus}
+use Rattle.core_law.proofs.Each.{length_each}
 use Rattle.domain_rule.proofs.Acts.{act_leaves}
 use Rattle.domain_rule.proofs.Objects.{object_at, object_changes}
 

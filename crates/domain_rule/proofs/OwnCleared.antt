@@ -16,8 +16,8 @@ use Rattle.core_events.specs.Words.{place_at}
 use Rattle.core_events.specs.ShownSteps.{is_ripe_field}
 use Rattle.core_events.specs.Steps.{May, moved}
 use Rattle.core_events.specs.Runs.{Core, Enabled, after, view_at}
-use Rattle.core_invariant.specs.Sound.{Sound}
-use Rattle.core_invariant.proofs.InRange.{place_in}
+use Rattle.core_law.specs.Sound.{Sound}
+use Rattle.core_law.proofs.InRange.{place_in}
 use Rattle.domain_rule.specs.Rule.{IsCleared}
 use Rattle.domain_rule.specs.Told.{cleared_after}
 use Rattle.domain_rule.specs.Views.{Stands, is_field_of, without_fields}

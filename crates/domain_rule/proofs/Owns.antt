@@ -15,8 +15,8 @@ use Rattle.core_events.specs.declared.view.CoreView.{CoreView}
 use Rattle.core_events.specs.Runs.{Core, view_at}
 use Rattle.core_events.specs.Shows.{show_seat, shows}
 use Rattle.core_events.specs.Views.{no_view}
-use Rattle.core_invariant.specs.Sound.{Sound}
-use Rattle.core_shows.proofs.Bridge.{shown_past, shown_seat, shown_slot}
+use Rattle.core_law.specs.Sound.{Sound}
+use Rattle.core_law.proofs.Bridge.{shown_past, shown_seat, shown_slot}
 use Rattle.domain_rule.specs.declared.view.Known.{Known}
 use Rattle.domain_rule.specs.declared.view.SeatView.{SeatView}
 use Rattle.domain_rule.specs.declared.view.Whole.{Whole}

@@ -10,7 +10,7 @@ use Rattle.core_events.specs.Runs.{IsShape, AreTerms, taken_over}
 use Rattle.core_events.specs.Steps.{CanLeave, noted}
 use Rattle.core_events.specs.Views.{first_view}
 use Rattle.core_law.proofs.Leaves.{taken_law}
-use Rattle.core_invariant.proofs.Starts.{first_seat}
+use Rattle.core_law.proofs.Starts.{first_seat}
 use Rattle.domain_rule.specs.Views.{quota_at}
 
 pub opened_law : (z : Shape) (ts : Terms) (n : ℕ) → IsShape z → AreTerms z ts → n < z.seats

@@ -14,11 +14,11 @@ use Rattle.core_events.specs.Views.{Terms, first_view, first_views}
 use Rattle.core_events.specs.Runs.{start, view_at, AreTerms}
 use Rattle.core_events.specs.Shows.{shows, show_seat, show_slot}
 use Rattle.plain_state.specs.Lists.{times}
-use Rattle.core_invariant.proofs.Kit.{times_none}
-use Rattle.core_invariant.proofs.FirstWords.{low_at, strong_first, bit_first, ticket_first, field_first, field0, field1, weak_field}
-use Rattle.core_invariant.proofs.Starts.{first_at, total_none}
-use Rattle.core_shows.proofs.Frames.{plain_eq, slot_eq}
-use Rattle.core_shows.proofs.Lists.{each_same}
+use Rattle.core_law.proofs.Kit.{times_none}
+use Rattle.core_law.proofs.FirstWords.{low_at, strong_first, bit_first, ticket_first, field_first, field0, field1, weak_field}
+use Rattle.core_law.proofs.Starts.{first_at, total_none}
+use Rattle.core_law.proofs.Frames.{plain_eq, slot_eq}
+use Rattle.core_law.proofs.Lists.{each_same}
 use Rattle.domain_rule.specs.Views.{quota_at}
 
 -- the same value for each number

@@ -14,11 +14,11 @@ use Rattle.core_events.specs.Runs.{Core, Enabled, RestMay, after, found, view_at
 use Rattle.core_events.specs.Shows.{show_seat, shows}
 use Rattle.core_events.specs.Steps.{moved}
 use Rattle.core_events.specs.Views.{no_view}
-use Rattle.core_invariant.specs.Sound.{Sound}
+use Rattle.core_law.specs.Sound.{Sound}
 use Rattle.core_law.proofs.Always.{step_keeps}
 use Rattle.core_law.proofs.Trails.{views_plain}
-use Rattle.core_shows.proofs.Bridge.{shown_seat}
-use Rattle.core_shows.proofs.Seats.{enabled_seat}
+use Rattle.core_law.proofs.Bridge.{shown_seat}
+use Rattle.core_law.proofs.Seats.{enabled_seat}
 use Rattle.domain_rule.specs.declared.view.SeatView.{SeatView}
 use Rattle.domain_rule.specs.declared.view.Whole.{Whole}
 use Rattle.domain_rule.specs.Rule.{IsTrueOf, OthersLeft, Tells}

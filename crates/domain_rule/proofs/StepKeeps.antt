@@ -28,11 +28,11 @@ use Rattle.core_events.specs.Shows.{show_seat, shows}
 use Rattle.core_events.specs.ShownSteps.{shown_act, shown_number}
 use Rattle.core_events.specs.Steps.{May, next, place}
 use Rattle.core_events.specs.Views.{slot_of}
-use Rattle.core_invariant.specs.Sound.{Sound}
+use Rattle.core_law.specs.Sound.{Sound}
 use Rattle.core_law.proofs.Always.{step_keeps}
 use Rattle.core_law.proofs.Trails.{changed_trail}
-use Rattle.core_shows.proofs.Events.{event_shows}
-use Rattle.core_shows.proofs.Lawful.{shows_lawful}
+use Rattle.core_law.proofs.Events.{event_shows}
+use Rattle.core_law.proofs.Lawful.{shows_lawful}
 use Rattle.domain_rule.specs.declared.view.SeatView.{SeatView}
 use Rattle.domain_rule.specs.declared.view.Whole.{Whole}
 use Rattle.domain_rule.specs.Rule.{IsTrueOf, Kept, Tells, clients}

@@ -11,7 +11,7 @@ use Rattle.core_events.specs.declared.outcome.Outcome.TheVariants as outcome
 use Rattle.core_events.specs.declared.view.CoreView.{CoreView}
 use Rattle.core_events.specs.Views.{without}
 use Rattle.core_events.specs.Words.{slot_in}
-use Rattle.core_invariant.proofs.Kit.{times_push}
+use Rattle.core_law.proofs.Kit.{times_push}
 use Rattle.acquire_retire.specs.Calls.{IsReady, Steps}
 use Rattle.acquire_retire.specs.Collecting.{move}
 use Rattle.acquire_retire.specs.Domains.{DomainState}

@@ -5,7 +5,7 @@ use Rattle.plain_state.specs.declared.slot.SlotId.{SlotId}
 use Rattle.plain_state.specs.Lists.{times}
 use Rattle.core_events.specs.declared.view.CoreView.{CoreView}
 use Rattle.core_events.specs.Views.{Holds, held_times, without}
-use Rattle.core_invariant.proofs.Kit.{one_other, one_same, slot_cases, times_none, times_push, times_without}
+use Rattle.core_law.proofs.Kit.{one_other, one_same, slot_cases, times_none, times_push, times_without}
 use Rattle.acquire_retire.specs.Seats.{SeatState}
 use Rattle.linked_queue.specs.Leaving.{Leaves, with_found}
 use Rattle.linked_queue.proofs.Owning.{found_more}

@@ -10,7 +10,7 @@ use Rattle.plain_protocol.specs.Owns.{OwnPart, HasSlot}
 use Rattle.core_events.specs.declared.view.CoreView.{CoreView}
 use Rattle.core_events.specs.Shows.{show_seat}
 use Rattle.core_events.specs.Words.{slot_in}
-use Rattle.core_invariant.proofs.Kit.{one_same, times_push}
+use Rattle.core_law.proofs.Kit.{one_same, times_push}
 use Rattle.counted_handles.specs.Handles.{Handle}
 use Rattle.counted_handles.specs.declared.refusal.LoadError.{LoadError}
 use Rattle.counted_handles.specs.declared.refusal.LoadError.TheVariants as refused

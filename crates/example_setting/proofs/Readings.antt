@@ -13,7 +13,7 @@ use Rattle.core_events.specs.declared.act.Act.TheVariants as act
 use Rattle.core_events.specs.declared.outcome.Outcome.TheVariants as outcome
 use Rattle.core_events.specs.Shows.{show_seat}
 use Rattle.core_events.specs.Words.{slot_in}
-use Rattle.core_shows.proofs.ShownPlaces.{word_slot}
+use Rattle.core_law.proofs.ShownPlaces.{word_slot}
 use Rattle.counted_handles.specs.declared.refusal.LoadError.{LoadError}
 use Rattle.counted_handles.specs.declared.refusal.LoadError.TheVariants as refused
 use Rattle.domain_rule.specs.Views.{object_in, own_of}

@@ -8,7 +8,7 @@ use Rattle.plain_protocol.specs.Owns.{HasSlot}
 use Rattle.core_events.specs.declared.view.CoreView.{CoreView}
 use Rattle.core_events.specs.Shows.{show_seat}
 use Rattle.core_events.specs.Steps.{CanGive, without_given}
-use Rattle.core_invariant.proofs.Kit.{one_same, times_push, times_without}
+use Rattle.core_law.proofs.Kit.{one_same, times_push, times_without}
 use Rattle.domain_rule.specs.Views.{object_in, own_of}
 use Rattle.acquire_retire.specs.Seats.{SeatState}
 use Rattle.protected_loads.proofs.Telling.{holds_has}

@@ -12,7 +12,7 @@ use Rattle.plain_state.specs.Places.{place_kind}
 use Rattle.plain_protocol.specs.Owns.{Object, OwnPart}
 use Rattle.core_events.specs.declared.view.CoreView.{CoreView}
 use Rattle.core_events.specs.Words.{slot_in}
-use Rattle.core_invariant.proofs.Kit.{one_same, times_push}
+use Rattle.core_law.proofs.Kit.{one_same, times_push}
 use Rattle.counted_handles.specs.Handles.{Handle}
 use Rattle.counted_handles.specs.declared.place.Place.{Place}
 use Rattle.counted_handles.specs.declared.refusal.LoadError.{LoadError}

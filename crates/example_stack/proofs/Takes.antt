@@ -10,8 +10,8 @@ use Rattle.plain_state.specs.Steps.{word_of}
 use Rattle.plain_protocol.specs.Owns.{OwnPart}
 use Rattle.core_events.specs.Steps.{CanGive, without_given}
 use Rattle.core_events.specs.Words.{slot_in}
-use Rattle.core_invariant.proofs.Kit.{one_same, times_push}
-use Rattle.core_shows.proofs.ShownPlaces.{slot_word}
+use Rattle.core_law.proofs.Kit.{one_same, times_push}
+use Rattle.core_law.proofs.ShownPlaces.{slot_word}
 use Rattle.counted_handles.specs.Handles.{Handle}
 use Rattle.counted_handles.specs.declared.refusal.LoadError.{LoadError}
 use Rattle.counted_handles.specs.declared.refusal.LoadError.TheVariants as refused

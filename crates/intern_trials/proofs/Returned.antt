@@ -4,7 +4,7 @@ use Rattle.plain_state.specs.declared.slot.SlotId.{SlotId}
 use Rattle.plain_state.specs.Lists.{times}
 use Rattle.core_events.specs.declared.view.CoreView.{CoreView}
 use Rattle.core_events.specs.Views.{without}
-use Rattle.core_invariant.proofs.Kit.{one_same, times_push, times_without}
+use Rattle.core_law.proofs.Kit.{one_same, times_push, times_without}
 use Rattle.control_word.specs.Resting.{IsUnderNone}
 use Rattle.text_reading.specs.Reading.{HasTwoFree}
 

@@ -15,9 +15,9 @@ use Rattle.linked_queue.specs.Waits.{AttachesAtLast}
 use Rattle.part_calls.specs.Parts.{StaysBeside}
 use Rattle.words_law.specs.Views.{View}
 use Rattle.words_protocol.specs.declared.law.WordsLaw.{WordsLaw}
-use Rattle.word_lanes.specs.declared.shared.Shared.{Shared}
-use Rattle.word_lanes.specs.Ready.{IsReady}
-use Rattle.word_lanes.specs.Whys.{of_queue, queue_of}
+use Rattle.lane_files.specs.declared.shared.Shared.{Shared}
+use Rattle.lane_files.specs.Ready.{IsReady}
+use Rattle.lane_files.specs.Whys.{of_queue, queue_of}
 use Rattle.lane_files.specs.Lanes.{beside_tickets}
 use Rattle.lane_domain.specs.Beginning.{Attaches, CanBegin, HasDoneNothing}
 

@@ -11,7 +11,7 @@ use Rattle.queue_law.specs.declared.view.Form.{Form}
 use Rattle.slot_store.specs.declared.making.MakeError.TheVariants as unmade
 use Rattle.words_law.specs.Views.{View}
 use Rattle.words_protocol.specs.declared.law.WordsLaw.{WordsLaw}
-use Rattle.word_lanes.specs.Whys.{of_queue}
+use Rattle.lane_files.specs.Whys.{of_queue}
 use Rattle.lane_files.specs.declared.lane.Lane.{Lane}
 use Rattle.lane_files.specs.declared.refusal.LaneStop.{LaneStop}
 use Rattle.lane_files.specs.declared.work.Work.{Work}

@@ -10,7 +10,7 @@ use Rattle.core_events.specs.declared.view.CoreView.{CoreView}
 use Rattle.core_events.specs.Runs.{IsShape}
 use Rattle.core_events.specs.Steps.{HasMake, HasRoom}
 use Rattle.core_events.specs.Views.{Terms}
-use Rattle.core_invariant.proofs.Each.{get_each, length_each}
+use Rattle.core_law.proofs.Each.{get_each, length_each}
 use Rattle.domain_rule.specs.Views.{quota_at}
 use Rattle.acquire_retire.specs.Domains.{DomainState}
 use Rattle.acquire_retire.specs.Openings.{begun_seat}
@@ -38,10 +38,10 @@ use Rattle.words_law.specs.Owned.{first_view}
 use Rattle.words_law.specs.Views.{View}
 use Rattle.words_protocol.specs.Sides.{area_of, ends_of}
 use Rattle.words_protocol.specs.declared.law.WordsLaw.{WordsLaw}
-use Rattle.word_lanes.specs.declared.shared.Shared.{Shared}
-use Rattle.word_lanes.specs.Ready.{IsReady}
-use Rattle.word_lanes.specs.Whys.{of_queue, queue_of}
-use Rattle.word_lanes.proofs.Kept.{free_still, owns_queue}
+use Rattle.lane_files.specs.declared.shared.Shared.{Shared}
+use Rattle.lane_files.specs.Ready.{IsReady}
+use Rattle.lane_files.specs.Whys.{of_queue, queue_of}
+use Rattle.lane_files.proofs.SeatsKept.{free_still, owns_queue}
 use Rattle.lane_files.specs.declared.work.Work.{Work}
 use Rattle.lane_files.specs.Lanes.{HasGrants}
 use Rattle.lane_domain.specs.Opened.{FindsNoSlot, HasOnlyLaid, IsDomainFor, IsDomainForSome, IsQueueHere, fresh_seat, root_quota}

@@ -1,14 +1,14 @@
 -- The seats of lanes that were just opened can begin.
 use Rattle.std.proofs.Common.{◌≡◌, ℕ, ◌+◌, ◌<◌, ◌≤◌, refl, sym, subst, ◌∙◌, arith}
 use Rattle.std.specs.Prelude.{All}
-use Rattle.core_invariant.proofs.Each.{get_each, length_each}
+use Rattle.core_law.proofs.Each.{get_each, length_each}
 use Rattle.acquire_retire.specs.Domains.{DomainState}
 use Rattle.acquire_retire.specs.Seats.{SeatState}
 use Rattle.queue_law.specs.declared.view.Form.{Form}
 use Rattle.words_law.specs.Views.{View}
 use Rattle.words_protocol.specs.declared.law.WordsLaw.{WordsLaw}
-use Rattle.word_lanes.specs.declared.shared.Shared.{Shared}
-use Rattle.word_lanes.specs.Ready.{IsReady}
+use Rattle.lane_files.specs.declared.shared.Shared.{Shared}
+use Rattle.lane_files.specs.Ready.{IsReady}
 use Rattle.lane_files.specs.declared.work.Work.{Work}
 use Rattle.lane_domain.specs.Opened.{IsDomainFor, IsDomainForSome, fresh_lanes, fresh_seat}
 use Rattle.lane_domain.specs.Sizes.{IsWithinLimits, most_slots}

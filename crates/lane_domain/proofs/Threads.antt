@@ -5,7 +5,7 @@ use Rattle.acquire_retire.specs.Domains.{DomainState}
 use Rattle.acquire_retire.specs.Seats.{SeatState}
 use Rattle.words_law.specs.Views.{View}
 use Rattle.words_protocol.specs.declared.law.WordsLaw.{WordsLaw}
-use Rattle.word_lanes.specs.declared.shared.Shared.{Shared}
+use Rattle.lane_files.specs.declared.shared.Shared.{Shared}
 use Rattle.lane_files.specs.declared.work.Work.{Work}
 use Rattle.lane_domain.specs.declared.ending.LaneEnd.{LaneEnd}
 use Rattle.lane_domain.specs.declared.jobs.Job.{Job}

@@ -16,12 +16,12 @@ use Rattle.hand_queues.specs.Queues.{IsAnyOf}
 use Rattle.linked_queue.specs.Waits.{AttachesAtLast}
 use Rattle.words_law.specs.Views.{View}
 use Rattle.words_protocol.specs.declared.law.WordsLaw.{WordsLaw}
-use Rattle.word_lanes.specs.declared.shared.Shared.{Shared}
-use Rattle.word_lanes.specs.Whys.{of_queue, queue_of}
+use Rattle.lane_files.specs.declared.shared.Shared.{Shared}
+use Rattle.lane_files.specs.Whys.{of_queue, queue_of}
 use Rattle.lane_files.specs.declared.lane.Lane.{Lane}
 
--- The seat owns nothing and announces nothing, has drawn no ticket, and has pushed and popped nothing. It has no intern,
--- and knows nothing of the directory.
+-- The seat owns nothing and announces nothing, has drawn no ticket, and has pushed and popped nothing. It has no
+-- intern, and knows nothing of the directory.
 pub record HasDoneNothing (seat : SeatState View) : Type 0 where
   pub owned : (x : SlotId) → times x seat.view.core.owned ≡ 0
   pub weaks : seat.view.core.weaks ≡ []

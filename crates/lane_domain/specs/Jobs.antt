@@ -7,7 +7,7 @@ use Rattle.queue_protocol.specs.Nodes.{IsNodePayload, node_weight}
 use Rattle.directory_law.specs.Bytes.{IsPiece, piece_weight}
 use Rattle.words_law.specs.Views.{View}
 use Rattle.words_protocol.specs.declared.law.WordsLaw.{WordsLaw}
-use Rattle.word_lanes.specs.declared.shared.Shared.{Shared}
+use Rattle.lane_files.specs.declared.shared.Shared.{Shared}
 use Rattle.lane_files.specs.declared.work.Work.{Work}
 use Rattle.lane_domain.specs.declared.ending.LaneEnd.{LaneEnd}
 use Rattle.lane_domain.specs.Ending.{EndsLane}

@@ -23,7 +23,7 @@ use Rattle.words_protocol.specs.Sides.{area_of, ends_of}
 use Rattle.words_protocol.specs.declared.law.WordsLaw.{WordsLaw}
 use Rattle.lane_files.specs.declared.work.Work.{Work}
 use Rattle.slot_store.specs.Searching.{Misses}
-use Rattle.word_lanes.specs.Whys.{of_queue, queue_of}
+use Rattle.lane_files.specs.Whys.{of_queue, queue_of}
 use Rattle.lane_domain.specs.declared.opened.OpenLanesError.{OpenLanesError}
 use Rattle.lane_domain.specs.declared.opened.OpenLanesError.TheVariants as refused
 use Rattle.lane_domain.specs.Sizes.{IsWithinLimits, all_parts, all_pieces, by_ticket, interns_of, makes_of, most_slots}

@@ -1,9 +1,10 @@
-//! A domain for lanes that count the words of some files: its queue and its directory, with a seat for each lane, and as
-//! many cells and makes as the files need.
+//! A domain for lanes that count the words of some files: its queue and its directory, with a seat for each lane, and
+//! as many cells and makes as the files need.
 //!
 //! The rule that is kept is the law of `words_law`, between any two steps of all seats. Here stands what the domain is
-//! opened with: each ticket of a file grants an intern for each piece, and a make for each slot that the piece may take. So
-//! no lane stops for want of a make, and none since each slot is taken unless there are fewer slots than makes.
+//! opened with: each ticket of a file grants an intern for each piece, and a make for each slot that the piece may
+//! take. So no lane stops for want of a make, and none since each slot is taken unless there are fewer slots than
+//! makes.
 //!
 //! It isn't promised that there is memory, nor, where there are fewer slots than makes, that the queue is laid.
 //!

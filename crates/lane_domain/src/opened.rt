@@ -3,8 +3,8 @@ ghost use Rattle.std.specs.Prelude.{◌≡◌};
 ghost use Rattle.lane_domain.specs.declared.opened.OpenLanesError.TheVariants as refused;
 
 use acquire_retire::{Domain, Seat};
+use lane_files::Shared;
 use out_of_memory::OutOfMemory as NoMemory;
-use word_lanes::Shared;
 use words_protocol::WordsLaw;
 
 /// A domain whose queue is laid, with seat 0 and the seats of its lanes.

@@ -1,7 +1,7 @@
 //! How a domain is opened for lanes.
 ghost use Rattle.std.specs.Prelude.{◌≡◌, ◌≤◌, ◌<◌, ◌*◌, ◌∷◌, IfErr, IfOk, OnErr, OnOk, replicate};
 ghost use Rattle.claim_law.specs.Claims.{makes_given};
-ghost use Rattle.word_lanes.specs.Ready.{IsReady};
+ghost use Rattle.lane_files.specs.Ready.{IsReady};
 ghost use Rattle.lane_files.specs.Lanes.{HasGrants};
 ghost use Rattle.lane_files.specs.Makes.{GrantsMakes};
 ghost use Rattle.lane_files.specs.Work.{IsWork};
@@ -15,7 +15,7 @@ use acquire_retire::{Domain, OpenError, Quota, Seat, Shape, open_granted};
 use directory_calls::Directory;
 use directory_protocol::{DirectoryLaw, RecordKind};
 use hand_queues::AnyQueue;
-use lane_files::Work;
+use lane_files::{Shared, Work};
 use out_of_memory::OutOfMemory;
 use plain_state::PayloadKind;
 use protocol_pairs::{Left, PairKind};
@@ -23,7 +23,6 @@ use queue_law::Form;
 use queue_protocol::{NodeKind, QueueLaw};
 use slot_store::MakeError;
 use std::alloc::Global;
-use word_lanes::Shared;
 use words_protocol::WordsLaw;
 
 /// The cell of the queue's first node.
@@ -141,8 +140,9 @@ fn lay(
     })
 }
 
-/// Opens a domain for the work, with so many lanes and slots, and lays its queue in this form. Each seat may use 2^40 adds. A lane may
-/// make what its tickets grant: an object for each piece of the file, and one for each 120 bytes of a piece.
+/// Opens a domain for the work, with so many lanes and slots, and lays its queue in this form. Each seat may use 2^40
+/// adds. A lane may make what its tickets grant: an object for each piece of the file, and one for each 120 bytes of a
+/// piece.
 ///
 /// It is refused where there is no memory; and `Full` only where there are fewer slots than the lanes may make objects,
 /// and two: then the domain comes back with its seat 0. It takes all the memory that the domain ever needs. Linear in

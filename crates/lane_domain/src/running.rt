@@ -13,7 +13,7 @@ use acquire_retire::{Domain, Seat};
 use deleter::Deleter;
 use directory_protocol::RecordKind;
 use hand_queues::HandQueue;
-use lane_files::{Lane, Work, run_lane};
+use lane_files::{Lane, Shared, Work, run_lane};
 use lane_gate::Gate;
 use out_of_memory::OutOfMemory;
 use plain_state::PayloadKind;
@@ -23,7 +23,6 @@ use std::alloc::Global;
 use std::sync::Wait;
 use std::thread;
 use std::thread::Threads;
-use word_lanes::Shared;
 use words_protocol::WordsLaw;
 
 /// What one lane does: it attaches its seat, and counts files until no ticket is left.
@@ -85,12 +84,12 @@ fn run_jobs<R: Threads + Wait + Sync, G: Gate + Sync, F: Fn(&[u64; 16]) -> u64 +
     Ok(ends)
 }
 
-/// Runs a lane for each seat, each in a thread of its own where one can be made, and waits for all of them. Each attaches
-/// its seat, and counts the files whose tickets it draws; its number is the seat's place in the list. What they answer
-/// comes in the order of the seats.
+/// Runs a lane for each seat, each in a thread of its own where one can be made, and waits for all of them. Each
+/// attaches its seat, and counts the files whose tickets it draws; its number is the seat's place in the list. What
+/// they answer comes in the order of the seats.
 ///
-/// It is refused where there is no memory for the threads or what they answer; then seats are lost. It may wait for other
-/// threads.
+/// It is refused where there is no memory for the threads or what they answer; then seats are lost. It may wait for
+/// other threads.
 pub fn run_lanes<R: Threads + Wait + Sync, G: Gate + Sync, F: Fn(&[u64; 16]) -> u64 + Sync>(
     rt: &R,
     alloc: Global,

@@ -5,10 +5,9 @@ ghost use Rattle.lane_files.specs.Work.{IsWork};
 ghost use Rattle.lane_domain.specs.Sizes.{IsWithinLimits};
 ghost use Rattle.lane_domain.specs.Beginning.{CanBegin};
 
-use crate::{LaneEnd, run_lanes};
+use crate::{LaneEnd, Opened, is_within_limits, open_lanes, run_lanes};
 use deleter::Deleter;
 use directory_protocol::RecordKind;
-use crate::{Opened, is_within_limits, open_lanes};
 use lane_files::{FileText, Work};
 use lane_gate::Open;
 use plain_state::PayloadKind;

@@ -5,15 +5,15 @@ use Rattle.std.proofs.lemmas.Bool.{ltb-true}
 use Rattle.std.proofs.lemmas.List.{append-nil, length-append, map-append}
 use Rattle.plain_state.specs.declared.slot.SlotId.{SlotId}
 use Rattle.plain_state.specs.Lists.{times}
-use Rattle.core_invariant.proofs.Kit.{times_append, times_none}
+use Rattle.core_law.proofs.Kit.{times_append, times_none}
 use Rattle.counted_handles.specs.Handles.{Handle}
 use Rattle.acquire_retire.specs.Domains.{DomainState}
 use Rattle.acquire_retire.specs.Seats.{SeatState}
 use Rattle.words_protocol.specs.declared.law.WordsLaw.{WordsLaw}
 use Rattle.words_law.specs.Views.{View}
-use Rattle.word_lanes.specs.Counting.{Takes, UsesInterns}
-use Rattle.word_lanes.proofs.Counted.{counts_then, tallies_then, takes_none}
-use Rattle.word_lanes.proofs.Kept.{owns_as, owns_none, owns_then, uses_none, uses_then}
+use Rattle.lane_files.specs.Passed.{Takes, UsesInterns}
+use Rattle.lane_files.proofs.PiecesCounted.{counts_then, tallies_then, takes_none}
+use Rattle.lane_files.proofs.SeatsKept.{owns_as, owns_none, owns_then, uses_none, uses_then}
 use Rattle.lane_files.specs.declared.lane.Lane.{Lane}
 use Rattle.lane_files.specs.Counting.{CountsFile, IsWhyStopped, KeepsRecords}
 use Rattle.lane_files.specs.declared.refusal.FileError.{FileError}

@@ -4,7 +4,7 @@ use Rattle.plain_state.specs.declared.slot.SlotId.{SlotId}
 use Rattle.plain_state.specs.Lists.{times}
 use Rattle.core_events.specs.declared.view.CoreView.{CoreView}
 use Rattle.core_events.specs.Views.{Holds, held_times}
-use Rattle.core_invariant.proofs.Kit.{times_none}
+use Rattle.core_law.proofs.Kit.{times_none}
 use Rattle.acquire_retire.specs.Domains.{DomainState}
 use Rattle.acquire_retire.specs.Seats.{SeatState}
 use Rattle.directory_calls.specs.Directories.{area_of}
@@ -14,9 +14,9 @@ use Rattle.queue_law.specs.declared.view.View.{View as QueueView}
 use Rattle.weak_intern.specs.Drawing.{Draws}
 use Rattle.words_law.specs.Views.{View}
 use Rattle.words_protocol.specs.declared.law.WordsLaw.{WordsLaw}
-use Rattle.word_lanes.specs.Counting.{Takes, did}
-use Rattle.word_lanes.specs.Ready.{Owns}
-use Rattle.word_lanes.proofs.Counted.{none_more, tallies_none}
+use Rattle.lane_files.specs.Passed.{Takes, did}
+use Rattle.lane_files.specs.Ready.{Owns}
+use Rattle.lane_files.proofs.PiecesCounted.{none_more, tallies_none}
 use Rattle.lane_files.specs.Lanes.{OwnsAfter, beside_tickets}
 
 pub after_none : (a : SeatState View) → OwnsAfter a.view.core.owned a a

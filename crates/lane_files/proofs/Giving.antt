@@ -5,12 +5,12 @@ use Rattle.std.proofs.lemmas.List.{drop-append-le, map-append}
 use Rattle.plain_state.specs.declared.slot.SlotId.{SlotId}
 use Rattle.plain_state.specs.Lists.{times}
 use Rattle.core_events.specs.Views.{without}
-use Rattle.core_invariant.proofs.Kit.{one_same, times_append, times_cons, times_none, times_without}
+use Rattle.core_law.proofs.Kit.{one_same, times_append, times_cons, times_none, times_without}
 use Rattle.counted_handles.specs.Handles.{Handle}
 use Rattle.acquire_retire.specs.Seats.{SeatState}
 use Rattle.words_law.specs.Views.{View}
-use Rattle.word_lanes.specs.Ready.{Owns}
-use Rattle.word_lanes.proofs.Kept.{owns_then}
+use Rattle.lane_files.specs.Ready.{Owns}
+use Rattle.lane_files.proofs.SeatsKept.{owns_then}
 use Rattle.lane_files.specs.Keeping.{GivesUp, slots_of}
 
 pub gives_none : (a : SeatState View) → GivesUp [] a a

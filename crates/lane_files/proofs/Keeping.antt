@@ -6,12 +6,12 @@ use Rattle.std.proofs.lemmas.List.{append-nil}
 use Rattle.plain_state.specs.declared.slot.SlotId.{SlotId}
 use Rattle.plain_state.specs.Lists.{times}
 use Rattle.core_events.specs.Views.{without}
-use Rattle.core_invariant.proofs.Kit.{times_push, times_without}
+use Rattle.core_law.proofs.Kit.{times_push, times_without}
 use Rattle.counted_handles.specs.Handles.{Handle}
 use Rattle.acquire_retire.specs.Seats.{SeatState}
 use Rattle.words_law.specs.Views.{View}
-use Rattle.word_lanes.specs.Ready.{Owns}
-use Rattle.word_lanes.proofs.Kept.{owns_as, owns_none}
+use Rattle.lane_files.specs.Ready.{Owns}
+use Rattle.lane_files.proofs.SeatsKept.{owns_as, owns_none}
 use Rattle.lane_files.specs.declared.keeper.Keeper.{Keeper}
 use Rattle.lane_files.specs.Keeping.{KeepsOne, has}
 

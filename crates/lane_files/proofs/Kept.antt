@@ -5,15 +5,15 @@ use Rattle.plain_state.specs.declared.slot.SlotId.{SlotId}
 use Rattle.plain_state.specs.Lists.{times}
 use Rattle.core_events.specs.Views.{without}
 use Rattle.core_events.specs.Counts.{one}
-use Rattle.core_invariant.proofs.Kit.{one_same, times_append, times_push, times_without}
+use Rattle.core_law.proofs.Kit.{one_same, times_append, times_push, times_without}
 use Rattle.counted_handles.specs.Handles.{Handle}
 use Rattle.acquire_retire.specs.Seats.{SeatState}
 use Rattle.weak_intern.specs.Knowing.{KnowsRecord}
 use Rattle.words_law.specs.Views.{View}
-use Rattle.word_lanes.specs.Ready.{Owns}
-use Rattle.word_lanes.proofs.Copied.{knows_on}
-use Rattle.word_lanes.proofs.Kept.{owns_as, owns_on, owns_then}
-use Rattle.word_lanes.proofs.Offered.{texts}
+use Rattle.lane_files.specs.Ready.{Owns}
+use Rattle.lane_files.proofs.Copied.{knows_on}
+use Rattle.lane_files.proofs.SeatsKept.{owns_as, owns_on, owns_then}
+use Rattle.lane_files.proofs.Offered.{texts}
 use Rattle.lane_files.specs.Keeping.{slots_of}
 use Rattle.lane_files.proofs.Records.{times_if}
 

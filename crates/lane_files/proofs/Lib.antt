@@ -1,3 +1,14 @@
+pub mod Begun
+pub mod Copied
+pub mod PiecesCounted
+pub mod Interned
+pub mod SeatsKept
+pub mod Missed
+pub mod Offered
+pub mod Passed
+pub mod Read
+pub mod Taken
+pub mod Unmade
 pub mod Counted
 pub mod Drawn
 pub mod Enough

@@ -6,15 +6,15 @@ use Rattle.std.proofs.lemmas.Bool.Decides.{nat_tests}
 use Rattle.plain_state.specs.declared.slot.SlotId.{SlotId}
 use Rattle.plain_state.specs.Lists.{times}
 use Rattle.core_events.specs.Counts.{one}
-use Rattle.core_invariant.proofs.Kit.{one_other, one_same, times_append, times_cons, times_none, times_push}
+use Rattle.core_law.proofs.Kit.{one_other, one_same, times_append, times_cons, times_none, times_push}
 use Rattle.counted_handles.specs.Handles.{Handle}
 use Rattle.domain_rule.specs.Views.{object_in}
 use Rattle.acquire_retire.specs.Seats.{SeatState}
 use Rattle.weak_intern.specs.Knowing.{KnowsRecord}
 use Rattle.words_law.specs.Known.{ForgetsNothing}
 use Rattle.words_law.specs.Views.{View}
-use Rattle.word_lanes.proofs.Copied.{knows_still}
-use Rattle.word_lanes.proofs.Offered.{texts}
+use Rattle.lane_files.proofs.Copied.{knows_still}
+use Rattle.lane_files.proofs.Offered.{texts}
 use Rattle.lane_files.specs.Counting.{KeepsRecords, KnowsEach}
 use Rattle.lane_files.specs.Keeping.{slots_of}
 

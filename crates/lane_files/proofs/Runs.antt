@@ -14,7 +14,7 @@ use Rattle.directory_calls.specs.Directories.{area_of}
 use Rattle.weak_intern.specs.Drawing.{Draws}
 use Rattle.words_law.specs.Views.{View}
 use Rattle.words_protocol.specs.declared.law.WordsLaw.{WordsLaw}
-use Rattle.word_lanes.proofs.Counted.{takes_none}
+use Rattle.lane_files.proofs.PiecesCounted.{takes_none}
 use Rattle.lane_files.specs.declared.lane.Lane.{Lane}
 use Rattle.lane_files.specs.declared.refusal.FileError.{FileError}
 use Rattle.lane_files.specs.declared.refusal.LaneStop.TheVariants as stopped

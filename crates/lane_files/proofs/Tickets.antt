@@ -7,7 +7,7 @@ use Rattle.std.proofs.lemmas.List.Concat.{flat_map-append}
 use Rattle.std.proofs.lemmas.List.Elements.{filter-append}
 use Rattle.plain_state.specs.declared.slot.SlotId.{SlotId}
 use Rattle.plain_state.specs.Lists.{times}
-use Rattle.core_invariant.proofs.Kit.{times_append}
+use Rattle.core_law.proofs.Kit.{times_append}
 use Rattle.counted_handles.specs.Handles.{Handle}
 use Rattle.domain_rule.specs.Views.{object_in}
 use Rattle.acquire_retire.specs.Domains.{DomainState}
@@ -15,7 +15,7 @@ use Rattle.acquire_retire.specs.Seats.{SeatState}
 use Rattle.words_protocol.specs.declared.law.WordsLaw.{WordsLaw}
 use Rattle.words_law.specs.Known.{ForgetsNothing}
 use Rattle.words_law.specs.Views.{View}
-use Rattle.word_lanes.specs.Counting.{Takes}
+use Rattle.lane_files.specs.Passed.{Takes}
 use Rattle.lane_files.specs.declared.lane.Lane.{Lane}
 use Rattle.lane_files.specs.declared.work.Work.{Work}
 use Rattle.lane_files.specs.declared.refusal.FileError.{FileError}

@@ -12,9 +12,9 @@ use Rattle.slot_store.specs.Reaping.{Answers, KnowsBoth}
 use Rattle.words_law.specs.Views.{View}
 use Rattle.words_protocol.specs.declared.law.WordsLaw.{WordsLaw}
 use Rattle.slot_store.proofs.Passing.{passes_collect}
-use Rattle.word_lanes.specs.declared.shared.Shared.{Shared}
-use Rattle.word_lanes.specs.Ready.{IsReady, Owns}
-use Rattle.word_lanes.proofs.Copied.{copy_ready}
+use Rattle.lane_files.specs.declared.shared.Shared.{Shared}
+use Rattle.lane_files.specs.Ready.{IsReady, Owns}
+use Rattle.lane_files.proofs.Copied.{copy_ready}
 
 pub owns_rest : (a b : SeatState View) → rest_of b.view.core ≡ rest_of a.view.core → KnowsBoth a b
     → Owns a.view.core.owned a b

@@ -9,10 +9,10 @@ use Rattle.weak_intern.specs.Knowing.{KnowsRecord}
 use Rattle.cdrc_text.specs.Text.{slots_of_word}
 use Rattle.words_law.specs.Views.{View}
 use Rattle.words_protocol.specs.declared.law.WordsLaw.{WordsLaw}
-use Rattle.word_lanes.specs.Counting.{Takes, UsesInterns}
-use Rattle.word_lanes.specs.Makes.{LacksMake}
-use Rattle.word_lanes.specs.Pieces.{IsWhyNotCounted}
-use Rattle.word_lanes.specs.Ready.{Owns}
+use Rattle.lane_files.specs.Passed.{Takes, UsesInterns}
+use Rattle.lane_files.specs.PieceMakes.{LacksMake}
+use Rattle.lane_files.specs.Pieces.{IsWhyNotCounted}
+use Rattle.lane_files.specs.Ready.{Owns}
 use Rattle.lane_files.specs.declared.lane.Lane.{Lane}
 use Rattle.lane_files.specs.declared.refusal.FileError.{FileError}
 use Rattle.lane_files.specs.declared.refusal.FileError.TheVariants as refused

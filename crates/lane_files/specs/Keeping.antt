@@ -9,7 +9,7 @@ use Rattle.domain_rule.specs.Views.{object_in}
 use Rattle.acquire_retire.specs.Seats.{SeatState}
 use Rattle.directory_calls.specs.Steps.{aside}
 use Rattle.words_law.specs.Views.{View}
-use Rattle.word_lanes.specs.Ready.{Owns}
+use Rattle.lane_files.specs.Ready.{Owns}
 use Rattle.lane_files.specs.declared.keeper.Keeper.{Keeper}
 
 -- the slots of some references

@@ -13,7 +13,7 @@ use Rattle.words_protocol.specs.declared.law.WordsLaw.{WordsLaw}
 use Rattle.directory_calls.specs.Directories.{area_of}
 use Rattle.directory_calls.specs.Steps.{aside}
 use Rattle.words_law.specs.Views.{View}
-use Rattle.word_lanes.specs.Counting.{Takes}
+use Rattle.lane_files.specs.Passed.{Takes}
 use Rattle.lane_files.specs.declared.lane.Lane.{Lane}
 use Rattle.lane_files.specs.declared.work.Work.{Work}
 use Rattle.lane_files.specs.declared.refusal.LaneStop.{LaneStop}

@@ -1,3 +1,9 @@
+pub mod Passed
+pub mod Draining
+pub mod PieceMakes
+pub mod Pieces
+pub mod Ready
+pub mod Whys
 pub mod Counting
 pub mod Files
 pub mod Keeping

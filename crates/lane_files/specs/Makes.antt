@@ -8,7 +8,7 @@ use Rattle.slot_store.specs.declared.making.MakeError.TheVariants as unmade
 use Rattle.cdrc_text.specs.Text.{slots_of_word}
 use Rattle.words_law.specs.Views.{View}
 use Rattle.words_protocol.specs.declared.law.WordsLaw.{WordsLaw}
-use Rattle.word_lanes.specs.Makes.{cause_in}
+use Rattle.lane_files.specs.PieceMakes.{cause_in}
 use Rattle.lane_files.specs.declared.refusal.FileError.{FileError}
 use Rattle.lane_files.specs.declared.refusal.FileError.TheVariants as refused
 use Rattle.lane_files.specs.declared.refusal.LaneStop.{LaneStop}

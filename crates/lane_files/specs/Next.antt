@@ -6,8 +6,8 @@ use Rattle.acquire_retire.specs.Seats.{SeatState}
 use Rattle.weak_intern.specs.Knowing.{KnowsRecord}
 use Rattle.cdrc_text.specs.Text.{slots_of_word}
 use Rattle.words_law.specs.Views.{View}
-use Rattle.word_lanes.specs.Counting.{Takes, UsesInterns}
-use Rattle.word_lanes.specs.Ready.{Owns}
+use Rattle.lane_files.specs.Passed.{Takes, UsesInterns}
+use Rattle.lane_files.specs.Ready.{Owns}
 use Rattle.lane_files.specs.declared.lane.Lane.{Lane}
 use Rattle.lane_files.specs.Keeping.{has, slots_of}
 

@@ -6,8 +6,8 @@ ghost use Rattle.directory_calls.specs.Directories.{CanCount};
 ghost use Rattle.plain_state.specs.declared.slot.SlotId.{SlotId};
 ghost use Rattle.plain_state.specs.Lists.{times};
 ghost use Rattle.cdrc_text.specs.Text.{slots_of_word};
-ghost use Rattle.word_lanes.specs.Makes.{LacksMake};
-ghost use Rattle.word_lanes.specs.Ready.{IsReady, Owns};
+ghost use Rattle.lane_files.specs.PieceMakes.{LacksMake};
+ghost use Rattle.lane_files.specs.Ready.{IsReady, Owns};
 ghost use Rattle.lane_files.specs.Counting.{CountsFile, IsWhyStopped, StopsInFile};
 ghost use Rattle.lane_files.specs.Files.{HasPieces, pieces_in};
 ghost use Rattle.lane_files.specs.Keeping.{IsSameKeeper, has};
@@ -18,6 +18,7 @@ use crate::file::FileText;
 use crate::lane::Lane;
 use crate::refusal::FileError;
 use crate::tidying::tidy;
+use crate::{Shared, count_piece};
 use acquire_retire::{Domain, Seat};
 use deleter::Deleter;
 use directory_protocol::RecordKind;
@@ -26,7 +27,6 @@ use plain_state::PayloadKind;
 use protocol_pairs::PairKind;
 use queue_protocol::NodeKind;
 use std::sync::Wait;
-use word_lanes::{Shared, count_piece};
 use words_protocol::WordsLaw;
 
 /// Counts the pieces of a file, each of 1 to 4,096 bytes, beside other lanes: for each it passes the gate, interns the

@@ -2,11 +2,12 @@
 ghost use Rattle.std.specs.Prelude.{◌≡◌, ◌^◌, ◌<◌, ◌≤◌, ◌+◌, [], ◌∷◌, IfErr, OnOk, length};
 ghost use Rattle.cdrc_text.specs.Tally.{total_of};
 ghost use Rattle.deleter.specs.Weighing.{Weighs};
-ghost use Rattle.word_lanes.specs.Ready.{IsReady};
+ghost use Rattle.lane_files.specs.Ready.{IsReady};
 ghost use Rattle.lane_files.specs.Counting.{StopsInFile};
 ghost use Rattle.lane_files.specs.Lanes.{CountsTickets, HasGrants, RunsLane, StopsLane};
 ghost use Rattle.lane_files.specs.Work.{IsWork, all_tickets, words_of};
 
+use crate::Shared;
 use crate::counting::count_file;
 use crate::lane::Lane;
 use crate::refusal::{FileError, LaneStop};
@@ -20,7 +21,6 @@ use protocol_pairs::{PairKind, Right};
 use queue_protocol::NodeKind;
 use std::sync::Wait;
 use weak_intern::draw;
-use word_lanes::Shared;
 use words_protocol::WordsLaw;
 
 /// Draws tickets and counts their files, until it draws one that stands for no file. Of each file in the last round it

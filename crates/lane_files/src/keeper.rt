@@ -3,16 +3,16 @@ ghost use Rattle.std.specs.Prelude.{◌≡◌, ◌==◌, ◌<◌, ◌≤◌, [],
 ghost use Rattle.plain_state.specs.declared.slot.SlotId.{SlotId};
 ghost use Rattle.plain_state.specs.Lists.{times};
 ghost use Rattle.core_events.specs.Views.{without};
-ghost use Rattle.word_lanes.specs.Ready.{IsReady, Owns};
+ghost use Rattle.lane_files.specs.Ready.{IsReady, Owns};
 ghost use Rattle.lane_files.specs.Keeping.{GivesUp, IsSameKeeper, KeepsOne, has, slots_of};
 
+use crate::Shared;
 use acquire_retire::{Domain, Seat};
 use control_word::drop_strong;
 use counted_handles::Strong;
 use out_of_memory::OutOfMemory;
 use std::alloc::Global;
 use std::collections::HashSet;
-use word_lanes::Shared;
 use words_protocol::WordsLaw;
 
 /// The references that a lane keeps, and the slots of those that it keeps for the present file.

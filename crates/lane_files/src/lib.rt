@@ -1,36 +1,56 @@
-//! What a lane does for the files that it counts: it draws tickets that stand for files, counts each piece of a file
-//! beside other lanes, and keeps one reference to the record of each word.
+//! What a lane does for the files that it counts: it draws tickets that stand for files, interns each piece of a file,
+//! pushes its record on the shared queue and pops one whose word it counts, and keeps one reference to the record of
+//! each word.
 //!
-//! The rule that is kept is the law of `words_law`, between any two steps of all seats. Which pieces a lane pushed and
-//! whose words it counted is told by its seat's view and its tally.
+//! The rule that is kept is the law of `words_law`, between any two steps of all seats: each item that was pushed is a
+//! record of the directory, so that who pops it may read its text. Which pieces a lane pushed and whose words it
+//! counted is told by its seat's view and its tally.
 //!
-//! It isn't promised that a call returns, nor who counts what was pushed.
+//! It isn't promised that a call which may wait returns, nor who pops what.
 //!
 //! ```text
+//! count_piece(&rt, &domain, &mut seat, &shared, b"ab", &mut tally)?; // interns, offers a copy, and takes one
+//! drain(&rt, &domain, &mut seat, &shared, 1000, &mut tally)?; // takes until it finds none, 1,000 at most
 //! let mut lane = Lane::new(alloc, 0);
 //! run_lane(&rt, &domain, &mut seat, &shared, &gate, &weigh, &mut lane, &work)?;   // until no ticket is left
 //! lane.keeper.kept        // for each file of the last round, one reference to the record of each distinct word
 //! ```
 #![tactic(auto)]
 
+mod copying;
 mod counting;
+mod draining;
 mod drawing;
 mod file;
+mod interning;
 mod keeper;
 mod lane;
 mod laws;
+mod offering;
+mod piece;
+mod reading;
 mod refusal;
+mod shared;
+mod taking;
 #[cfg(test)]
 mod tests;
+#[cfg(test)]
+mod tests_pieces;
 mod tidying;
 mod work;
 
+pub use copying::offer_copy;
 pub use counting::count_file;
+pub use draining::drain;
 pub use drawing::run_lane;
 pub use file::FileText;
 pub use keeper::Keeper;
 pub use lane::Lane;
 pub use laws::{full_domains_lack_slots, lanes_have_makes};
-pub use refusal::{FileError, LaneStop};
+pub use offering::offer;
+pub use piece::count_piece;
+pub use refusal::{FileError, LaneError, LaneStop, PieceError};
+pub use shared::Shared;
+pub use taking::take_one;
 pub use tidying::tidy;
 pub use work::Work;

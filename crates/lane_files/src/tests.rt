@@ -7,11 +7,11 @@ ghost use Rattle.hand_queues.specs.Queues.{IsAnyOf, queue_in};
 ghost use Rattle.linked_queue.specs.Queues.{CanLay};
 ghost use Rattle.queue_law.specs.declared.view.Form.TheVariants.{Linked};
 ghost use Rattle.text_reading.specs.Reading.{HasTwoFree};
-ghost use Rattle.word_lanes.specs.Ready.{IsReady};
+ghost use Rattle.lane_files.specs.Ready.{IsReady};
 ghost use Rattle.lane_files.specs.Files.{HasPieces, pieces_in};
 ghost use Rattle.lane_files.specs.Work.{IsWork, all_tickets, words_of};
 
-use crate::{FileText, Lane, Work, run_lane};
+use crate::{FileText, Lane, Shared, Work, run_lane};
 use acquire_retire::{Domain, Quota, Seat, Shape, open_domain};
 use crossbeam_utils::atomic::AtomicCell;
 use deleter::Deleter;
@@ -26,7 +26,6 @@ use slot_store::MakeError;
 use std::alloc::Global;
 use std::sync::Wait;
 use std::test::Fail;
-use word_lanes::Shared;
 use words_protocol::WordsLaw;
 
 const SHAPE: Shape = Shape {

@@ -1,8 +1,9 @@
 //! How a lane destroys what ended.
 ghost use Rattle.std.specs.Prelude.{◌≡◌};
 ghost use Rattle.deleter.specs.Weighing.{Weighs};
-ghost use Rattle.word_lanes.specs.Ready.{IsReady, Owns};
+ghost use Rattle.lane_files.specs.Ready.{IsReady, Owns};
 
+use crate::Shared;
 use acquire_retire::{Domain, Seat};
 use deleter::Deleter;
 use directory_protocol::RecordKind;
@@ -11,7 +12,6 @@ use protocol_pairs::PairKind;
 use queue_protocol::NodeKind;
 use retiring_stores::collect;
 use slot_store::reap;
-use word_lanes::Shared;
 use words_protocol::WordsLaw;
 
 /// The most objects that a lane destroys after one piece.

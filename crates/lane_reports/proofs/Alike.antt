@@ -6,7 +6,7 @@ use Rattle.std.proofs.lemmas.List.{map-append}
 use Rattle.std.proofs.lemmas.List.Elements.{filter-append}
 use Rattle.plain_state.specs.declared.slot.SlotId.{SlotId}
 use Rattle.plain_state.specs.Lists.{times}
-use Rattle.core_invariant.proofs.Kit.{one_same, times_append, times_cons}
+use Rattle.core_law.proofs.Kit.{one_same, times_append, times_cons}
 use Rattle.counted_handles.specs.Handles.{Handle}
 use Rattle.acquire_retire.specs.Seats.{SeatState}
 use Rattle.directory_law.specs.declared.view.View.{View as DirectoryView}

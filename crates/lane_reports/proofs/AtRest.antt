@@ -19,9 +19,9 @@ use Rattle.core_events.specs.Shows.{show_seat, shows}
 use Rattle.core_events.specs.Views.{no_view, snapshots}
 use Rattle.core_events.specs.Shows.{filled}
 use Rattle.core_events.specs.declared.view.Phase.TheVariants as phase
-use Rattle.core_invariant.proofs.Kit.{one_same, times_cons}
-use Rattle.core_invariant.proofs.Parts.{sound_good}
-use Rattle.core_shows.proofs.Bridge.{shown_past, shown_seat, shown_stage, shown_strong}
+use Rattle.core_law.proofs.Kit.{one_same, times_cons}
+use Rattle.core_law.proofs.Parts.{sound_good}
+use Rattle.core_law.proofs.Bridge.{shown_past, shown_seat, shown_stage, shown_strong}
 use Rattle.acquire_retire.specs.Domains.{DomainState}
 use Rattle.acquire_retire.specs.Seats.{SeatState}
 use Rattle.acquire_retire.specs.Wholes.{known_core}

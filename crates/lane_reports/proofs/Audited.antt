@@ -12,7 +12,7 @@ use Rattle.core_events.specs.declared.view.CoreView.{CoreView}
 use Rattle.core_events.specs.Shows.{shows}
 use Rattle.core_events.specs.Views.{snapshots}
 use Rattle.core_events.specs.Words.{cell_at, slot_in}
-use Rattle.core_invariant.proofs.Each.{length_each}
+use Rattle.core_law.proofs.Each.{length_each}
 use Rattle.acquire_retire.specs.Collecting.{rest_of}
 use Rattle.acquire_retire.specs.Domains.{DomainState}
 use Rattle.acquire_retire.specs.Seats.{SeatState}

@@ -6,14 +6,14 @@ use Rattle.core_events.specs.declared.view.CoreView.{CoreView}
 use Rattle.core_events.specs.declared.view.Note.{Note}
 use Rattle.core_events.specs.declared.view.Note.TheVariants as note
 use Rattle.core_events.specs.Views.{no_notes, room_of}
-use Rattle.core_invariant.proofs.Each.{get_each, length_each}
-use Rattle.core_invariant.proofs.Kit.{times_none}
+use Rattle.core_law.proofs.Each.{get_each, length_each}
+use Rattle.core_law.proofs.Kit.{times_none}
 use Rattle.acquire_retire.specs.Domains.{DomainState}
 use Rattle.acquire_retire.specs.Seats.{SeatState}
 use Rattle.control_word.specs.Resting.{IsUnderNone}
 use Rattle.words_law.specs.Views.{View}
 use Rattle.words_protocol.specs.declared.law.WordsLaw.{WordsLaw}
-use Rattle.word_lanes.specs.declared.shared.Shared.{Shared}
+use Rattle.lane_files.specs.declared.shared.Shared.{Shared}
 use Rattle.lane_files.specs.declared.lane.Lane.{Lane}
 use Rattle.lane_files.specs.declared.refusal.LaneStop.{LaneStop}
 use Rattle.lane_files.specs.declared.work.Work.{Work}

@@ -18,7 +18,7 @@ use Rattle.words_law.specs.Known.{ForgetsNothing, KnowsMore, KnowsTexts}
 use Rattle.words_law.specs.Views.{View}
 use Rattle.words_law.proofs.Known.{knows_all_more, knows_both}
 use Rattle.ticket_shares.specs.Tickets.{together}
-use Rattle.word_lanes.specs.Counting.{KnowsWords, by_seat}
+use Rattle.lane_files.specs.Passed.{KnowsWords, by_seat}
 use Rattle.lane_files.specs.declared.work.Work.{Work}
 use Rattle.lane_files.specs.Work.{words_of_all}
 use Rattle.counted_handles.specs.Handles.{Handle}

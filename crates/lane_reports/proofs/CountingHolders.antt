@@ -13,9 +13,9 @@ use Rattle.core_events.specs.declared.view.CoreView.{CoreView}
 use Rattle.core_events.specs.Runs.{Core, after, view_at}
 use Rattle.core_events.specs.Shows.{show_seat, shows}
 use Rattle.core_events.specs.Steps.{HasRoom}
-use Rattle.core_invariant.specs.Sound.{Sound}
-use Rattle.core_shows.proofs.Bridge.{shown_seat}
-use Rattle.core_shows.proofs.Events.{event_shows}
+use Rattle.core_law.specs.Sound.{Sound}
+use Rattle.core_law.proofs.Bridge.{shown_seat}
+use Rattle.core_law.proofs.Events.{event_shows}
 use Rattle.acquire_retire.specs.Calls.{Steps, same_view}
 use Rattle.acquire_retire.specs.Domains.{DomainState}
 use Rattle.acquire_retire.specs.Seats.{SeatState}
@@ -33,7 +33,7 @@ use Rattle.domain_audit.proofs.Learning.{knows_shown}
 use Rattle.domain_rule.specs.Views.{own_of}
 use Rattle.slot_store.proofs.Objects.{known_after, known_before, known_still, some_value, sound_later}
 use Rattle.text_reading.specs.Reading.{HasTwoFree}
-use Rattle.word_lanes.specs.declared.shared.Shared.{Shared}
+use Rattle.lane_files.specs.declared.shared.Shared.{Shared}
 use Rattle.words_law.specs.Views.{View, gone}
 use Rattle.words_protocol.specs.declared.law.WordsLaw.{WordsLaw}
 use Rattle.lane_reports.specs.Holders.{IsCount, IsRoot, law_of}

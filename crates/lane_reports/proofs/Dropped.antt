@@ -5,12 +5,12 @@ use Rattle.plain_state.specs.declared.slot.SlotId.{SlotId}
 use Rattle.plain_state.specs.Lists.{times}
 use Rattle.core_events.specs.declared.view.CoreView.{CoreView}
 use Rattle.core_events.specs.Views.{without}
-use Rattle.core_invariant.proofs.Kit.{one_same, times_append, times_cons, times_none}
+use Rattle.core_law.proofs.Kit.{one_same, times_append, times_cons, times_none}
 use Rattle.counted_handles.specs.Handles.{Handle}
 use Rattle.acquire_retire.specs.Seats.{SeatState}
 use Rattle.domain_rule.specs.Views.{IsAlone}
 use Rattle.words_law.specs.Views.{View}
-use Rattle.word_lanes.specs.Ready.{Owns}
+use Rattle.lane_files.specs.Ready.{Owns}
 use Rattle.lane_files.specs.Keeping.{GivesUp, slots_of}
 use Rattle.lane_files.proofs.Giving.{gives_next}
 

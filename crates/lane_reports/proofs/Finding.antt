@@ -5,7 +5,7 @@ use Rattle.plain_state.specs.declared.slot.SlotId.{SlotId}
 use Rattle.plain_state.specs.Lists.{times}
 use Rattle.core_events.specs.declared.view.Move.{Move}
 use Rattle.core_events.specs.Views.{without}
-use Rattle.core_invariant.proofs.Kit.{one_same, times_push, times_without}
+use Rattle.core_law.proofs.Kit.{one_same, times_push, times_without}
 use Rattle.acquire_retire.specs.Collecting.{ends}
 use Rattle.acquire_retire.specs.Domains.{DomainState}
 use Rattle.acquire_retire.specs.Seats.{SeatState}
@@ -22,7 +22,7 @@ use Rattle.directory_calls.proofs.Learnt.{learns_then}
 use Rattle.weak_intern.specs.Knowing.{KnowsRecord}
 use Rattle.words_law.specs.Views.{View}
 use Rattle.words_protocol.specs.declared.law.WordsLaw.{WordsLaw}
-use Rattle.word_lanes.proofs.Copied.{knows_on}
+use Rattle.lane_files.proofs.Copied.{knows_on}
 use Rattle.lane_reports.specs.Holders.{texts, with_texts}
 
 gives : (e : Bool) (s : SlotId) (ms : List Move) (a b : SeatState View)

@@ -30,7 +30,7 @@ use Rattle.words_protocol.specs.Sides.{area_of, ends_of}
 use Rattle.words_rest.specs.Kept.{TellsFiles}
 use Rattle.ticket_shares.specs.Tickets.{AreLanes, IsEachOnce, together}
 use Rattle.ticket_shares.proofs.Lanes.{each_ticket}
-use Rattle.word_lanes.specs.Ready.{Owns}
+use Rattle.lane_files.specs.Ready.{Owns}
 use Rattle.lane_files.specs.declared.work.Work.{Work}
 use Rattle.lane_files.specs.Keeping.{slots_of}
 use Rattle.lane_files.specs.Work.{IsWork, all_tickets, kept_files}

@@ -18,10 +18,10 @@ use Rattle.core_events.specs.Counts.{number_times, ticket_times, tickets_drawn, 
 use Rattle.core_events.specs.Runs.{AreTerms, Core, Enabled, History, IsShape, after, found, left_behind, taken_over, view_at}
 use Rattle.core_events.specs.Steps.{May, moved, noted}
 use Rattle.core_events.specs.Views.{Terms, first_views, no_view}
-use Rattle.core_invariant.specs.Sound.{Sound}
+use Rattle.core_law.specs.Sound.{Sound}
 use Rattle.core_law.proofs.Always.{history_sound, is_leave}
 use Rattle.core_law.proofs.Trails.{changed_trail, views_plain}
-use Rattle.core_shows.proofs.Bridge.{total_zero}
+use Rattle.core_law.proofs.Bridge.{total_zero}
 use Rattle.claim_law.proofs.Going.{drawn, grows}
 use Rattle.domain_rule.specs.Rule.{OthersLeft}
 use Rattle.ticket_shares.specs.Tickets.{DrewOnce, together}

@@ -13,8 +13,8 @@ use Rattle.core_events.specs.Runs.{Core, after, view_at}
 use Rattle.core_events.specs.Shows.{shows}
 use Rattle.core_events.specs.Words.{slot_in}
 use Rattle.core_events.specs.declared.outcome.Outcome.TheVariants as outcome
-use Rattle.core_invariant.specs.Sound.{Sound}
-use Rattle.core_shows.proofs.Events.{event_shows}
+use Rattle.core_law.specs.Sound.{Sound}
+use Rattle.core_law.proofs.Events.{event_shows}
 use Rattle.domain_audit.proofs.Learning.{knows_shown}
 use Rattle.domain_rule.specs.Rule.{OthersLeft}
 use Rattle.domain_rule.specs.Views.{IsAlone, own_of}

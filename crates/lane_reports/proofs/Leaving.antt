@@ -15,7 +15,7 @@ use Rattle.core_events.specs.declared.view.Note.TheVariants as note
 use Rattle.core_events.specs.Runs.{taken_over}
 use Rattle.core_events.specs.Steps.{HasRoom, IsIdle, noted}
 use Rattle.core_events.specs.Views.{note_of, room_of}
-use Rattle.core_invariant.proofs.Kit.{times_append}
+use Rattle.core_law.proofs.Kit.{times_append}
 use Rattle.protected_loads.proofs.Telling.{holds_has}
 use Rattle.counted_handles.specs.Handles.{Handle}
 use Rattle.acquire_retire.specs.Domains.{DomainState}
@@ -39,10 +39,10 @@ use Rattle.words_law.specs.Owned.{join_directories, joined}
 use Rattle.words_law.specs.Views.{View}
 use Rattle.words_law.proofs.Known.{joined_knows}
 use Rattle.words_protocol.specs.declared.law.WordsLaw.{WordsLaw}
-use Rattle.word_lanes.specs.Counting.{KnowsWords, by_seat}
-use Rattle.word_lanes.specs.declared.shared.Shared.{Shared}
-use Rattle.word_lanes.specs.Ready.{IsReady}
-use Rattle.word_lanes.proofs.Counted.{more_then}
+use Rattle.lane_files.specs.Passed.{KnowsWords, by_seat}
+use Rattle.lane_files.specs.declared.shared.Shared.{Shared}
+use Rattle.lane_files.specs.Ready.{IsReady}
+use Rattle.lane_files.proofs.PiecesCounted.{more_then}
 use Rattle.lane_files.specs.declared.lane.Lane.{Lane}
 use Rattle.lane_files.specs.declared.work.Work.{Work}
 use Rattle.lane_files.specs.Keeping.{slots_of}

@@ -8,7 +8,7 @@ use Rattle.queue_law.specs.declared.view.Item.{Item}
 use Rattle.queue_law.specs.declared.view.Taken.{Taken}
 use Rattle.queue_law.specs.Lists.{taken_items}
 use Rattle.ticket_shares.specs.Tickets.{AreLanes, IsShare, together}
-use Rattle.word_lanes.specs.Counting.{by_seat}
+use Rattle.lane_files.specs.Passed.{by_seat}
 use Rattle.lane_files.specs.declared.work.Work.{Work}
 use Rattle.lane_files.specs.Work.{words_of, words_of_all}
 use Rattle.lane_reports.specs.Deeds.{IsTallyOf, LaneDeeds}

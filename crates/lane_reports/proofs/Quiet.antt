@@ -6,7 +6,7 @@ use Rattle.plain_state.specs.declared.slot.SlotId.{SlotId}
 use Rattle.plain_state.specs.Lists.{Entry, entry_times, times}
 use Rattle.core_events.specs.declared.view.CoreView.{CoreView}
 use Rattle.core_events.specs.Views.{snapshots}
-use Rattle.core_invariant.proofs.Kit.{entry_cons, entry_none, entry_one, kind_one, one_same}
+use Rattle.core_law.proofs.Kit.{entry_cons, entry_none, entry_one, kind_one, one_same}
 use Rattle.acquire_retire.specs.Collecting.{rest_of}
 use Rattle.acquire_retire.specs.Seats.{SeatState}
 use Rattle.slot_store.specs.Leftovers.{IsQuiet}

@@ -11,21 +11,21 @@ use Rattle.slot_store.specs.declared.making.MakeError.TheVariants as unmade
 use Rattle.queue_law.specs.declared.view.Form.{Form}
 use Rattle.words_law.specs.Views.{View}
 use Rattle.words_protocol.specs.declared.law.WordsLaw.{WordsLaw}
-use Rattle.word_lanes.specs.declared.refusal.LaneError.TheVariants as untaken
-use Rattle.word_lanes.specs.declared.refusal.PieceError.{PieceError}
-use Rattle.word_lanes.specs.declared.refusal.PieceError.TheVariants as uncounted
-use Rattle.word_lanes.specs.declared.shared.Shared.{Shared}
-use Rattle.word_lanes.specs.Pieces.{IsWhyNotCounted}
-use Rattle.word_lanes.specs.Whys.{IsWhyNotCopied}
+use Rattle.lane_files.specs.declared.refusal.LaneError.TheVariants as untaken
+use Rattle.lane_files.specs.declared.refusal.PieceError.{PieceError}
+use Rattle.lane_files.specs.declared.refusal.PieceError.TheVariants as uncounted
+use Rattle.lane_files.specs.declared.shared.Shared.{Shared}
+use Rattle.lane_files.specs.Pieces.{IsWhyNotCounted}
+use Rattle.lane_files.specs.Whys.{IsWhyNotCopied}
 use Rattle.lane_files.specs.declared.lane.Lane.{Lane}
 use Rattle.lane_files.specs.declared.refusal.FileError.TheVariants as unread
 use Rattle.lane_files.specs.declared.refusal.LaneStop.{LaneStop}
 use Rattle.lane_files.specs.declared.refusal.LaneStop.TheVariants as stopped
 use Rattle.lane_files.specs.declared.work.Work.{Work}
 use Rattle.lane_files.specs.Lanes.{IsWhyStopped, StopsLane}
-use Rattle.word_lanes.specs.Makes.{cause_in}
+use Rattle.lane_files.specs.PieceMakes.{cause_in}
 use Rattle.lane_files.specs.Makes.{HasItsMakes, cause_of}
-use Rattle.core_invariant.proofs.Each.{get_each, length_each}
+use Rattle.core_law.proofs.Each.{get_each, length_each}
 use Rattle.lane_domain.specs.Opened.{IsDomainFor, fresh_lanes, fresh_seat}
 use Rattle.lane_domain.proofs.Enough.{attached_makes, makes_left, slots_lacked}
 use Rattle.lane_domain.specs.declared.ending.LaneEnd.{LaneEnd}

@@ -9,7 +9,7 @@ use Rattle.core_events.specs.declared.view.CoreView.{CoreView}
 use Rattle.core_events.specs.declared.view.Note.{Note}
 use Rattle.core_events.specs.declared.view.Note.TheVariants as note
 use Rattle.core_events.specs.Views.{note_of, snapshots, valid_of}
-use Rattle.core_invariant.proofs.Kit.{entry_cons, entry_none, entry_one, kind_one, one_same}
+use Rattle.core_law.proofs.Kit.{entry_cons, entry_none, entry_one, kind_one, one_same}
 use Rattle.domain_rule.specs.Views.{IsAlone}
 use Rattle.acquire_retire.specs.Collecting.{rest_of}
 use Rattle.acquire_retire.specs.Domains.{DomainState}
@@ -23,8 +23,8 @@ use Rattle.slot_store.specs.Reaping.{KnowsBoth}
 use Rattle.slot_store.proofs.Turning.{nothing_in}
 use Rattle.words_law.specs.Views.{View}
 use Rattle.words_protocol.specs.declared.law.WordsLaw.{WordsLaw}
-use Rattle.word_lanes.specs.Whys.{of_queue, queue_of}
-use Rattle.word_lanes.proofs.Kept.{owns_on, owns_queue}
+use Rattle.lane_files.specs.Whys.{of_queue, queue_of}
+use Rattle.lane_files.proofs.SeatsKept.{owns_on, owns_queue}
 use Rattle.lane_files.proofs.Tidied.{owns_rest}
 use Rattle.lane_reports.specs.Shutting.{ShutsAndSettles}
 

@@ -7,7 +7,7 @@ use Rattle.std.proofs.Math.Seq.{take-suc}
 use Rattle.plain_state.specs.declared.slot.SlotId.{SlotId}
 use Rattle.plain_state.specs.Lists.{times}
 use Rattle.core_events.specs.Counts.{one}
-use Rattle.core_invariant.proofs.Kit.{one_other, one_same, times_none, times_push}
+use Rattle.core_law.proofs.Kit.{one_other, one_same, times_none, times_push}
 use Rattle.counted_handles.specs.Handles.{Handle}
 use Rattle.lane_files.specs.Keeping.{slots_of}
 use Rattle.lane_reports.specs.Holders.{AreSlotsOf}

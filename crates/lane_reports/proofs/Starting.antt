@@ -11,8 +11,8 @@ use Rattle.domain_rule.specs.Views.{IsAlone}
 use Rattle.queue_law.specs.declared.view.Taken.{Taken}
 use Rattle.queue_law.specs.Lists.{taken_items}
 use Rattle.words_law.specs.Views.{View}
-use Rattle.word_lanes.specs.Counting.{KnowsWords}
-use Rattle.word_lanes.proofs.Counted.{more_none}
+use Rattle.lane_files.specs.Passed.{KnowsWords}
+use Rattle.lane_files.proofs.PiecesCounted.{more_none}
 use Rattle.lane_files.specs.declared.work.Work.{Work}
 use Rattle.lane_files.specs.Work.{words_of_all}
 use Rattle.lane_reports.specs.declared.done.Done.{Done}

@@ -11,7 +11,7 @@ use Rattle.domain_rule.specs.Views.{IsAlone}
 use Rattle.control_word.specs.Resting.{IsUnderNone}
 use Rattle.text_reading.specs.Reading.{HasTwoFree}
 use Rattle.words_law.specs.Views.{View}
-use Rattle.word_lanes.specs.Ready.{Owns}
+use Rattle.lane_files.specs.Ready.{Owns}
 
 module _ (os : List SlotId) (a b : SeatState View) (owns : Owns os a b) where
   pub alone_still : IsAlone a.view → IsAlone b.view

@@ -2,10 +2,10 @@
 use Rattle.std.proofs.Common.{ℕ, ◌+◌, ◌<◌, List, [], arith}
 use Rattle.acquire_retire.specs.Seats.{SeatState}
 use Rattle.words_law.specs.Views.{View}
-use Rattle.word_lanes.specs.declared.refusal.LaneError.{LaneError}
-use Rattle.word_lanes.specs.Counting.{Takes}
-use Rattle.word_lanes.specs.Draining.{IsWhyNotDrained}
-use Rattle.word_lanes.proofs.Counted.{takes_more}
+use Rattle.lane_files.specs.declared.refusal.LaneError.{LaneError}
+use Rattle.lane_files.specs.Passed.{Takes}
+use Rattle.lane_files.specs.Draining.{IsWhyNotDrained}
+use Rattle.lane_files.proofs.PiecesCounted.{takes_more}
 
 pub why_after : (k most : ℕ) (error : LaneError) (a b c : SeatState View)
     (r s t : List (List ℕ × ℕ)) → Takes [] k a.view.client b.view.client r s → k < most

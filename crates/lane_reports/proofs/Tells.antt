@@ -8,7 +8,7 @@ use Rattle.weak_intern.specs.Knowing.{Knows}
 use Rattle.words_law.specs.Known.{KnowsMore, KnowsText}
 use Rattle.words_law.specs.Views.{View}
 use Rattle.words_law.proofs.Known.{knows_more}
-use Rattle.word_lanes.proofs.Offered.{texts}
+use Rattle.lane_files.proofs.Offered.{texts}
 use Rattle.lane_files.specs.declared.work.Work.{Work}
 use Rattle.lane_files.specs.Counting.{KeepsRecords, KnowsEach}
 use Rattle.lane_files.specs.Keeping.{slots_of}

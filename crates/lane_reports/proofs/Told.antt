@@ -2,7 +2,7 @@
 use Rattle.std.proofs.Common.{◌≡◌, ℕ, List, [], ◌++◌, sym, ap, subst, ◌∙◌, arith}
 use Rattle.core_events.specs.declared.view.CoreView.{CoreView}
 use Rattle.core_events.specs.Views.{note_of, room_of}
-use Rattle.core_invariant.proofs.Kit.{times_append, times_none}
+use Rattle.core_law.proofs.Kit.{times_append, times_none}
 use Rattle.counted_handles.specs.Handles.{Handle}
 use Rattle.acquire_retire.specs.Domains.{DomainState}
 use Rattle.acquire_retire.specs.Seats.{SeatState}
@@ -11,9 +11,9 @@ use Rattle.queue_law.specs.declared.view.Taken.{Taken}
 use Rattle.queue_law.specs.declared.view.View.{View as QueueView}
 use Rattle.words_law.specs.Views.{View}
 use Rattle.words_protocol.specs.declared.law.WordsLaw.{WordsLaw}
-use Rattle.word_lanes.specs.Counting.{by_seat}
-use Rattle.word_lanes.specs.declared.shared.Shared.{Shared}
-use Rattle.word_lanes.specs.Ready.{IsReady}
+use Rattle.lane_files.specs.Passed.{by_seat}
+use Rattle.lane_files.specs.declared.shared.Shared.{Shared}
+use Rattle.lane_files.specs.Ready.{IsReady}
 use Rattle.lane_files.specs.declared.lane.Lane.{Lane}
 use Rattle.lane_files.specs.declared.work.Work.{Work}
 use Rattle.lane_files.specs.Keeping.{slots_of}

@@ -8,7 +8,7 @@ use Rattle.plain_state.specs.Lists.{times}
 use Rattle.plain_state.specs.State.{Plain, PlainSeat, no_payload, seat_at}
 use Rattle.plain_protocol.specs.Owns.{Object}
 use Rattle.protocol_pairs.specs.Shares.{FitsItsPart, weight_in_part}
-use Rattle.core_invariant.proofs.Kit.{times_none}
+use Rattle.core_law.proofs.Kit.{times_none}
 use Rattle.acquire_retire.specs.Domains.{DomainState}
 use Rattle.acquire_retire.specs.Seats.{SeatState}
 use Rattle.directory_law.specs.declared.view.View.{View as DirectoryView}

@@ -5,7 +5,7 @@ use Rattle.queue_law.specs.declared.view.Item.{Item}
 use Rattle.queue_law.specs.Lists.{taken_items}
 use Rattle.words_law.specs.Views.{View}
 use Rattle.ticket_shares.specs.Tickets.{together}
-use Rattle.word_lanes.specs.Counting.{KnowsWords, by_seat}
+use Rattle.lane_files.specs.Passed.{KnowsWords, by_seat}
 use Rattle.lane_files.specs.declared.work.Work.{Work}
 use Rattle.lane_files.specs.Work.{words_of_all}
 use Rattle.lane_reports.specs.Deeds.{IsTallyOf, LaneDeeds}

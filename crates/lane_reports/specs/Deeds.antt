@@ -13,7 +13,7 @@ use Rattle.queue_law.specs.declared.view.Item.{Item}
 use Rattle.words_law.specs.Views.{View}
 use Rattle.words_protocol.specs.declared.law.WordsLaw.{WordsLaw}
 use Rattle.ticket_shares.specs.Tickets.{IsShare}
-use Rattle.word_lanes.specs.Counting.{KnowsWords, by_seat}
+use Rattle.lane_files.specs.Passed.{KnowsWords, by_seat}
 use Rattle.lane_files.specs.declared.lane.Lane.{Lane}
 use Rattle.lane_files.specs.declared.work.Work.{Work}
 use Rattle.lane_files.specs.Keeping.{slots_of}

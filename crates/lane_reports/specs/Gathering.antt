@@ -18,7 +18,7 @@ use Rattle.words_law.specs.Known.{ForgetsNothing}
 use Rattle.words_law.specs.Views.{View}
 use Rattle.words_protocol.specs.declared.law.WordsLaw.{WordsLaw}
 use Rattle.ticket_shares.specs.Tickets.{AreLanes, together}
-use Rattle.word_lanes.specs.Counting.{KnowsWords, by_seat}
+use Rattle.lane_files.specs.Passed.{KnowsWords, by_seat}
 use Rattle.lane_files.specs.declared.work.Work.{Work}
 use Rattle.lane_files.specs.Keeping.{slots_of}
 use Rattle.lane_files.specs.Work.{all_tickets, kept_files, words_of_all}

@@ -15,7 +15,7 @@ use Rattle.directory_calls.specs.Directories.{HasQuota, IsOver}
 use Rattle.directory_law.specs.declared.view.View.{View as DirectoryView}
 use Rattle.lane_files.specs.Keeping.{slots_of}
 use Rattle.text_reading.specs.Reading.{HasTwoFree}
-use Rattle.word_lanes.specs.declared.shared.Shared.{Shared}
+use Rattle.lane_files.specs.declared.shared.Shared.{Shared}
 use Rattle.words_law.specs.Law.{WordsLaw as Law}
 use Rattle.words_law.specs.Views.{View}
 use Rattle.words_protocol.specs.declared.law.WordsLaw.{WordsLaw}

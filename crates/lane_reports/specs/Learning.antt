@@ -30,9 +30,9 @@ HoldsNothing seat i =
 abbrev pub DrewAll : CoreView → Type 0
 DrewAll v = (n : ℕ) × DrewOnce (map (λ (l : LeftSeat). l.tickets) v.left_seats) n
 
--- By one move, which changed nothing but its trail, the seat has learnt that the law holds of the whole state, which it
--- knows, with its own view as the first. What it knows of the objects that it has is so; and where it has drawn no ticket
--- itself, the seats that left drew all.
+-- By one move, which changed nothing but its trail, the seat has learnt that the law holds of the whole state, which
+-- it knows, with its own view as the first. What it knows of the objects that it has is so; and where it has drawn no
+-- ticket itself, the seats that left drew all.
 pub record LearnsLaw (fits : List ℕ → Type 0) (d : DomainState WordsLaw)
     (old new : SeatState View) : Type 0 where
   pub by : Move

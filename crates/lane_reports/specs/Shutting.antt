@@ -7,8 +7,8 @@ use Rattle.linked_queue.specs.Shuts.{shut_in}
 use Rattle.slot_store.specs.Leftovers.{LeavesCycles}
 use Rattle.words_law.specs.Views.{View}
 use Rattle.words_protocol.specs.declared.law.WordsLaw.{WordsLaw}
-use Rattle.word_lanes.specs.Ready.{Owns}
-use Rattle.word_lanes.specs.Whys.{of_queue, queue_of}
+use Rattle.lane_files.specs.Ready.{Owns}
+use Rattle.lane_files.specs.Whys.{of_queue, queue_of}
 
 -- Of the queue it has noted what was left, in the state that it knew then; of the directory it knows what it knew. It
 -- has nothing retired, dying or ripe, and only cycles are left beside what it owns. What it owns, and what it has

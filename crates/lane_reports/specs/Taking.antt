@@ -4,7 +4,7 @@ use Rattle.std.specs.List.{sum_by}
 use Rattle.acquire_retire.specs.Seats.{SeatState}
 use Rattle.words_law.specs.Views.{View}
 use Rattle.cdrc_text.specs.Tally.{count_of, total_of}
-use Rattle.word_lanes.specs.Counting.{Takes}
+use Rattle.lane_files.specs.Passed.{Takes}
 use Rattle.lane_files.specs.declared.work.Work.{Work}
 use Rattle.lane_domain.specs.Sizes.{all_pieces}
 use Rattle.lane_reports.specs.Words.{Tallies}

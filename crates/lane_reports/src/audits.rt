@@ -89,9 +89,9 @@ fn audit_settled<F: Fn(&[u64; 16]) -> u64>(
     Ok(None)
 }
 
-/// Settles and audits, until no object is unreached and no cell of the queue holds anything: so the call may wait. No law
-/// excludes that a node is left which only its own field holds, nor that the tail cell of a queue that was shut is set
-/// again; an audit that finds nothing unreached, and a look, tell that it isn't so.
+/// Settles and audits, until no object is unreached and no cell of the queue holds anything: so the call may wait. No
+/// law excludes that a node is left which only its own field holds, nor that the tail cell of a queue that was shut is
+/// set again; an audit that finds nothing unreached, and a look, tell that it isn't so.
 pub(crate) fn audit_at_rest<R: Wait, F: Fn(&[u64; 16]) -> u64>(
     rt: &R,
     alloc: Global,

@@ -13,7 +13,7 @@ ghost use Rattle.plain_state.specs.Lists.{times};
 ghost use Rattle.lane_domain.specs.Sizes.{IsWithinLimits, texts_in};
 ghost use Rattle.lane_files.specs.Keeping.{slots_of};
 ghost use Rattle.lane_files.specs.Work.{IsWork};
-ghost use Rattle.word_lanes.specs.Ready.{IsReady};
+ghost use Rattle.lane_files.specs.Ready.{IsReady};
 ghost use Rattle.words_law.specs.Known.{ForgetsNothing};
 ghost use Rattle.lane_reports.specs.Counting.{CountsAll};
 ghost use Rattle.lane_reports.specs.Gathering.{EachDid, IsBare};
@@ -37,13 +37,12 @@ use counted_handles::Strong;
 use deleter::Deleter;
 use directory_protocol::RecordKind;
 use lane_domain::count_pieces;
-use lane_files::Work;
+use lane_files::{Shared, Work};
 use plain_state::PayloadKind;
 use protocol_pairs::PairKind;
 use queue_protocol::NodeKind;
 use std::alloc::Global;
 use std::sync::Wait;
-use word_lanes::Shared;
 use words_protocol::WordsLaw;
 
 /// The report of the files: a row for each word, and the closing lines. What is kept is given up.
@@ -99,8 +98,8 @@ fn write_report<R: Wait, F: Fn(&[u64; 16]) -> u64>(
     Ok(text)
 }
 
-/// Seat 0 takes over what the lanes have, pops what is left, shuts the queue, and writes the report. It answers that, and
-/// the tallies: its own, and then those of the lanes.
+/// Seat 0 takes over what the lanes have, pops what is left, shuts the queue, and writes the report. It answers that,
+/// and the tallies: its own, and then those of the lanes.
 pub(crate) fn finish<R: Wait, F: Fn(&[u64; 16]) -> u64>(
     rt: &R,
     alloc: Global,

@@ -3,16 +3,15 @@ ghost use Rattle.std.specs.Prelude.{◌≡◌, ◌+◌, ◌++◌, ◌≤◌, [],
 ghost use Rattle.std.specs.List.{sum_by};
 ghost use Rattle.domain_rule.specs.Views.{IsAlone};
 ghost use Rattle.control_word.specs.Resting.{IsUnderNone};
-ghost use Rattle.word_lanes.specs.Ready.{IsReady};
+ghost use Rattle.lane_files.specs.Ready.{IsReady};
 ghost use Rattle.lane_reports.specs.Gathering.{EachDid, Gathers, IsBare, kept_by};
 
 use crate::done::{Done, Gathered};
 use acquire_retire::{Domain, Seat};
 use counted_handles::Strong;
-use lane_files::{Lane, Work};
+use lane_files::{Lane, Shared, Work};
 use out_of_memory::OutOfMemory;
 use std::alloc::Global;
-use word_lanes::Shared;
 use words_protocol::WordsLaw;
 
 /// The seats of lanes that have run leave, one after the other, and seat 0 takes over what they have. It answers the

@@ -5,8 +5,8 @@ ghost use Rattle.acquire_retire.specs.Domains.{DomainState};
 ghost use Rattle.acquire_retire.specs.Seats.{SeatState};
 ghost use Rattle.words_law.specs.Views.{View};
 ghost use Rattle.words_protocol.specs.declared.law.WordsLaw.{WordsLaw};
-ghost use Rattle.word_lanes.specs.Ready.{IsReady};
-ghost use Rattle.word_lanes.specs.declared.shared.Shared.{Shared};
+ghost use Rattle.lane_files.specs.Ready.{IsReady};
+ghost use Rattle.lane_files.specs.declared.shared.Shared.{Shared};
 ghost use Rattle.lane_files.specs.declared.lane.Lane.{Lane};
 ghost use Rattle.lane_files.specs.declared.work.Work.{Work};
 ghost use Rattle.lane_files.specs.Keeping.{slots_of};
@@ -27,8 +27,9 @@ pub fn runs_tell_deeds()
         → LaneDid work d n seat after }
 {}
 
-/// Where a seat has the slots of all that lanes keep in the lives in which the lanes' seats had them, and its view tells
-/// of each lane what that keeps, it tells the words of all files together, in the lives in which it has the slots.
+/// Where a seat has the slots of all that lanes keep in the lives in which the lanes' seats had them, and its view
+/// tells of each lane what that keeps, it tells the words of all files together, in the lives in which it has the
+/// slots.
 pub fn lanes_keep_files()
     ensures { (work : Work) (lanes : List LaneDeeds) (done : List Done) (seat : SeatState View)
         → TellsLanes work lanes done seat.view.client.1 → KeptAlike done seat

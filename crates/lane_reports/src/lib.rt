@@ -1,8 +1,8 @@
 //! The words of some files, counted on lanes, as one call: it opens a domain, runs the lanes, and answers the report.
 //!
-//! The rule that is kept is the law of `words_law`, between any two steps of all seats. `lane_domain` opens the domain and
-//! runs the lanes; here seat 0 takes over what they have, and reports. The text is the report of the files, whatever the
-//! number of lanes, the form of the queue and the interleaving.
+//! The rule that is kept is the law of `words_law`, between any two steps of all seats. `lane_domain` opens the domain
+//! and runs the lanes; here seat 0 takes over what they have, and reports. The text is the report of the files,
+//! whatever the number of lanes, the form of the queue and the interleaving.
 //!
 //! It isn't promised that the call returns.
 //!

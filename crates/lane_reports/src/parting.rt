@@ -3,21 +3,20 @@ ghost use Rattle.std.specs.Prelude.{IfErr, IfOk, Some};
 ghost use Rattle.lane_reports.specs.Parting.{AllRan, RanToEnd};
 ghost use Rattle.lane_files.specs.Makes.{cause_of};
 ghost use Rattle.lane_reports.specs.Refusals.{IsAnswerFor, IsFirstRefusal, IsRefusalOf};
-ghost use Rattle.word_lanes.specs.Makes.{cause_in};
+ghost use Rattle.lane_files.specs.PieceMakes.{cause_in};
 
 use crate::counted::CountError;
 use crate::done::Done;
 use acquire_retire::Seat;
 use lane_domain::LaneEnd;
-use lane_files::{FileError, LaneStop};
+use lane_files::{FileError, LaneError, LaneStop, PieceError};
 use out_of_memory::OutOfMemory;
 use slot_store::MakeError;
 use std::alloc::Global;
-use word_lanes::{LaneError, PieceError};
 use words_protocol::WordsLaw;
 
-/// Why a make or an add was refused, with the seat. A lane has as many makes as its tickets grant, so that it never lacks
-/// one: the arm of `MakesSpent` is there for the type.
+/// Why a make or an add was refused, with the seat. A lane has as many makes as its tickets grant, so that it never
+/// lacks one: the arm of `MakesSpent` is there for the type.
 fn refusal_of_make(error: MakeError, seat: Seat<WordsLaw>) -> CountError
     ensures { IsAnswerFor (Some error) seat result }
 {

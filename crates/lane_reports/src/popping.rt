@@ -1,15 +1,15 @@
 //! What is left of the queue is popped.
 ghost use Rattle.std.specs.Prelude.{◌≡◌, ◌^◌, ◌+◌, ◌≤◌, ◌<◌, [], IfErr, OnOk};
 ghost use Rattle.cdrc_text.specs.Tally.{total_of};
-ghost use Rattle.word_lanes.specs.Counting.{Takes, UsesInterns};
-ghost use Rattle.word_lanes.specs.Draining.{IsWhyNotDrained};
-ghost use Rattle.word_lanes.specs.Ready.{IsReady, Owns};
+ghost use Rattle.lane_files.specs.Passed.{Takes, UsesInterns};
+ghost use Rattle.lane_files.specs.Draining.{IsWhyNotDrained};
+ghost use Rattle.lane_files.specs.Ready.{IsReady, Owns};
 
 use acquire_retire::{Domain, Seat};
 use cdrc_text::Tally;
 use crossbeam_utils::Backoff;
+use lane_files::{LaneError, Shared, take_one};
 use std::sync::Wait;
-use word_lanes::{LaneError, Shared, take_one};
 use words_protocol::WordsLaw;
 
 /// Pops so many items and counts their words. Where none is linked it tries again, so it waits for ever where fewer

@@ -20,6 +20,7 @@ use cdrc_text::Tally;
 use control_word::drop_strong;
 use counted_handles::{Spent, Strong};
 use crossbeam_utils::Backoff;
+use lane_files::Shared;
 use out_of_memory::OutOfMemory;
 use protocol_pairs::Right;
 use queue_protocol::NodeKind;
@@ -28,7 +29,6 @@ use std::collections::HashSet;
 use std::sync::Wait;
 use text_reading::pairs_have_pieces;
 use weak_intern::find;
-use word_lanes::Shared;
 use words_protocol::WordsLaw;
 
 /// A word, and the slot of its record.
@@ -50,9 +50,9 @@ pub(crate) fn kept_slots(alloc: Global, kept: &[Strong]) -> Result<HashSet<u32>,
 }
 
 /// The record of each word that some tally counted, in byte order. The seat is alone, and owns the references that are
-/// kept; each record is that of one of them. `Spent` comes only where the seat has no add left, and `OutOfMemory` of an
-/// allocation failure. It takes a walk of the directory for each word, and tries one again that comes to no such record,
-/// so the call may not return.
+/// kept; each record is that of one of them. `Spent` comes only where the seat has no add left, and `OutOfMemory` of
+/// an allocation failure. It takes a walk of the directory for each word, and tries one again that comes to no such
+/// record, so the call may not return.
 pub(crate) fn find_records<R: Wait>(
     rt: &R,
     alloc: Global,
@@ -85,8 +85,8 @@ pub(crate) fn find_records<R: Wait>(
     Ok(records)
 }
 
-/// The slot of the live record of a word of 1 to 4,096 bytes, which is one of those in the slots `held`, of each of which
-/// the seat owns a reference.
+/// The slot of the live record of a word of 1 to 4,096 bytes, which is one of those in the slots `held`, of each of
+/// which the seat owns a reference.
 fn find_record<R: Wait>(
     rt: &R,
     domain: &Domain<WordsLaw>,

@@ -14,13 +14,13 @@ use acquire_retire::{Domain, Seat, SlotId};
 use cdrc_text::{Row, Tally};
 use control_word::strong_count;
 use directory_protocol::RecordKind;
+use lane_files::Shared;
 use law_lesson::LearnLaw;
 use out_of_memory::OutOfMemory;
 use plain_state::PayloadKind;
 use protocol_pairs::PairKind;
 use queue_protocol::NodeKind;
 use std::alloc::Global;
-use word_lanes::Shared;
 use words_protocol::WordsLaw;
 
 /// A row for each record: how often the tallies counted its word, how many references it has, and the word. The seat is

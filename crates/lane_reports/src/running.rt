@@ -2,7 +2,7 @@
 ghost use Rattle.std.specs.Prelude.{◌≡◌, ◌≤◌, IfErr, IfOk};
 ghost use Rattle.cdrc_text.specs.Text.{IsReport};
 ghost use Rattle.deleter.specs.Weighing.{Weighs};
-ghost use Rattle.word_lanes.specs.Ready.{IsReady};
+ghost use Rattle.lane_files.specs.Ready.{IsReady};
 ghost use Rattle.lane_files.specs.Lanes.{HasGrants};
 ghost use Rattle.lane_files.specs.Work.{IsWork};
 ghost use Rattle.lane_domain.specs.Opened.{HasOnlyLaid, IsDomainFor, fresh_lanes};
@@ -60,10 +60,11 @@ fn open(
 /// Counts the words of some files on so many lanes, in a domain with so many slots and a queue of this form. It answers
 /// the report, seat 0, which is alone by then, and how often each seat counted each word.
 ///
-/// It is refused where there is no memory. `Full` comes where seat 0 found each slot taken before the lanes began, which
-/// can't be where there is a slot for each make; or where a lane stopped as it was to make an object. `Spent` comes where
-/// a seat has no add left. Of several lanes that stopped it answers for the first. It may wait for other threads. It takes
-/// the steps of `open_lanes`, of the lanes, of `gather`, `take_all` and `rows_of`, and of two audits.
+/// It is refused where there is no memory. `Full` comes where seat 0 found each slot taken before the lanes began,
+/// which can't be where there is a slot for each make; or where a lane stopped as it was to make an object. `Spent`
+/// comes where a seat has no add left. Of several lanes that stopped it answers for the first. It may wait for other
+/// threads. It takes the steps of `open_lanes`, of the lanes, of `gather`, `take_all` and `rows_of`, and of two
+/// audits.
 pub fn count_words<R: Threads + Wait + Sync, G: Gate + Sync, F: Fn(&[u64; 16]) -> u64 + Sync>(
     rt: &R,
     alloc: Global,

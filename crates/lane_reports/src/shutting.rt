@@ -4,18 +4,18 @@ ghost use Rattle.core_events.specs.Steps.{HasRoom};
 ghost use Rattle.control_word.specs.Resting.{IsAtRest, IsUnderNone};
 ghost use Rattle.deleter.specs.Weighing.{Weighs};
 ghost use Rattle.domain_rule.specs.Views.{IsAlone};
-ghost use Rattle.word_lanes.specs.Ready.{IsReady};
+ghost use Rattle.lane_files.specs.Ready.{IsReady};
 ghost use Rattle.lane_reports.specs.Shutting.{ShutsAndSettles};
 
 use acquire_retire::{Domain, Seat};
 use deleter::Deleter;
 use directory_protocol::RecordKind;
 use hand_queues::HandQueue;
+use lane_files::Shared;
 use plain_state::PayloadKind;
 use protocol_pairs::{Left, PairKind};
 use queue_protocol::NodeKind;
 use slot_store::settle;
-use word_lanes::Shared;
 use words_protocol::WordsLaw;
 
 /// Shuts the queue, once every other seat has left, and then destroys all that may be destroyed: nothing stays retired

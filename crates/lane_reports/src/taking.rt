@@ -2,7 +2,7 @@
 ghost use Rattle.std.specs.Prelude.{◌≡◌, ◌≤◌, ◌∷◌, ◌^◌, IfErr, IfOk};
 ghost use Rattle.std.specs.List.{sum_by};
 ghost use Rattle.cdrc_text.specs.Tally.{total_of};
-ghost use Rattle.word_lanes.specs.Ready.{IsReady, Owns};
+ghost use Rattle.lane_files.specs.Ready.{IsReady, Owns};
 ghost use Rattle.lane_domain.specs.Sizes.{IsWithinLimits};
 ghost use Rattle.lane_files.specs.Work.{IsWork};
 ghost use Rattle.lane_reports.specs.Rows.{IsWhyNoRows};
@@ -13,11 +13,10 @@ use crate::refusal::RowsError;
 use acquire_retire::{Domain, Seat};
 use cdrc_text::Tally;
 use lane_domain::count_pieces;
-use lane_files::Work;
+use lane_files::{LaneError, Shared, Work};
 use out_of_memory::OutOfMemory;
 use std::alloc::Global;
 use std::sync::Wait;
-use word_lanes::{LaneError, Shared};
 use words_protocol::WordsLaw;
 
 /// How many pieces the tally counted, as long as that is below 2^64: never more than it counted.

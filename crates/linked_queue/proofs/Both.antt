@@ -4,7 +4,7 @@ use Rattle.std.specs.Prelude.{Option, Some, None}
 use Rattle.plain_state.specs.declared.slot.SlotId.{SlotId}
 use Rattle.plain_state.specs.Lists.{times}
 use Rattle.core_events.specs.Views.{Holds, without}
-use Rattle.core_invariant.proofs.Kit.{one_same, times_none, times_push, times_without}
+use Rattle.core_law.proofs.Kit.{one_same, times_none, times_push, times_without}
 use Rattle.acquire_retire.specs.Seats.{SeatState}
 use Rattle.linked_queue.specs.Leaving.{Leaves, with_found}
 use Rattle.linked_queue.specs.Pops.{with_both}

@@ -8,7 +8,7 @@ use Rattle.plain_state.specs.Steps.{word_of}
 use Rattle.core_events.specs.declared.act.Act.TheVariants as act
 use Rattle.core_events.specs.declared.outcome.Outcome.TheVariants as outcome
 use Rattle.core_events.specs.Shows.{show_slot, shows}
-use Rattle.core_invariant.proofs.Each.{length_each}
+use Rattle.core_law.proofs.Each.{length_each}
 use Rattle.acquire_retire.specs.Calls.{IsReady, Steps, same_view}
 use Rattle.acquire_retire.specs.Domains.{DomainState}
 use Rattle.acquire_retire.specs.Seats.{SeatState}

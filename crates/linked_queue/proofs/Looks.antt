@@ -13,7 +13,7 @@ use Rattle.core_events.specs.declared.outcome.Outcome.{Outcome}
 use Rattle.core_events.specs.declared.outcome.Outcome.TheVariants as outcome
 use Rattle.core_events.specs.Shows.{shows}
 use Rattle.core_events.specs.Words.{slot_in}
-use Rattle.core_shows.proofs.ShownPlaces.{slot_word}
+use Rattle.core_law.proofs.ShownPlaces.{slot_word}
 use Rattle.acquire_retire.specs.Calls.{Steps}
 use Rattle.acquire_retire.specs.Collecting.{move}
 use Rattle.acquire_retire.specs.Domains.{DomainState}

@@ -6,7 +6,7 @@ use Rattle.heap_audit.specs.declared.finding.Audit.{Audit}
 use Rattle.plain_audit.specs.Audits.{IsAudit}
 use Rattle.core_events.specs.Shows.{show_slot}
 use Rattle.core_events.specs.Steps.{HasRoom}
-use Rattle.core_invariant.proofs.Each.{length_each}
+use Rattle.core_law.proofs.Each.{length_each}
 use Rattle.domain_rule.specs.Views.{own_of}
 use Rattle.acquire_retire.specs.Calls.{IsSameView, same_view}
 use Rattle.acquire_retire.specs.Domains.{DomainState}

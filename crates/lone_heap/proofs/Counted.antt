@@ -22,9 +22,9 @@ use Rattle.core_events.specs.Shows.{shows}
 use Rattle.core_events.specs.ShownSteps.{on_slot, shown_number}
 use Rattle.core_events.specs.Steps.{HasRoom}
 use Rattle.core_events.specs.Views.{Holds, slot_of}
-use Rattle.core_shows.proofs.Bridge.{shown_slot}
-use Rattle.core_invariant.proofs.Held.{held_named}
-use Rattle.core_invariant.proofs.Steady.{named_in_range}
+use Rattle.core_law.proofs.Bridge.{shown_slot}
+use Rattle.core_law.proofs.Held.{held_named}
+use Rattle.core_law.proofs.Steady.{named_in_range}
 use Rattle.acquire_retire.specs.Collecting.{move}
 use Rattle.acquire_retire.specs.Domains.{DomainState}
 use Rattle.acquire_retire.specs.Seats.{SeatState}

@@ -18,7 +18,7 @@ use Rattle.core_events.specs.Runs.{Core, after, view_at}
 use Rattle.core_events.specs.Shows.{show_seat, shows}
 use Rattle.core_events.specs.Steps.{HasRoom}
 use Rattle.core_events.specs.Views.{valid_of}
-use Rattle.core_shows.proofs.Bridge.{shown_seat}
+use Rattle.core_law.proofs.Bridge.{shown_seat}
 use Rattle.acquire_retire.specs.Calls.{Steps}
 use Rattle.acquire_retire.specs.Collecting.{WalksBy}
 use Rattle.acquire_retire.specs.Domains.{DomainState}

@@ -27,8 +27,8 @@ use Rattle.core_events.specs.ShownSteps.{on_slot}
 use Rattle.core_events.specs.Steps.{HasRoom}
 use Rattle.core_events.specs.Views.{about, slot_of}
 use Rattle.core_events.specs.Words.{bit_in, bits_at, each_from, slot_at}
-use Rattle.core_invariant.proofs.Each.{length_each}
-use Rattle.core_shows.proofs.Bridge.{shown_stage}
+use Rattle.core_law.proofs.Each.{length_each}
+use Rattle.core_law.proofs.Bridge.{shown_stage}
 use Rattle.acquire_retire.specs.Calls.{IsSameView, Steps, same_view}
 use Rattle.acquire_retire.specs.Collecting.{Walks, move}
 use Rattle.acquire_retire.specs.Domains.{DomainState}

@@ -24,7 +24,7 @@ use Rattle.core_events.specs.Shows.{shows}
 use Rattle.core_events.specs.Steps.{CanGive, HasRoom, without_given}
 use Rattle.core_events.specs.Views.{IsOpen, IsReadable}
 use Rattle.core_events.specs.Words.{cell_at, slot_in, weak_cell_at}
-use Rattle.core_invariant.proofs.Each.{length_each}
+use Rattle.core_law.proofs.Each.{length_each}
 use Rattle.acquire_retire.specs.Calls.{IsSameView, same_view}
 use Rattle.acquire_retire.specs.Collecting.{move}
 use Rattle.acquire_retire.specs.Domains.{DomainState}

@@ -13,7 +13,7 @@ use Rattle.core_events.specs.Runs.{Core, view_at}
 use Rattle.core_events.specs.Shows.{show_seat}
 use Rattle.core_events.specs.Steps.{HasRoom, IsIdle}
 use Rattle.core_events.specs.Views.{valid_of}
-use Rattle.core_shows.proofs.Bridge.{shown_seat}
+use Rattle.core_law.proofs.Bridge.{shown_seat}
 use Rattle.acquire_retire.specs.Collecting.{rest_of}
 use Rattle.acquire_retire.specs.Domains.{DomainState}
 use Rattle.acquire_retire.specs.Seats.{SeatState}

@@ -12,8 +12,8 @@ use Rattle.core_events.specs.Good.{SeatLaw}
 use Rattle.core_events.specs.Runs.{Core}
 use Rattle.core_events.specs.Shows.{show_seat, shows}
 use Rattle.core_events.specs.ShownSteps.{shown_act, shown_number}
-use Rattle.core_shows.proofs.Bridge.{shown_seat}
-use Rattle.core_shows.proofs.Events.{event_shows}
+use Rattle.core_law.proofs.Bridge.{shown_seat}
+use Rattle.core_law.proofs.Events.{event_shows}
 use Rattle.acquire_retire.specs.Calls.{Steps}
 use Rattle.acquire_retire.specs.Domains.{DomainState}
 use Rattle.acquire_retire.specs.Seats.{SeatState}

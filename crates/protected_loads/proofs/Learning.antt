@@ -20,7 +20,7 @@ use Rattle.core_events.specs.Shows.{show_seat, shows}
 use Rattle.core_events.specs.Steps.{HasRoom}
 use Rattle.core_events.specs.Words.{slot_in}
 use Rattle.core_events.specs.Runs.{after}
-use Rattle.core_shows.proofs.ShownPlaces.{word_slot}
+use Rattle.core_law.proofs.ShownPlaces.{word_slot}
 use Rattle.domain_rule.specs.Views.{object_in, own_of}
 use Rattle.acquire_retire.specs.Calls.{Steps}
 use Rattle.acquire_retire.specs.Domains.{DomainState}

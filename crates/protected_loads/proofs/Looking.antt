@@ -19,7 +19,7 @@ use Rattle.core_events.specs.Shows.{show_seat, shows}
 use Rattle.core_events.specs.Steps.{IsIdle}
 use Rattle.core_events.specs.Views.{note_of}
 use Rattle.core_events.specs.Words.{slot_in}
-use Rattle.core_shows.proofs.ShownPlaces.{slot_word, word_slot}
+use Rattle.core_law.proofs.ShownPlaces.{slot_word, word_slot}
 use Rattle.acquire_retire.specs.Calls.{IsOf, IsSameView, Steps, same_view}
 use Rattle.acquire_retire.specs.Collecting.{move}
 use Rattle.acquire_retire.specs.Domains.{DomainState}

@@ -21,7 +21,7 @@ use Rattle.core_events.specs.Shows.{show_seat}
 use Rattle.core_events.specs.ShownSteps.{releases}
 use Rattle.core_events.specs.Steps.{with_note}
 use Rattle.core_events.specs.Views.{CanReadFields, Holds, IsReadable, note_of, valid_of}
-use Rattle.core_shows.proofs.Losing.{IsNotValid, valid_gains, valid_same}
+use Rattle.core_law.proofs.Losing.{IsNotValid, valid_gains, valid_same}
 use Rattle.domain_rule.specs.Told.{changed_object}
 use Rattle.acquire_retire.specs.Domains.{DomainState}
 use Rattle.acquire_retire.specs.Seats.{SeatState}

@@ -14,7 +14,7 @@ use Rattle.core_events.specs.declared.view.CoreView.{CoreView}
 use Rattle.core_events.specs.declared.view.Note.TheVariants as note
 use Rattle.core_events.specs.Steps.{May, moved}
 use Rattle.core_events.specs.Views.{first_view, no_notes, note_of, room_of}
-use Rattle.core_invariant.proofs.Kit.{one_same, times_cons, times_none}
+use Rattle.core_law.proofs.Kit.{one_same, times_cons, times_none}
 use Rattle.acquire_retire.specs.Calls.{IsSameView, Steps, same_view}
 use Rattle.acquire_retire.specs.Domains.{DomainState}
 use Rattle.acquire_retire.specs.Seats.{SeatState}

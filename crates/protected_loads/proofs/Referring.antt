@@ -21,7 +21,7 @@ use Rattle.core_events.specs.declared.view.Note.TheVariants as note
 use Rattle.core_events.specs.Shows.{show_seat}
 use Rattle.core_events.specs.Steps.{IsIdle, with_note}
 use Rattle.core_events.specs.Views.{note_of, snapshots}
-use Rattle.core_invariant.proofs.Kit.{times_push}
+use Rattle.core_law.proofs.Kit.{times_push}
 use Rattle.acquire_retire.specs.Calls.{IsOf, IsSameView, Steps, same_view}
 use Rattle.acquire_retire.specs.Collecting.{move}
 use Rattle.acquire_retire.specs.Domains.{DomainState}

@@ -19,10 +19,10 @@ use Rattle.core_events.specs.Shows.{show_seat, shows}
 use Rattle.core_events.specs.ShownSteps.{shown_act, shown_number}
 use Rattle.core_events.specs.Views.{Holds, Terms}
 use Rattle.core_events.specs.Words.{place_at, slot_in}
-use Rattle.core_invariant.proofs.InRange.{content_in}
-use Rattle.core_invariant.proofs.Writes.{IsPlace}
-use Rattle.core_shows.proofs.Events.{event_shows}
-use Rattle.core_shows.proofs.ShownPlaces.{shown_content, word_slot}
+use Rattle.core_law.proofs.InRange.{content_in}
+use Rattle.core_law.proofs.Writes.{IsPlace}
+use Rattle.core_law.proofs.Events.{event_shows}
+use Rattle.core_law.proofs.ShownPlaces.{shown_content, word_slot}
 use Rattle.domain_rule.specs.declared.view.SeatView.{SeatView}
 use Rattle.domain_rule.specs.Told.{Told}
 use Rattle.domain_rule.specs.Views.{own_of}

@@ -7,7 +7,7 @@ use Rattle.plain_state.specs.declared.slot.SlotId.{SlotId}
 use Rattle.plain_state.specs.Lists.{times}
 use Rattle.core_events.specs.declared.view.CoreView.{CoreView}
 use Rattle.core_events.specs.Views.{without}
-use Rattle.core_invariant.proofs.Kit.{one_same, times_push, times_without}
+use Rattle.core_law.proofs.Kit.{one_same, times_push, times_without}
 use Rattle.acquire_retire.specs.Calls.{IsSameView, same_view}
 use Rattle.acquire_retire.specs.Collecting.{ends}
 use Rattle.acquire_retire.specs.Domains.{DomainState}

@@ -13,7 +13,7 @@ use Rattle.core_events.specs.declared.outcome.Outcome.TheVariants as outcome
 use Rattle.core_events.specs.declared.view.CoreView.{CoreView}
 use Rattle.core_events.specs.Steps.{without_given}
 use Rattle.core_events.specs.Views.{without}
-use Rattle.core_invariant.proofs.Kit.{one_other, one_same, times_without}
+use Rattle.core_law.proofs.Kit.{one_other, one_same, times_without}
 use Rattle.domain_rule.specs.Views.{object_in, own_of}
 use Rattle.acquire_retire.specs.Calls.{IsSameView, same_view}
 use Rattle.acquire_retire.specs.Domains.{DomainState}

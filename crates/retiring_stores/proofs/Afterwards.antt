@@ -20,7 +20,7 @@ use Rattle.core_events.specs.declared.view.Note.TheVariants as note
 use Rattle.core_events.specs.Shows.{show_seat}
 use Rattle.core_events.specs.ShownSteps.{shown_act}
 use Rattle.core_events.specs.Steps.{CanGive, HasRoom, May, without_given}
-use Rattle.core_invariant.proofs.Kit.{times_without}
+use Rattle.core_law.proofs.Kit.{times_without}
 use Rattle.domain_rule.specs.Told.{changed_object}
 use Rattle.acquire_retire.specs.Collecting.{rest_of}
 use Rattle.acquire_retire.specs.Domains.{DomainState}

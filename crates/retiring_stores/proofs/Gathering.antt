@@ -25,7 +25,7 @@ use Rattle.core_events.specs.Shows.{filled, show_seat}
 use Rattle.core_events.specs.ShownSteps.{ejects, shown_act}
 use Rattle.core_events.specs.Steps.{all_seen, changed, ended, is_last, paid, scanned}
 use Rattle.core_events.specs.Views.{alone, slot_of}
-use Rattle.core_invariant.proofs.Kit.{times_append}
+use Rattle.core_law.proofs.Kit.{times_append}
 use Rattle.counter_word.specs.Words.{has_help}
 use Rattle.domain_rule.specs.Told.{changed_object, cleared_after}
 use Rattle.domain_rule.specs.Views.{object_in}

@@ -15,7 +15,7 @@ use Rattle.core_events.specs.declared.outcome.Outcome.TheVariants as outcome
 use Rattle.core_events.specs.declared.view.CoreView.{CoreView}
 use Rattle.core_events.specs.Steps.{CanGive, HasRoom, without_given}
 use Rattle.core_events.specs.Words.{slot_in}
-use Rattle.core_shows.proofs.ShownPlaces.{word_slot}
+use Rattle.core_law.proofs.ShownPlaces.{word_slot}
 use Rattle.acquire_retire.specs.Calls.{Steps}
 use Rattle.acquire_retire.specs.Collecting.{move}
 use Rattle.acquire_retire.specs.Domains.{DomainState}

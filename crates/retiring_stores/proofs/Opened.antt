@@ -17,17 +17,17 @@ use Rattle.core_events.specs.Counts.{adds_used, refs, strong}
 use Rattle.core_events.specs.Runs.{Core, view_at}
 use Rattle.core_events.specs.ShownSteps.{is_ripe_field}
 use Rattle.core_events.specs.Views.{HoldsStrongly, IsOpen}
-use Rattle.core_invariant.specs.Slots.{numbers}
-use Rattle.core_invariant.specs.Sound.{Sound}
-use Rattle.core_invariant.proofs.Flags.{live_low}
-use Rattle.core_invariant.proofs.Held.{strongly_refs}
-use Rattle.core_invariant.proofs.InRange.{open_in_range}
-use Rattle.core_invariant.proofs.Kit.{total_at}
-use Rattle.core_invariant.proofs.Parts.{value_is}
-use Rattle.core_invariant.proofs.Put.{adds_fit, at_seat}
-use Rattle.core_invariant.proofs.Writes.{IsPlace}
-use Rattle.core_shows.proofs.Ranges.{counts_low}
-use Rattle.core_shows.proofs.Stages.{live_started}
+use Rattle.core_law.specs.Slots.{numbers}
+use Rattle.core_law.specs.Sound.{Sound}
+use Rattle.core_law.proofs.Flags.{live_low}
+use Rattle.core_law.proofs.Held.{strongly_refs}
+use Rattle.core_law.proofs.InRange.{open_in_range}
+use Rattle.core_law.proofs.Kit.{total_at}
+use Rattle.core_law.proofs.Parts.{value_is}
+use Rattle.core_law.proofs.Put.{adds_fit, at_seat}
+use Rattle.core_law.proofs.Writes.{IsPlace}
+use Rattle.core_law.proofs.Ranges.{counts_low}
+use Rattle.core_law.proofs.Stages.{live_started}
 use Rattle.domain_rule.specs.Told.{cleared_after}
 use Rattle.acquire_retire.specs.Domains.{DomainState}
 use Rattle.acquire_retire.specs.Seats.{SeatState}

@@ -21,10 +21,10 @@ use Rattle.core_events.specs.Runs.{after, found, view_at}
 use Rattle.core_events.specs.Shows.{shows}
 use Rattle.core_events.specs.Steps.{answer, changed, exchanged, next as next_word, place}
 use Rattle.core_events.specs.Words.{place_at, slot_in}
-use Rattle.core_invariant.proofs.InRange.{open_in_range, put_in_range}
-use Rattle.core_invariant.proofs.Writes.{IsPlace, place_bound}
+use Rattle.core_law.proofs.InRange.{open_in_range, put_in_range}
+use Rattle.core_law.proofs.Writes.{IsPlace, place_bound}
 use Rattle.core_law.proofs.Trails.{changed_trail}
-use Rattle.core_shows.proofs.ShownPlaces.{shown_content, slot_word}
+use Rattle.core_law.proofs.ShownPlaces.{shown_content, slot_word}
 use Rattle.acquire_retire.specs.Calls.{Steps}
 use Rattle.acquire_retire.specs.Collecting.{move}
 use Rattle.acquire_retire.specs.Domains.{DomainState}

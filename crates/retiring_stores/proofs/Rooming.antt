@@ -13,7 +13,7 @@ use Rattle.core_events.specs.Counts.{total}
 use Rattle.core_events.specs.Good.{staying_room}
 use Rattle.core_events.specs.Runs.{Core, view_at}
 use Rattle.core_events.specs.Views.{Terms, no_view, room_of}
-use Rattle.core_invariant.specs.Sound.{Sound}
+use Rattle.core_law.specs.Sound.{Sound}
 use Rattle.core_law.proofs.Always.{history_sound}
 use Rattle.domain_rule.specs.declared.view.SeatView.{SeatView}
 use Rattle.domain_rule.specs.Told.{Told}

@@ -20,7 +20,7 @@ use Rattle.core_events.specs.declared.view.Phase.TheVariants as phase
 use Rattle.core_events.specs.Steps.{HasRoom, May, changed, moved}
 use Rattle.core_events.specs.Views.{about, alone, no_notes, slot_of, without}
 use Rattle.core_events.specs.Words.{bit_in}
-use Rattle.core_invariant.proofs.Kit.{one_same, times_push, times_without}
+use Rattle.core_law.proofs.Kit.{one_same, times_push, times_without}
 use Rattle.acquire_retire.specs.Calls.{IsSameView, Steps, same_view}
 use Rattle.acquire_retire.specs.Domains.{DomainState}
 use Rattle.acquire_retire.specs.Seats.{SeatState}

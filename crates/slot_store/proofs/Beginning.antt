@@ -19,10 +19,10 @@ use Rattle.core_events.specs.Counts.{baring}
 use Rattle.core_events.specs.Runs.{Core, view_at}
 use Rattle.core_events.specs.Shows.{show_seat}
 use Rattle.core_events.specs.Views.{about, held_times, slot_of}
-use Rattle.core_invariant.specs.Sound.{Sound}
-use Rattle.core_invariant.proofs.Held.{held_taken}
-use Rattle.core_invariant.proofs.Kit.{one_same, total_at}
-use Rattle.core_invariant.proofs.Parts.{sound_good}
+use Rattle.core_law.specs.Sound.{Sound}
+use Rattle.core_law.proofs.Held.{held_taken}
+use Rattle.core_law.proofs.Kit.{one_same, total_at}
+use Rattle.core_law.proofs.Parts.{sound_good}
 use Rattle.domain_rule.proofs.Others.{has_there}
 use Rattle.acquire_retire.specs.Calls.{IsOf, IsSameView, Steps, same_view}
 use Rattle.acquire_retire.specs.Collecting.{move}

@@ -11,7 +11,7 @@ use Rattle.core_events.specs.declared.act.Act.TheVariants as act
 use Rattle.core_events.specs.declared.view.CoreView.{CoreView}
 use Rattle.core_events.specs.Counts.{one}
 use Rattle.core_events.specs.Steps.{HasRoom, May}
-use Rattle.core_invariant.proofs.Kit.{one_other, one_same, slot_cases, times_push, times_without}
+use Rattle.core_law.proofs.Kit.{one_other, one_same, slot_cases, times_push, times_without}
 use Rattle.acquire_retire.specs.Domains.{DomainState}
 use Rattle.acquire_retire.specs.Seats.{SeatState}
 use Rattle.control_word.specs.Resting.{IsAtRest}

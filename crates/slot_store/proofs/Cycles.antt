@@ -19,10 +19,10 @@ use Rattle.core_events.specs.Runs.{Core, HasNullFields, view_at}
 use Rattle.core_events.specs.Shows.{shows}
 use Rattle.core_events.specs.Words.{cell_at, field_at, slot_in}
 use Rattle.counter_word.specs.Words.{has_help, value}
-use Rattle.core_invariant.specs.Sound.{Sound}
-use Rattle.core_invariant.proofs.Kit.{below_none, entry_none, slot_eq, times_none}
-use Rattle.core_invariant.proofs.Parts.{sound_good}
-use Rattle.core_shows.proofs.Bridge.{shown_past, shown_slot, shown_stage, total_zero}
+use Rattle.core_law.specs.Sound.{Sound}
+use Rattle.core_law.proofs.Kit.{below_none, entry_none, slot_eq, times_none}
+use Rattle.core_law.proofs.Parts.{sound_good}
+use Rattle.core_law.proofs.Bridge.{shown_past, shown_slot, shown_stage, total_zero}
 use Rattle.slot_store.specs.Leftovers.{RefersTo}
 
 below_find : (n : ℕ) (f : ℕ → ℕ) → 0 < sum_below n f → (i : ℕ) × (i < n) × (0 < f i)

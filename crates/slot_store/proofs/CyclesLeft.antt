@@ -15,8 +15,8 @@ use Rattle.core_events.specs.Runs.{Core, view_at}
 use Rattle.core_events.specs.Shows.{shows}
 use Rattle.core_events.specs.Views.{snapshots}
 use Rattle.core_events.specs.Words.{cell_at, slot_in}
-use Rattle.core_invariant.proofs.Each.{get_each}
-use Rattle.core_invariant.proofs.Kit.{entry_cons, entry_none, entry_one, kind_one, one_same}
+use Rattle.core_law.proofs.Each.{get_each}
+use Rattle.core_law.proofs.Kit.{entry_cons, entry_none, entry_one, kind_one, one_same}
 use Rattle.domain_rule.specs.declared.view.Whole.{Whole}
 use Rattle.domain_rule.specs.Views.{core_in}
 use Rattle.acquire_retire.specs.Domains.{DomainState}

@@ -18,7 +18,7 @@ use Rattle.core_events.specs.Shows.{show_seat}
 use Rattle.core_events.specs.ShownSteps.{on_slot}
 use Rattle.core_events.specs.Views.{slot_of}
 use Rattle.core_events.specs.Words.{each_from}
-use Rattle.core_shows.proofs.Lists.{each_push}
+use Rattle.core_law.proofs.Lists.{each_push}
 use Rattle.domain_rule.specs.Told.{changed_object}
 use Rattle.domain_rule.specs.Views.{object_in}
 use Rattle.domain_rule.proofs.Others.{fills_has}

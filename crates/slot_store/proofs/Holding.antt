@@ -7,7 +7,7 @@ use Rattle.plain_state.specs.State.{Plain}
 use Rattle.plain_protocol.specs.Owns.{OwnPart}
 use Rattle.core_events.specs.declared.view.CoreView.{CoreView}
 use Rattle.core_events.specs.Views.{Holds, held_times}
-use Rattle.core_invariant.proofs.Kit.{one_same, times_push}
+use Rattle.core_law.proofs.Kit.{one_same, times_push}
 use Rattle.acquire_retire.specs.Domains.{DomainState}
 use Rattle.acquire_retire.specs.Seats.{SeatState}
 use Rattle.slot_store.specs.Calls.{Makes, SeesWord}

@@ -18,7 +18,7 @@ use Rattle.core_events.specs.Good.{SeatLaw}
 use Rattle.core_events.specs.Runs.{Core, IsShape, after}
 use Rattle.core_events.specs.Shows.{show_seat, shows}
 use Rattle.core_events.specs.Words.{each_from}
-use Rattle.core_invariant.specs.Sound.{Sound}
+use Rattle.core_law.specs.Sound.{Sound}
 use Rattle.core_promises.specs.Destroyed.{destroys, standing}
 use Rattle.domain_rule.specs.Rule.{IsTrueOf}
 use Rattle.domain_rule.proofs.Objects.{object_at}

@@ -22,13 +22,13 @@ use Rattle.core_events.specs.Shows.{show_slot, shows}
 use Rattle.core_events.specs.ShownSteps.{shown_act, shown_number}
 use Rattle.core_events.specs.Steps.{May}
 use Rattle.core_events.specs.Views.{Terms}
-use Rattle.core_invariant.proofs.Each.{length_each}
-use Rattle.core_invariant.specs.Sound.{Sound}
+use Rattle.core_law.proofs.Each.{length_each}
+use Rattle.core_law.specs.Sound.{Sound}
 use Rattle.core_law.proofs.Always.{history_sound}
 use Rattle.core_promises.specs.Destroyed.{destroys, standing}
 use Rattle.core_promises.proofs.Destroys.{destroyed_once}
-use Rattle.core_shows.proofs.Bridge.{shown_slot}
-use Rattle.core_shows.proofs.Events.{event_shows}
+use Rattle.core_law.proofs.Bridge.{shown_slot}
+use Rattle.core_law.proofs.Events.{event_shows}
 use Rattle.domain_rule.specs.declared.view.SeatView.{SeatView}
 use Rattle.domain_rule.specs.declared.view.Whole.{Whole}
 use Rattle.domain_rule.specs.Told.{Told}

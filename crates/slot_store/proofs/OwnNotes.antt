@@ -21,7 +21,7 @@ use Rattle.core_events.specs.Good.{SeatLaw, word_of_note}
 use Rattle.core_events.specs.Runs.{view_at}
 use Rattle.core_events.specs.Steps.{is_last, scanned}
 use Rattle.core_events.specs.Views.{note_of, valid_of}
-use Rattle.core_invariant.proofs.Kit.{entry_cons, entry_one, one_same}
+use Rattle.core_law.proofs.Kit.{entry_cons, entry_one, one_same}
 use Rattle.acquire_retire.specs.Calls.{IsSameView, Steps, same_view}
 use Rattle.acquire_retire.specs.Collecting.{Walks, scanned_by}
 use Rattle.acquire_retire.specs.Domains.{DomainState}

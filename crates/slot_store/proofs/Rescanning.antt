@@ -10,7 +10,7 @@ use Rattle.plain_state.specs.Lists.{Entry, entry_times}
 use Rattle.plain_state.proofs.Ejections.{kept_times, split_times}
 use Rattle.announce_slots.specs.Seen.{announced_in}
 use Rattle.core_events.specs.declared.view.CoreView.{CoreView}
-use Rattle.core_invariant.proofs.Kit.{entry_cons, kind_one, one_same}
+use Rattle.core_law.proofs.Kit.{entry_cons, kind_one, one_same}
 use Rattle.acquire_retire.specs.Domains.{DomainState}
 use Rattle.acquire_retire.specs.Seats.{SeatState}
 use Rattle.control_word.specs.Resting.{IsAtRest}

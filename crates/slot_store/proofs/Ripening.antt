@@ -16,8 +16,8 @@ use Rattle.core_events.specs.declared.view.Move.{Move}
 use Rattle.core_events.specs.declared.view.Phase.TheVariants as phase
 use Rattle.core_events.specs.Good.{SeatLaw}
 use Rattle.core_events.specs.Steps.{all_seen, is_last}
-use Rattle.core_invariant.proofs.Kit.{one_same, times_cons, times_none}
-use Rattle.core_invariant.proofs.Ripening.{ripened_times}
+use Rattle.core_law.proofs.Kit.{one_same, times_cons, times_none}
+use Rattle.core_law.proofs.Ripening.{ripened_times}
 use Rattle.acquire_retire.specs.Calls.{IsSameView, Steps, same_view}
 use Rattle.acquire_retire.specs.Collecting.{Walks, paid_by, scanned_by}
 use Rattle.acquire_retire.specs.Domains.{DomainState}

@@ -10,7 +10,7 @@ use Rattle.core_events.specs.declared.outcome.Outcome.TheVariants as outcome
 use Rattle.core_events.specs.declared.view.CoreView.{CoreView}
 use Rattle.core_events.specs.Steps.{HasAdd, HasMake, May}
 use Rattle.core_events.specs.Words.{bit_in}
-use Rattle.core_invariant.proofs.Kit.{slot_eq}
+use Rattle.core_law.proofs.Kit.{slot_eq}
 use Rattle.acquire_retire.specs.Calls.{IsSameView, Steps, same_view}
 use Rattle.acquire_retire.specs.Collecting.{move}
 use Rattle.acquire_retire.specs.Domains.{DomainState}

@@ -11,8 +11,8 @@ use Rattle.core_events.specs.declared.outcome.Outcome.TheVariants as outcome
 use Rattle.core_events.specs.Shows.{shows}
 use Rattle.core_events.specs.Views.{Holds}
 use Rattle.core_events.specs.Words.{payload_at}
-use Rattle.core_invariant.proofs.Each.{get_each}
-use Rattle.core_shows.proofs.Bridge.{shown_slot}
+use Rattle.core_law.proofs.Each.{get_each}
+use Rattle.core_law.proofs.Bridge.{shown_slot}
 use Rattle.domain_rule.specs.Views.{object_in}
 use Rattle.acquire_retire.specs.Calls.{IsSameView, Steps, same_view}
 use Rattle.acquire_retire.specs.Collecting.{move}

@@ -18,11 +18,11 @@ use Rattle.core_events.specs.declared.view.Move.{Move}
 use Rattle.core_events.specs.Shows.{show_seat, shows}
 use Rattle.core_events.specs.Steps.{HasRoom, May}
 use Rattle.core_events.specs.Words.{each_from, payload_at}
-use Rattle.core_invariant.proofs.Each.{get_each}
-use Rattle.core_invariant.proofs.Kit.{total_at}
-use Rattle.core_shows.proofs.Bridge.{shown_dying, shown_slot}
-use Rattle.core_shows.proofs.Lawful.{shows_lawful}
-use Rattle.core_shows.proofs.Lists.{each_push}
+use Rattle.core_law.proofs.Each.{get_each}
+use Rattle.core_law.proofs.Kit.{total_at}
+use Rattle.core_law.proofs.Bridge.{shown_dying, shown_slot}
+use Rattle.core_law.proofs.Lawful.{shows_lawful}
+use Rattle.core_law.proofs.Lists.{each_push}
 use Rattle.domain_rule.specs.Views.{object_in}
 use Rattle.acquire_retire.specs.Calls.{IsSameView, Steps, same_view}
 use Rattle.acquire_retire.specs.Collecting.{move, rest_of}

@@ -11,11 +11,11 @@ use Rattle.core_events.specs.Counts.{stage}
 use Rattle.core_events.specs.Runs.{Core, view_at}
 use Rattle.core_events.specs.Views.{no_view}
 use Rattle.core_events.specs.Words.{announcements}
-use Rattle.core_invariant.proofs.Kit.{below_at, one_same, times_cons, times_none, total_at}
-use Rattle.core_invariant.proofs.Steady.{named_in_range}
+use Rattle.core_law.proofs.Kit.{below_at, one_same, times_cons, times_none, total_at}
+use Rattle.core_law.proofs.Steady.{named_in_range}
 use Rattle.core_promises.specs.Destroyed.{standing}
-use Rattle.core_shows.proofs.Bridge.{shown_dying, shown_stage}
-use Rattle.core_shows.proofs.Lawful.{shows_lawful}
+use Rattle.core_law.proofs.Bridge.{shown_dying, shown_stage}
+use Rattle.core_law.proofs.Lawful.{shows_lawful}
 use Rattle.acquire_retire.specs.Domains.{DomainState}
 use Rattle.acquire_retire.specs.Seats.{SeatState}
 use Rattle.acquire_retire.specs.Wholes.{known_core}

@@ -5,7 +5,7 @@ use Rattle.std.proofs.lemmas.Bool.{cases_lt}
 use Rattle.std.proofs.lemmas.Bool.Decides.{nat_tests}
 use Rattle.plain_state.specs.declared.slot.SlotId.{SlotId}
 use Rattle.plain_state.specs.Lists.{times}
-use Rattle.core_invariant.proofs.Kit.{one_other, times_cons, times_none}
+use Rattle.core_law.proofs.Kit.{one_other, times_cons, times_none}
 use Rattle.slot_store.specs.Searching.{Try, bits_of, latest, tried}
 use Rattle.slot_store.specs.Turns.{IsAtTurn}
 

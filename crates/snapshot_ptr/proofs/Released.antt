@@ -15,7 +15,7 @@ use Rattle.core_events.specs.declared.view.Note.TheVariants as note
 use Rattle.core_events.specs.Shows.{show_seat}
 use Rattle.core_events.specs.Steps.{IsIdle, with_note}
 use Rattle.core_events.specs.Views.{note_of, valid_of}
-use Rattle.core_shows.proofs.Losing.{valid_loses}
+use Rattle.core_law.proofs.Losing.{valid_loses}
 use Rattle.acquire_retire.specs.Calls.{IsSameView, Steps, same_view}
 use Rattle.acquire_retire.specs.Collecting.{move}
 use Rattle.acquire_retire.specs.Domains.{DomainState}

@@ -11,7 +11,7 @@ use Rattle.core_events.specs.declared.view.Note.TheVariants as note
 use Rattle.core_events.specs.declared.view.Move.{Move}
 use Rattle.core_events.specs.Steps.{with_note}
 use Rattle.core_events.specs.Views.{note_of}
-use Rattle.core_invariant.proofs.Kit.{times_push}
+use Rattle.core_law.proofs.Kit.{times_push}
 use Rattle.control_word.specs.Calls.{with_strong}
 use Rattle.protected_loads.specs.References.{with_reference}
 use Rattle.protected_loads.proofs.Noting.{beside}

@@ -11,7 +11,7 @@ use Rattle.core_events.specs.declared.view.CoreView.{CoreView}
 use Rattle.core_events.specs.declared.view.Move.{Move}
 use Rattle.core_events.specs.Shows.{show_seat}
 use Rattle.core_events.specs.Views.{Holds, HoldsStrongly}
-use Rattle.core_shows.proofs.Lawful.{shows_lawful}
+use Rattle.core_law.proofs.Lawful.{shows_lawful}
 use Rattle.domain_rule.specs.Views.{object_in}
 use Rattle.acquire_retire.specs.Collecting.{move}
 use Rattle.acquire_retire.specs.Domains.{DomainState}

@@ -9,7 +9,7 @@ use Rattle.turn_loops.specs.declared.placing.Placing.{Placing}
 use Rattle.turn_loops.specs.declared.placing.Placing.TheVariants.{Neighbours, Spaced}
 use Rattle.std.specs.Prelude.{All}
 use Rattle.std.proofs.lemmas.List.Elements.{All-get_or}
-use Rattle.core_invariant.proofs.Each.{get_each, length_each}
+use Rattle.core_law.proofs.Each.{get_each, length_each}
 use Rattle.acquire_retire.specs.Domains.{DomainState}
 use Rattle.acquire_retire.specs.Openings.{begun_seat, opened_seats}
 use Rattle.acquire_retire.specs.Seats.{SeatState}

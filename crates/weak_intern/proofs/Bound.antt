@@ -19,7 +19,7 @@ use Rattle.core_events.specs.Shows.{show_seat, shows}
 use Rattle.core_events.specs.Steps.{without_given}
 use Rattle.core_events.specs.Views.{Holds, without}
 use Rattle.core_events.specs.Words.{slot_in}
-use Rattle.core_invariant.proofs.Kit.{one_same, times_push, times_without}
+use Rattle.core_law.proofs.Kit.{one_same, times_push, times_without}
 use Rattle.domain_rule.specs.Views.{object_in, own_of}
 use Rattle.acquire_retire.specs.Calls.{IsReady, IsSameView, same_view}
 use Rattle.acquire_retire.specs.Domains.{DomainState}

@@ -24,7 +24,7 @@ use Rattle.control_word.specs.declared.upgrading.UpgradeError.TheVariants as no_
 use Rattle.counted_handles.specs.Handles.{Handle}
 use Rattle.control_word.specs.Calls.{DropsWeak, FindsEnded, GainsStrong, with_add, with_strong, without_weak}
 use Rattle.core_events.specs.Views.{without}
-use Rattle.core_invariant.proofs.Kit.{times_push}
+use Rattle.core_law.proofs.Kit.{times_push}
 use Rattle.control_word.specs.Moves.{KnowsStill}
 use Rattle.protected_loads.proofs.Telling.{holds_has}
 use Rattle.directory_law.specs.declared.view.View.{View}

@@ -21,8 +21,9 @@ ghost use Rattle.std.specs.List.{All};
 
 use heap_audit::Audit;
 
-/// The rows of the records that are kept, counted where the state is at rest and no node is left, an audit of that state,
-/// and one that found nothing later, are the report of the files whose words were kept, in whatever order of the files.
+/// The rows of the records that are kept, counted where the state is at rest and no node is left, an audit of that
+/// state, and one that found nothing later, are the report of the files whose words were kept, in whatever order of
+/// the files.
 pub fn what_is_left_is_the_report()
     ensures { (u : Ends) (z : Area) (p : Plain) (views : List View) (lives : SlotId → ℕ)
         (files : List File) (kept : List SlotId)

@@ -1,9 +1,9 @@
 //! The words of named files, counted on lanes, as one call.
 //!
-//! `words_work` reads the files in order, cuts them into pieces, and counts these on a domain that is sized by them. The
-//! rule that it keeps: the bytes that it answers are the text of the files' contents, whatever the lanes do; and each
-//! refusal but that of no memory comes only where its cause is there. `count_contents` does the same with contents that
-//! were had in another way, and `read_file` and `read_files` only read.
+//! `words_work` reads the files in order, cuts them into pieces, and counts these on a domain that is sized by them.
+//! The rule that it keeps: the bytes that it answers are the text of the files' contents, whatever the lanes do; and
+//! each refusal but that of no memory comes only where its cause is there. `count_contents` does the same with
+//! contents that were had in another way, and `read_file` and `read_files` only read.
 //!
 //! It isn't promised that a call returns, since lanes may retry and a gate may wait, nor when memory is enough.
 //!

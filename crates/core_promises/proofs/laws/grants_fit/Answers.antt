@@ -1,4 +1,4 @@
-use Rattle.core_invariant.proofs.Parts.{sound_good}
+use Rattle.core_law.proofs.Parts.{sound_good}
 use Rattle.core_promises.proofs.Granted.{seat_granted}
 use Rattle.core_promises.proofs.laws.grants_fit.Goals as goal
 

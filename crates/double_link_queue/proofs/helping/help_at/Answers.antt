@@ -3,7 +3,7 @@ use Rattle.std.proofs.Common.{true, refl, sym, ap, ◌∙◌, subst, ◌++◌, �
 use Rattle.std.specs.Prelude.{None}
 use Rattle.plain_state.specs.declared.slot.SlotId.{SlotId}
 use Rattle.core_events.specs.Views.{without}
-use Rattle.core_invariant.proofs.Kit.{times_push}
+use Rattle.core_law.proofs.Kit.{times_push}
 use Rattle.queue_law.specs.Pushes.{helped_view}
 use Rattle.part_calls.specs.Parts.{seen_by, as_part}
 use Rattle.linked_queue.specs.Leaving.{Leaves}

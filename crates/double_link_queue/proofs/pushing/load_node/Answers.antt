@@ -10,7 +10,7 @@ use Rattle.plain_state.specs.declared.slot.SlotId.{SlotId}
 use Rattle.plain_state.specs.Lists.{times}
 use Rattle.core_events.specs.declared.view.CoreView.{CoreView}
 use Rattle.core_events.specs.Views.{without}
-use Rattle.core_invariant.proofs.Kit.{times_push}
+use Rattle.core_law.proofs.Kit.{times_push}
 use Rattle.linked_queue.specs.Leaving.{Leaves}
 use Rattle.linked_queue.specs.Nodes.{HasNode}
 use Rattle.linked_queue.specs.Pops.{item_in}

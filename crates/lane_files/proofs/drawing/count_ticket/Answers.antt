@@ -3,7 +3,7 @@ use Rattle.std.specs.Prelude.{drop, take}
 use Rattle.std.proofs.lemmas.List.{drop_at, take_at}
 use Rattle.std.proofs.lemmas.Result.{err_from_is_err_and}
 use Rattle.counted_handles.specs.Handles.{Handle}
-use Rattle.core_invariant.proofs.Kit.{times_append}
+use Rattle.core_law.proofs.Kit.{times_append}
 use Rattle.plain_state.specs.Lists.{times}
 use Rattle.lane_files.specs.Counting.{CountsFile}
 use Rattle.lane_files.specs.Keeping.{GivesUp, slots_of}

@@ -1,5 +1,5 @@
 use Rattle.std.proofs.Common.{◌+◌, ◌*◌, ◌^◌, ◌≤◌}
-use Rattle.word_lanes.specs.Ready.{IsReady}
+use Rattle.lane_files.specs.Ready.{IsReady}
 use Rattle.lane_files.proofs.Runs.{HasRun}
 use Rattle.lane_files.proofs.drawing.run_lane.Given as goal
 

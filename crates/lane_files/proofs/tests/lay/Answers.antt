@@ -1,6 +1,6 @@
 use Rattle.std.proofs.Common.{ap, ◌∙◌, arith}
 use Rattle.words_law.specs.Views.{View}
-use Rattle.word_lanes.proofs.Kept.{free_still, owns_queue}
+use Rattle.lane_files.proofs.SeatsKept.{free_still, owns_queue}
 use Rattle.lane_files.proofs.tests.lay.Goals as goal
 
 pub returns : goal.returns

@@ -1,6 +1,6 @@
 use Rattle.std.proofs.Common.{◌∙◌, arith}
-use Rattle.word_lanes.proofs.Copied.{copy_ready}
-use Rattle.word_lanes.proofs.Kept.{owns_on}
+use Rattle.lane_files.proofs.Copied.{copy_ready}
+use Rattle.lane_files.proofs.SeatsKept.{owns_on}
 use Rattle.lane_files.proofs.Tidied.{collect_same, makes_collect, makes_reap, owns_collect, owns_reap, ready_collect}
 use Rattle.lane_files.proofs.tidying.tidy.Goals as goal
 

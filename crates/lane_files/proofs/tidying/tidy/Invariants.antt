@@ -1,5 +1,5 @@
 use Rattle.std.proofs.Common.{◌≡◌}
-use Rattle.word_lanes.specs.Ready.{IsReady, Owns}
+use Rattle.lane_files.specs.Ready.{IsReady, Owns}
 use Rattle.lane_files.proofs.tidying.tidy.Given as goal
 
 abbrev pub invariant-loop-turn : goal.invariant-loop-turn

@@ -3,7 +3,7 @@ use Rattle.counted_handles.specs.Handles.{Handle}
 use Rattle.slot_store.proofs.Quieting.{no_items}
 use Rattle.lane_files.specs.Keeping.{GivesUp, slots_of}
 use Rattle.lane_files.proofs.Giving.{gives_none}
-use Rattle.word_lanes.proofs.Kept.{owns_drop}
+use Rattle.lane_files.proofs.SeatsKept.{owns_drop}
 use Rattle.lane_reports.proofs.Dropped.{gives_more, next_owned}
 use Rattle.lane_reports.proofs.giving.give_all.Goals as goal
 

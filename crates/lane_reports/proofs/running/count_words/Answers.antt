@@ -3,8 +3,8 @@ use Rattle.std.specs.Prelude.{length}
 use Rattle.std.proofs.lemmas.Result.{err_from_is_err_and}
 use Rattle.plain_state.specs.Lists.{times}
 use Rattle.core_events.specs.declared.shape.Shape.{Shape}
-use Rattle.core_invariant.proofs.Each.{length_each}
-use Rattle.core_invariant.proofs.Kit.{times_none}
+use Rattle.core_law.proofs.Each.{length_each}
+use Rattle.core_law.proofs.Kit.{times_none}
 use Rattle.queue_law.specs.declared.view.View.{View as QueueView}
 use Rattle.lane_domain.specs.Opened.{fresh_seat}
 use Rattle.lane_domain.specs.Beginning.{CanBegin}

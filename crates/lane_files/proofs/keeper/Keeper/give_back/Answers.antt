@@ -1,6 +1,6 @@
 use Rattle.std.proofs.Common.{◌∷◌, ◌++◌, [], refl, sym, ap, ◌∙◌, arith, append-nil, append_assoc}
-use Rattle.word_lanes.proofs.Copied.{copy_ready}
-use Rattle.word_lanes.proofs.Kept.{drop_counts, owns_drop}
+use Rattle.lane_files.proofs.Copied.{copy_ready}
+use Rattle.lane_files.proofs.SeatsKept.{drop_counts, owns_drop}
 use Rattle.lane_files.proofs.Giving.{gives_next, gives_none, owned_next}
 use Rattle.lane_files.proofs.keeper.Keeper.give_back.Goals as goal
 

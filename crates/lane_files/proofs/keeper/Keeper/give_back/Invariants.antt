@@ -1,7 +1,7 @@
 use Rattle.std.proofs.Common.{◌≡◌, ◌≤◌, ◌++◌, List}
 use Rattle.std.specs.Prelude.{vec_len}
 use Rattle.counted_handles.specs.Handles.{Handle}
-use Rattle.word_lanes.specs.Ready.{IsReady}
+use Rattle.lane_files.specs.Ready.{IsReady}
 use Rattle.lane_files.specs.Keeping.{GivesUp, slots_of}
 use Rattle.lane_files.proofs.keeper.Keeper.give_back.Given as goal
 

@@ -3,7 +3,7 @@ use Rattle.std.specs.Prelude.{◌==◌, cond}
 use Rattle.std.specs.HashSet.{contains_by}
 use Rattle.plain_state.specs.declared.slot.SlotId.{SlotId}
 use Rattle.counted_handles.specs.Handles.{Handle}
-use Rattle.word_lanes.proofs.Kept.{drop_counts, owns_drop}
+use Rattle.lane_files.proofs.SeatsKept.{drop_counts, owns_drop}
 use Rattle.lane_files.specs.Keeping.{has}
 use Rattle.lane_files.proofs.Keeping.{gives_one, keeps_one}
 use Rattle.lane_files.proofs.keeper.Keeper.keep.Goals as goal

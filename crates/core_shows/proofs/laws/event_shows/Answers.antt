@@ -1,5 +1,0 @@
-use Rattle.core_shows.proofs.Events as lemma
-use Rattle.core_shows.proofs.laws.event_shows.Goals as goal
-
-pub returns : goal.returns
-returns c = lemma.event_shows

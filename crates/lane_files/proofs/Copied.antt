@@ -1,0 +1,172 @@
+-- A reference that is copied before it is pushed.
+use Rattle.std.proofs.Common.{◌≡◌, ◌⊎◌, inl, inr, ⊎_elim, ℕ, ◌<◌, List, [], ◌∷◌, ◌++◌, refl, sym, ap, subst, arith, ◌≤◌, ◌+◌}
+use Rattle.std.specs.Prelude.{Err, Ok, OnErr, OnOk, Result}
+use Rattle.plain_state.specs.Lists.{times}
+use Rattle.core_events.specs.Views.{without}
+use Rattle.protected_loads.proofs.Telling.{holds_has}
+use Rattle.directory_law.specs.Bytes.{text_bytes}
+use Rattle.directory_calls.specs.Directories.{HasQuota}
+use Rattle.linked_queue.specs.Queues.{IsAttached}
+use Rattle.slot_store.specs.declared.making.MakeError.{MakeError}
+use Rattle.words_law.specs.Known.{ForgetsNothing}
+use Rattle.lane_files.specs.Passed.{Counts, UsesInterns}
+use Rattle.slot_store.specs.declared.making.MakeError.TheVariants as unmade
+use Rattle.lane_files.specs.Whys.{IsWhyCopyStays, IsWhyNotOffered}
+use Rattle.plain_state.specs.declared.slot.SlotId.{SlotId}
+use Rattle.acquire_retire.specs.Calls.{IsSameView, same_view}
+use Rattle.acquire_retire.specs.Domains.{DomainState}
+use Rattle.acquire_retire.specs.Seats.{SeatState}
+use Rattle.control_word.specs.Calls.{DropsStrong, GainsStrong, with_strong, without_strong}
+use Rattle.control_word.specs.Moves.{KnowsStill}
+use Rattle.core_events.specs.Steps.{HasRoom}
+use Rattle.control_word.specs.Resting.{IsAtRest, IsSpent}
+use Rattle.directory_calls.proofs.Going.{leaves_core}
+use Rattle.directory_law.specs.declared.view.Ran.{Ran}
+use Rattle.directory_law.specs.Payloads.{IsText, Text}
+use Rattle.directory_law.specs.Views.{In, rope}
+use Rattle.domain_rule.specs.Views.{object_in}
+use Rattle.weak_intern.specs.Knowing.{Knows}
+use Rattle.words_law.specs.Views.{View}
+use Rattle.words_protocol.specs.declared.law.WordsLaw.{WordsLaw}
+use Rattle.lane_files.specs.Ready.{IsReady, Owns, Shared}
+use Rattle.lane_files.proofs.SeatsKept.{gave_item, owns_back, owns_by, ready_by, uses_none, uses_then}
+use Rattle.core_events.specs.declared.view.CoreView.{CoreView}
+use Rattle.lane_files.proofs.Offered.{texts}
+
+-- what a seat knows of the text of s, by its view and by the life and the payload of s
+abbrev pub KnowsAs : SlotId → Text → View → ℕ → List ℕ → Type 0
+KnowsAs s text v life payload =
+    In (rope s life text) v.1.kept
+    ⊎ (((c : ℕ) × In (record { cell = c; slot = s; life = life; head = payload }) v.1.seen)
+    × (e : Ran) × In e v.1.ran × (e.slot ≡ s) × (e.life ≡ life) × (e.before ≡ text) × IsText text)
+
+pub knows_on : (s : SlotId) (text : Text) (a b : SeatState View)
+    → b.view.client ≡ a.view.client → object_in b.view s ≡ object_in a.view s
+    → Knows texts s text a → Knows texts s text b
+knows_on s text a b same object known =
+    subst (λ (v : View). KnowsAs s text v (object_in b.view s).life (object_in b.view s).payload)
+    (sym same)
+    (subst (λ o. KnowsAs s text a.view.client o.life o.payload) (sym object) known)
+
+-- and so after calls that forgot nothing, where it still has the same object in s
+pub knows_still : (s : SlotId) (text : Text) (a b : SeatState View)
+    → ForgetsNothing a.view.client.1 b.view.client.1 → object_in b.view s ≡ object_in a.view s
+    → Knows texts s text a → Knows texts s text b
+knows_still s text a b more object known =
+    subst (λ o. KnowsAs s text b.view.client o.life o.payload) (sym object)
+    (⊎_elim
+    (λ bound. inl (more.knows.kept _ bound))
+    (λ saw. inr (
+      (saw.0.0, more.saw _ saw.0.1),
+      saw.1,
+      more.knows.ran _ saw.2,
+      saw.3,
+      saw.4,
+      saw.5,
+      saw.6,
+    ))
+    known)
+
+pub owns_copy : (fits : List ℕ → Type 0) (d : DomainState WordsLaw) (s t : SlotId) → t ≡ s
+    → (a b : SeatState View)
+    → GainsStrong fits d same_view IsSameView s a b → KnowsStill a.view.core a b
+    → Owns (a.view.core.owned ++ t ∷ []) a b
+owns_copy fits d s t is a b gains knows =
+    subst (λ x. Owns (a.view.core.owned ++ x ∷ []) a b) (sym is)
+    (owns_by a b (leaves_core a b (with_strong s a.view.core) _ gains.core refl knows))
+
+pub copy_ready : {d : DomainState WordsLaw} {on : Shared} {os : List SlotId} (a b : SeatState View)
+    → IsReady d on a → Owns os a b → b.view.client ≡ a.view.client → HasRoom b.view.core
+    → IsAtRest d b → IsReady d on b
+copy_ready a b ready owns same room rest =
+    ready_by a b ready owns room rest
+    (subst (λ (v : View). IsAttached v.0) (sym same) ready.attached)
+    (subst (λ (v : View). HasQuota v.1) (sym same) ready.quota)
+
+-- a seat that owns s knows of it what it knew
+pub owned_same : (s : SlotId) (a b : SeatState View) → 0 < times s a.view.core.owned
+    → KnowsStill a.view.core a b → object_in b.view s ≡ object_in a.view s
+owned_same s a b own knows = knows s (holds_has a.view.core s (omega (arith, own)))
+
+-- the text that it knows of s it knows of the copy
+pub copy_known : (s t : SlotId) → t ≡ s → (text : Text) (a b : SeatState View)
+    → 0 < times s a.view.core.owned → b.view.client ≡ a.view.client → KnowsStill a.view.core a b
+    → Knows texts s text a → Knows texts t text b
+copy_known s t is text a b own same knows known =
+    subst (λ (x : SlotId). Knows texts x text b) (sym is)
+    (knows_on s text a b same (owned_same s a b own knows) known)
+
+-- it was pushed
+pub copy_counts : {T E : Type 0} (s t : SlotId) → t ≡ s → (a b c : SeatState View) (r : Result T E)
+    (done : T) → r ≡ Ok done → 0 < times s a.view.core.owned → b.view.client ≡ a.view.client
+    → KnowsStill a.view.core a b
+    → OnOk r ((text : Text) → Knows texts t text b
+    → Counts (text_bytes text ∷ []) [] b.view.client c.view.client)
+    → (text : Text) → Knows texts s text a
+    → Counts (text_bytes text ∷ []) [] a.view.client c.view.client
+copy_counts s t is a b c r done ok own same knows counts text known =
+    let got = subst (λ x. OnOk x ((u : Text) → Knows texts t u b
+    → Counts (text_bytes u ∷ []) [] b.view.client c.view.client)) ok counts in
+    subst (λ (v : View). Counts (text_bytes text ∷ []) [] v c.view.client) same
+    (got text (copy_known s t is text a b own same knows known))
+
+pub copy_owns : {T E : Type 0} (t : SlotId) (a b c : SeatState View) (r : Result T E) (done : T)
+    → r ≡ Ok done → Owns (a.view.core.owned ++ t ∷ []) a b
+    → OnOk r (Owns (without t b.view.core.owned) b c) → Owns a.view.core.owned a c
+copy_owns t a b c r done ok first second =
+    owns_back t a.view.core.owned a b c first
+    (subst (λ x. OnOk x (Owns (without t b.view.core.owned) b c)) ok second) (λ x. refl)
+
+-- it was handed back and given up
+pub back_owns : {T E : Type 0} (fits : List ℕ → Type 0) (d : DomainState WordsLaw) (t u : SlotId)
+    (a b c e : SeatState View) (r : Result T E) (error : E) → r ≡ Err error → u ≡ t
+    → 0 < times t b.view.core.owned → Owns (a.view.core.owned ++ t ∷ []) a b
+    → OnErr r (Owns b.view.core.owned b c) → DropsStrong fits d u c e
+    → KnowsStill (without_strong u c.view.core) c e → Owns a.view.core.owned a e
+back_owns fits d t u a b c e r error bad is own first kept drops knows =
+    let mid = subst (λ x. OnErr x (Owns b.view.core.owned b c)) bad kept in
+    let last = gave_item fits d u u refl b c e mid drops knows
+    (subst (λ (x : SlotId). 0 < times x b.view.core.owned) (sym is) own) in
+    owns_back t a.view.core.owned a b e first
+    (subst (λ (x : SlotId). Owns (without x b.view.core.owned) b e) is last) (λ x. refl)
+
+-- a record that wasn't offered isn't after a reference was given up
+pub offered_on : (fits : List ℕ → Type 0) (d : DomainState WordsLaw) (why : MakeError)
+    (a b c : SeatState View) → IsWhyNotOffered fits d why a b
+    → (IsSpent b.view.core → IsSpent c.view.core) → IsWhyNotOffered fits d why a c
+offered_on fits d unmade.MakesSpent a b c not spent = not
+offered_on fits d unmade.AddsSpent a b c not spent = spent not
+offered_on fits d unmade.Full a b c not spent = not
+
+pub copy_stays : (fits : List ℕ → Type 0) (d : DomainState WordsLaw) (s : SlotId)
+    (a b c e : SeatState View) → GainsStrong fits d same_view IsSameView s a b → (why : MakeError)
+    → IsWhyNotOffered fits d why b c → (IsSpent c.view.core → IsSpent e.view.core)
+    → IsWhyCopyStays fits d s why a e
+copy_stays fits d s a b c e gains why not spent =
+    record { copied = b; copies = gains; not_offered = offered_on fits d why b c e not spent }
+
+-- MAKES AND ADDS of a copy, a push and a drop
+copied_adds : (fits : List ℕ → Type 0) (d : DomainState WordsLaw) (s : SlotId) (a b : SeatState View)
+    → GainsStrong fits d same_view IsSameView s a b
+    → (b.view.core.adds ≡ a.view.core.adds + 1) × (b.view.core.makes ≡ a.view.core.makes)
+copied_adds fits d s a b gains =
+    (ap (λ (v : CoreView). v.adds) gains.core, ap (λ (v : CoreView). v.makes) gains.core)
+
+module _ (fits : List ℕ → Type 0) (d : DomainState WordsLaw) (s : SlotId) (a b c : SeatState View)
+    (gains : GainsStrong fits d same_view IsSameView s a b) where
+  pub copy_adds : b.view.core.adds ≤ c.view.core.adds → a.view.core.adds ≤ c.view.core.adds
+  copy_adds more = let one = (copied_adds fits d s a b gains).0 in omega arith
+
+  pub copy_makes : c.view.core.makes ≤ b.view.core.makes + 1
+      → c.view.core.makes ≤ a.view.core.makes + 1
+  copy_makes few = let none = (copied_adds fits d s a b gains).1 in omega arith
+
+-- no intern is used between a copy and a drop
+pub copy_interns : (a b c e : SeatState View) → b.view.client ≡ a.view.client
+    → UsesInterns 0 b.view.client c.view.client → e.view.client ≡ c.view.client
+    → UsesInterns 0 a.view.client e.view.client
+copy_interns a b c e first uses last =
+    uses_then 0 0 a.view.client c.view.client e.view.client
+    (uses_then 0 0 a.view.client b.view.client c.view.client
+    (uses_none a.view.client b.view.client (ap texts first)) uses)
+    (uses_none c.view.client e.view.client (ap texts last))

@@ -1,0 +1,48 @@
+-- What a seat needs to count words, and what a call leaves of it.
+use Rattle.std.specs.Prelude.{◌≡◌, ℕ, List}
+use Rattle.plain_state.specs.declared.slot.SlotId.{SlotId}
+use Rattle.plain_state.specs.Lists.{times}
+use Rattle.core_events.specs.Steps.{HasRoom}
+use Rattle.core_events.specs.Views.{Holds}
+use Rattle.domain_rule.specs.Views.{object_in}
+use Rattle.acquire_retire.specs.Domains.{DomainState}
+use Rattle.acquire_retire.specs.Seats.{SeatState}
+use Rattle.control_word.specs.Resting.{IsAtRest}
+use Rattle.directory_law.specs.Views.{In}
+use Rattle.queue_law.specs.Lists.{taken_items}
+use Rattle.part_calls.specs.Parts.{as_part}
+use Rattle.directory_calls.specs.Directories.{HasQuota, IsOver}
+use Rattle.directory_calls.specs.Steps.{aside}
+use Rattle.text_reading.specs.Reading.{HasTwoFree}
+use Rattle.hand_queues.specs.Queues.{IsAnyOf}
+use Rattle.linked_queue.specs.Queues.{IsAttached}
+use Rattle.words_law.specs.Views.{View}
+use Rattle.words_protocol.specs.declared.law.WordsLaw.{WordsLaw}
+pub use Rattle.lane_files.specs.declared.shared.Shared.{Shared}
+
+-- the seat is at rest in a domain with this queue and this directory, and takes part in the queue
+pub record IsReady (d : DomainState WordsLaw) (on : Shared) (seat : SeatState View) : Type 0 where
+  pub rest : IsAtRest d seat
+  pub room : HasRoom seat.view.core
+  pub queue : IsAnyOf on.queue (as_part (λ (it : WordsLaw). it.pair.left) d)
+  pub over : IsOver d d.protocol.pair.right on.directory
+  pub attached : IsAttached seat.view.client.0
+  pub quota : HasQuota seat.view.client.1
+  pub free : HasTwoFree seat.view.core
+
+-- the seat popped s, in the life in which it has it
+abbrev pub HasPoppedIn : SlotId → SeatState View → Type 0
+HasPoppedIn s seat =
+    (payload : List ℕ)
+    × In (record { slot = s.0; life = (object_in seat.view s).life; payload = payload })
+    (taken_items seat.view.client.0.popped)
+
+-- The seat owns these references strongly, and weakly what it owned, in some order. What it has beside is as it was,
+-- and so is what it knows of the objects that it held and still holds.
+pub record Owns (owned : List SlotId) (old new : SeatState View) : Type 0 where
+  pub strongly : (x : SlotId) → times x new.view.core.owned ≡ times x owned
+  pub weakly : (x : SlotId) → times x new.view.core.weaks ≡ times x old.view.core.weaks
+  pub same : aside new.view.core ≡ aside old.view.core
+  pub knows :
+      (x : SlotId) → Holds old.view.core x → Holds new.view.core x
+      → object_in new.view x ≡ object_in old.view x

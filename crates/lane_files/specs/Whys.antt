@@ -1,0 +1,59 @@
+-- Why nothing was pushed or popped.
+use Rattle.std.specs.Prelude.{◌≡◌, ◌⊎◌, ℕ, None, List, [], ◌∷◌}
+use Rattle.plain_state.specs.declared.slot.SlotId.{SlotId}
+use Rattle.acquire_retire.specs.Calls.{IsSameView, same_view}
+use Rattle.acquire_retire.specs.Domains.{DomainState}
+use Rattle.acquire_retire.specs.Seats.{SeatState}
+use Rattle.control_word.specs.Calls.{GainsStrong}
+use Rattle.control_word.specs.Resting.{IsSpent}
+use Rattle.cdrc_text.specs.Tally.{count_of}
+use Rattle.part_calls.specs.Parts.{as_part, seen_by}
+use Rattle.queue_law.specs.declared.view.View.{View as QueueView}
+use Rattle.queue_protocol.specs.declared.law.QueueLaw.{QueueLaw}
+use Rattle.linked_queue.specs.Waits.{IsWhyNeverPushed, PopsAtLast}
+use Rattle.slot_store.specs.declared.making.MakeError.{MakeError}
+use Rattle.slot_store.specs.declared.making.MakeError.TheVariants as unmade
+use Rattle.words_law.specs.Views.{View}
+use Rattle.words_protocol.specs.declared.law.WordsLaw.{WordsLaw}
+use Rattle.lane_files.specs.declared.refusal.LaneError.{LaneError}
+use Rattle.lane_files.specs.declared.refusal.LaneError.TheVariants as refused
+use Rattle.lane_files.specs.Passed.{Counts}
+
+-- the domain and a seat, as the queue has them
+abbrev pub queue_of : DomainState WordsLaw → DomainState QueueLaw
+queue_of d = as_part (λ (it : WordsLaw). it.pair.left) d
+
+abbrev pub of_queue : SeatState View → SeatState QueueView
+of_queue seat = seen_by (λ (v : View). v.0) seat
+
+module _ (fits : List ℕ → Type 0) (d : DomainState WordsLaw) where
+  -- why a record wasn't pushed: no make was left, or no slot was free, or the seat has no add left by now
+  abbrev pub IsWhyNotOffered : MakeError → SeatState View → SeatState View → Type 0
+  IsWhyNotOffered why old new = IsWhyNeverPushed fits (queue_of d) why (of_queue old) (of_queue new)
+
+  -- the seat counted one reference more to s, which then wasn't pushed
+  pub record IsWhyCopyStays (s : SlotId) (why : MakeError) (old new : SeatState View) : Type 0 where
+    pub copied : SeatState View
+    pub copies : GainsStrong fits d same_view IsSameView s old copied
+    pub not_offered : IsWhyNotOffered why copied new
+
+  -- why no copy of s was pushed: no add was left for it, and none is, or it was made and wasn't pushed
+  abbrev pub IsWhyNotCopied : SlotId → MakeError → SeatState View → SeatState View → Type 0
+  IsWhyNotCopied s why old new =
+      ((why ≡ unmade.AddsSpent) × IsSpent old.view.core × IsSpent new.view.core)
+      ⊎ IsWhyCopyStays s why old new
+
+  -- the seat popped nothing, and found nothing linked behind the head's node, at a step between these two states
+  abbrev pub FindsNoItem : SeatState View → SeatState View → Type 0
+  FindsNoItem old new = PopsAtLast fits (queue_of d) None (of_queue old) (of_queue new)
+
+-- Why no word was counted: nothing was popped, and the seat has no add left. Or an item was popped whose word is a new
+-- one, for which there was no memory. The tally is as it was.
+abbrev pub IsWhyNotTaken : LaneError → SeatState View → SeatState View → List (List ℕ × ℕ)
+    → List (List ℕ × ℕ) → Type 0
+IsWhyNotTaken (refused.Refused why) old new before after =
+    (why ≡ unmade.AddsSpent) × IsSpent new.view.core
+    × Counts [] [] old.view.client new.view.client × (after ≡ before)
+IsWhyNotTaken refused.OutOfMemory old new before after =
+    (word : List ℕ) × Counts [] (word ∷ []) old.view.client new.view.client
+    × (count_of before word ≡ 0) × (after ≡ before)
