@@ -41,6 +41,7 @@ module _ (fits : List ℕ → Type 0) (job : Job) (source : SourceRun) (sink : S
     part = λ e. absurd (omega arith);
     large = λ e. absurd (omega arith);
     full = λ e. absurd (omega arith);
+    few = λ e. absurd (omega arith);
     spent = λ e. absurd (omega arith);
     memory = λ e. absurd (omega arith);
     nothing = λ e. absurd (not_quiet end.status e (inl zero_is));
@@ -61,6 +62,7 @@ module _ (fits : List ℕ → Type 0) (job : Job) (source : SourceRun) (sink : S
     part = λ e. absurd (omega arith);
     large = λ e. absurd (omega arith);
     full = λ e. absurd (omega arith);
+    few = λ e. absurd (omega arith);
     spent = λ e. absurd (omega arith);
     memory = λ e. absurd (omega arith);
     nothing = λ e. absurd (not_quiet end.status e (inr (inr (inl eight_is))));
@@ -89,6 +91,7 @@ module _ (fits : List ℕ → Type 0) (job : Job) (source : SourceRun) (sink : S
     };
     large = λ e. absurd (omega arith);
     full = λ e. absurd (omega arith);
+    few = λ e. absurd (omega arith);
     spent = λ e. absurd (omega arith);
     memory = λ e. absurd (omega arith);
     nothing = λ e. absurd (not_quiet end.status e (inr (inl four_is)));
@@ -110,6 +113,7 @@ module _ (fits : List ℕ → Type 0) (job : Job) (source : SourceRun) (sink : S
     part = λ e. absurd (omega arith);
     large = λ e. absurd (omega arith);
     full = λ e. absurd (omega arith);
+    few = λ e. absurd (omega arith);
     spent = λ e. absurd (omega arith);
     memory = λ e. inr (
       output.why,

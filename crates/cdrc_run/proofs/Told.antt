@@ -6,7 +6,7 @@ use Rattle.words_work.specs.Contents.{AreContents, AreTold, Told}
 use Rattle.words_work.specs.Limits.{most_bytes}
 use Rattle.words_work.proofs.Refusing.{told_not_large, told_not_long, within_passes, within_too_many}
 use Rattle.words_work.proofs.Told.{told_same}
-use Rattle.cdrc_run.specs.Jobs.{Job, bulk, count, draw, drawn_texts, names_in, script, steps, IsWithinLimits, PassesLimit}
+use Rattle.cdrc_run.specs.Jobs.{AsksSlots, Job, bulk, count, draw, drawn_texts, names_in, script, steps, IsWithinLimits, PassesLimit}
 use Rattle.cdrc_run.specs.Outputs.{IsFull, IsSpentFor, IsTooLarge}
 
 passes_none : (job : Job) (contents : List (List ℕ)) → IsWithinLimits job contents
@@ -58,3 +58,12 @@ told_spent (steps file) told contents seat tells spent passes = spent
 told_spent (draw draws) told contents seat tells spent passes = spent
 told_spent (bulk drawn) told contents seat tells spent passes =
     within_too_many 1 (drawn_texts drawn) spent.0 passes
+
+-- only where a number of slots is asked for does a seat find each one taken
+pub full_asks : (fits : List ℕ → Type 0) (job : Job) (told : Told) (seat : SeatState View)
+    → IsFull fits job told seat → AsksSlots job
+full_asks fits (count names plan) told seat full = (full.so.few.0, full.so.few.1)
+full_asks fits (script file) told seat full = full
+full_asks fits (steps file) told seat full = full
+full_asks fits (draw draws) told seat full = full
+full_asks fits (bulk drawn) told seat full = cc full.1.few.1

@@ -12,7 +12,7 @@ use Rattle.cdrc_run.specs.Outputs.{IsFull, IsSpentFor, IsTooLarge, IsWhyNoOutput
 use Rattle.cdrc_run.specs.Statuses.{IsStatus}
 use Rattle.cdrc_run.specs.declared.outcome.End.{End}
 use Rattle.cdrc_run.specs.declared.outcome.Why.TheVariants as why
-use Rattle.cdrc_run.proofs.Told.{told_full, told_not_too_large, told_spent}
+use Rattle.cdrc_run.proofs.Told.{full_asks, told_full, told_not_too_large, told_spent}
 
 -- no such status is one of those with evidence
 not_shown : (n : ℕ) → (n ≡ 3) ⊎ (n ≡ 5) ⊎ (n ≡ 9) → (n ≡ 6) ⊎ (n ≡ 7) → ⊥
@@ -34,6 +34,7 @@ module _ (fits : List ℕ → Type 0) (job : Job) (source : SourceRun) (sink : S
     part = λ e. absurd (omega arith);
     large = λ e. absurd (omega arith);
     full = λ e. absurd (omega arith);
+    few = λ e. absurd (omega arith);
     spent = λ e. absurd (omega arith);
     memory = λ e. inl untaken;
     nothing = λ e. untaken;
@@ -56,6 +57,7 @@ module _ (fits : List ℕ → Type 0) (job : Job) (source : SourceRun) (sink : S
     part = λ e. absurd (omega arith);
     large = λ e. large;
     full = λ e. absurd (omega arith);
+    few = λ e. absurd (omega arith);
     spent = λ e. absurd (omega arith);
     memory = λ e. inl untaken;
     nothing = λ e. untaken;
@@ -77,6 +79,7 @@ module _ (fits : List ℕ → Type 0) (job : Job) (source : SourceRun) (sink : S
     part = λ e. absurd (omega arith);
     large = λ e. absurd (omega arith);
     full = λ e. (seat, shown, full);
+    few = λ e. full_asks fits job source.told seat full;
     spent = λ e. absurd (omega arith);
     memory = λ e. inl untaken;
     nothing = λ e. untaken;
@@ -97,6 +100,7 @@ module _ (fits : List ℕ → Type 0) (job : Job) (source : SourceRun) (sink : S
     part = λ e. absurd (omega arith);
     large = λ e. absurd (omega arith);
     full = λ e. absurd (omega arith);
+    few = λ e. absurd (omega arith);
     spent = λ e. (seat, shown, spent);
     memory = λ e. inl untaken;
     nothing = λ e. untaken;
@@ -116,6 +120,7 @@ module _ (fits : List ℕ → Type 0) (job : Job) (source : SourceRun) (sink : S
     part = λ e. absurd (omega arith);
     large = λ e. absurd (omega arith);
     full = λ e. absurd (omega arith);
+    few = λ e. absurd (omega arith);
     spent = λ e. absurd (omega arith);
     memory = λ e. inl untaken;
     nothing = λ e. absurd (not_nine end.status e nine_is);

@@ -10,7 +10,7 @@ use Rattle.words_work.specs.Contents.{AreTold, Told}
 use Rattle.words_work.specs.Outcomes.{Counts}
 use Rattle.words_work.specs.declared.outcome.WordsRefused.{WordsRefused}
 use Rattle.words_work.specs.declared.outcome.WordsRefused.TheVariants as refused
-use Rattle.cdrc_run.specs.Jobs.{Job, names_in, IsWithinLimits, PassesLimit}
+use Rattle.cdrc_run.specs.Jobs.{AsksSlots, Job, names_in, IsWithinLimits, PassesLimit}
 use Rattle.cdrc_run.specs.Outputs.{IsFull, IsOutputOf, IsSpentFor, IsTooLarge}
 use Rattle.cdrc_run.specs.declared.outcome.End.{End}
 use Rattle.cdrc_run.specs.declared.outcome.Output.{Output}
@@ -100,6 +100,7 @@ pub record Ends (fits : List ℕ → Type 0) (job : Job) (source : SourceRun) (s
   pub full :
       end.status ≡ 6
       → (seat : SeatState View) × ShowsSeat seat end.why × IsFull fits job source.told seat
+  pub few : end.status ≡ 6 → AsksSlots job
   pub spent :
       end.status ≡ 7
       → (seat : SeatState View) × ShowsSeat seat end.why × IsSpentFor job source.told seat

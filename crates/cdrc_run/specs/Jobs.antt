@@ -1,5 +1,5 @@
 -- What a command line asks to be done, by its texts.
-use Rattle.std.specs.Prelude.{ℕ, ◌≡◌, ◌+◌, ◌%◌, ◌^◌, ◌<◌, ◌≤◌, List, [], ◌∷◌, length, None, string_bytes}
+use Rattle.std.specs.Prelude.{ℕ, ◌≡◌, ◌+◌, ◌%◌, ◌^◌, ◌<◌, ◌≤◌, List, [], ◌∷◌, length, Some, None, string_bytes}
 use Rattle.cdrc_text.specs.Generated.{generated_text}
 use Rattle.command_line.specs.Requests.{Asks}
 use Rattle.command_line.specs.declared.asked.Bulk.{Bulk}
@@ -79,6 +79,14 @@ PassesLimit (script file) contents = words.most_bytes < bytes_in contents
 PassesLimit (steps file) contents = words.most_bytes < bytes_in contents
 PassesLimit (draw draws) contents = ⊥
 PassesLimit (bulk drawn) contents = words.HasTooMany 1 (drawn_texts drawn)
+
+-- a number of slots is asked for
+abbrev pub AsksSlots : Job → Type 0
+AsksSlots (count names plan) = (n : ℕ) × (plan.slots ≡ Some n)
+AsksSlots (script file) = ⊥
+AsksSlots (steps file) = ⊥
+AsksSlots (draw draws) = ⊥
+AsksSlots (bulk drawn) = ⊥
 
 -- so much may be asked: what a command line asks is within these ranges
 abbrev pub HasRanges : Request → Type 0

@@ -21,10 +21,10 @@ use std::thread::Threads;
 /// words, or draws words and counts them. It offers the output to the sink.
 ///
 /// The status is 0 where the work was done; 2 exactly where the words aren't understood; 3 only where the source's
-/// count of faults rose in this call; 4 only where the sink's did; 5 exactly where a limit is passed; 6 where a seat
-/// found each slot taken as words were counted, and 7 where one had no add left; 8 where a line of a script or of steps
-/// is refused, which the output's last line tells; 9 where there was no memory, which may come in place of any. Over a
-/// source that doesn't tell a content, what is said of it is said of some content.
+/// count of faults rose in this call; 4 only where the sink's did; 5 exactly where a limit is passed; 6 only where
+/// `--slots` asks for fewer slots than serve, and a seat found each one taken; 7 where a seat had no add left; 8 where
+/// a line of a script or of steps is refused, which the output's last line tells; 9 where there was no memory, which
+/// may come in place of any. Over a source that doesn't tell a content, what is said of it is said of some content.
 ///
 /// With 0 and 8 the sink took the whole output, with 4 a prefix of it, with 9 a prefix or nothing, and else nothing.
 ///

@@ -1,5 +1,5 @@
 -- What the law of a heap says of roots, of reached slots and of unreached ones.
-use Rattle.std.proofs.Common.{◌≡◌, ℕ, ◌+◌, ◌<◌, ◌≤◌, ◌^◌, ◌⊎◌, List, [], ◌∷◌, length, get_or, Bool, false, cond, slice_index, sum_by, count_by, nat_lt, All, arith, ap, subst, inl, inr, refl, suc}
+use Rattle.std.proofs.Common.{◌≡◌, ℕ, ◌+◌, ◌<◌, ◌≤◌, ◌^◌, ◌⊎◌, List, [], ◌∷◌, length, get_or, Bool, false, cond, slice_index, sum_by, count_by, nat_lt, All, IsTrue, ◌↔◌, arith, ap, subst, sym, inl, inr, refl, suc}
 use Rattle.std.proofs.lemmas.Bool.{cond-true, cond-false, cases_lt, lt-ltb, le-ltb, ne_eqb, and_right}
 use Rattle.std.proofs.lemmas.List.{get_or_past}
 use Rattle.std.proofs.lemmas.List.Sums.{sum_by-le, sum_by-cons, get_or-le-sum_by}
@@ -186,3 +186,47 @@ module _ (heap : Heap) (s : SlotId) (x : SlotImage) (cells fields deferred : ℕ
         bare = λ _. subst HasNullFields read null;
         alone = λ _. omega (arith, none, c, f, d);
       }
+
+  -- what was looked at decides whether it does
+  pub live_decides : s.0 < length heap.slots.items → x.strong < 2 ^ 63
+      → cells ≡ count_by (names s) heap.cells.items → fields ≡ in_fields heap s → deferred ≡ entry_times Strong s heap.deferred.items
+      → (found : Bool) → IsTrue found ↔ ((1 ≤ x.strong) × (cells + fields + deferred ≤ x.strong))
+      → IsTrue found ↔ ObeysAt heap s
+  unfolding in_cells in_deferred
+  live_decides within below c f d found covers =
+      let strong = ap (λ (y : SlotImage). y.strong) read in
+      let live : IsLive heap s = (within, omega (arith, below, strong)) in
+      let count = cond-true (nat_lt (image_of heap s).strong (2 ^ 63)) (image_of heap s).strong 0 (lt-ltb (image_of heap s).strong (2 ^ 63) live.1) in (
+        λ t. obeys_live within below (omega (arith, (covers.0 t).0)) c f d (covers.0 t).1,
+        λ o. covers.1 (omega (arith, o.counted live, count, strong), omega (arith, o.covered live, count, strong, c, f, d)),
+      )
+
+  not_live : 2 ^ 63 ≤ x.strong → IsLive heap s → ⊥
+  not_live above live = let strong = ap (λ (y : SlotImage). y.strong) read in omega (arith, live.1, above, strong)
+
+  pub bare_decides : 2 ^ 63 ≤ x.strong
+      → cells ≡ count_by (names s) heap.cells.items → fields ≡ in_fields heap s → deferred ≡ entry_times Strong s heap.deferred.items
+      → cells + fields + deferred ≡ 0 → (found : Bool) → IsTrue found ↔ HasNullFields x
+      → IsTrue found ↔ ObeysAt heap s
+  bare_decides above c f d none found null = (
+    λ t. obeys_other above (null.0 t) c f d none,
+    λ o. null.1 (subst HasNullFields (sym read) (o.bare (not_live above))),
+  )
+
+  pub entered_obeys_not : 2 ^ 63 ≤ x.strong
+      → cells ≡ count_by (names s) heap.cells.items → fields ≡ in_fields heap s → deferred ≡ entry_times Strong s heap.deferred.items
+      → ObeysAt heap s → cells + fields + deferred ≡ 0
+  unfolding in_cells in_deferred
+  entered_obeys_not above c f d o = omega (arith, o.alone (not_live above), c, f, d)
+
+-- the first fields and the second ones that hold a slot
+pub both_fields : (s : SlotId) (xs : List SlotImage)
+    → count_by (λ (x : SlotImage). names s (slice_index x.fields 0)) xs
+    + count_by (λ (x : SlotImage). names s (slice_index x.fields 1)) xs ≡ sum_by (fields_holding s) xs
+unfolding fields_holding held
+both_fields s [] = refl
+both_fields s (x ∷ xs) =
+    let first = sum_by-cons (λ (y : SlotImage). cond (names s (slice_index y.fields 0)) 1 0) x xs in
+    let second = sum_by-cons (λ (y : SlotImage). cond (names s (slice_index y.fields 1)) 1 0) x xs in
+    let both = sum_by-cons (fields_holding s) x xs in let rest = both_fields s xs in
+    omega (arith, first, second, both, rest)

@@ -7,9 +7,10 @@
 //! entries and the unreached slots, adds up the weights of the Live ones, and finds a walk round a cycle of unreached
 //! slots, if there are any. `check_walk` tests such a walk by itself.
 //!
-//! An audit asks for a lawful heap: each Live slot has a strong count of at least 1 and at least its entries, and every
-//! other slot has null fields and no entry. Nothing is promised of other heaps, nor that every cycle is shown: the walk
-//! goes round the one that the search from the unreached slot of least rank comes to.
+//! An audit asks for a lawful heap: each Live slot has a strong count of at least 1 and at least its entries, and
+//! every other slot has null fields and no entry. `lawful` tells whether a heap is. Nothing is promised of other
+//! heaps, nor that every cycle is shown: the walk goes round the one that the search from the unreached slot of least
+//! rank comes to.
 //!
 //! ```text
 //! let deleter: Deleter<FirstWord, _> = Deleter::keep(|payload: &[u64; 16]| payload[0]);
@@ -28,6 +29,7 @@ mod finding;
 mod laws;
 mod live;
 mod marks;
+mod obeying;
 mod ranks;
 mod reach;
 mod search;
@@ -40,4 +42,5 @@ mod word;
 pub use audits::audit;
 pub use finding::Audit;
 pub use laws::{found_is_walk, one_walk_is_found};
+pub use obeying::lawful;
 pub use walks::check_walk;

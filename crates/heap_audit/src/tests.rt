@@ -2,7 +2,7 @@
 ghost use Rattle.std.specs.Prelude.{◌≡◌, ◌≤◌, ◌^◌, slice_index};
 
 use crate::checked::is_auditable;
-use crate::{Audit, audit, check_walk};
+use crate::{Audit, audit, check_walk, lawful};
 use deleter::Deleter;
 use out_of_memory::OutOfMemory;
 use plain_state::{Heap, Kind, PayloadKind, SlotId, SlotImage, ZERO};
@@ -234,5 +234,62 @@ fn walks_are_checked(rt: HostRuntime) -> Result<(), OutOfMemory> {
     assert!(rt; !check_walk(&heap, &[one, three, two]));
     assert!(rt; !check_walk(&heap, &[SlotId(3)]));
     assert!(rt; !check_walk(&heap, &[SlotId(4)]));
+    Ok(())
+}
+
+#[test]
+fn lawful_heaps_are_told(rt: HostRuntime) -> Result<(), OutOfMemory> {
+    let alloc = rt.alloc();
+    let one = [(1, [None, None], 1, 1)];
+    for (cells, deferred, is_lawful) in [
+        ([1, 0].as_slice(), [].as_slice(), true),
+        ([1, 1].as_slice(), [].as_slice(), false),
+        ([1, 2].as_slice(), [].as_slice(), false),
+        (
+            [0, 0].as_slice(),
+            [(Kind::Strong, SlotId(0))].as_slice(),
+            true,
+        ),
+        (
+            [1, 0].as_slice(),
+            [(Kind::Strong, SlotId(0))].as_slice(),
+            false,
+        ),
+        (
+            [1, 0].as_slice(),
+            [(Kind::Weak, SlotId(0))].as_slice(),
+            true,
+        ),
+        (
+            [1, 0].as_slice(),
+            [(Kind::Weak, SlotId(1))].as_slice(),
+            false,
+        ),
+    ] {
+        let heap = heap_of(alloc, &one, cells, deferred)?;
+        assert!(rt; lawful(&heap) == is_lawful, "{cells:?} {deferred:?}");
+    }
+    for (rows, is_lawful) in [
+        (
+            [(1, [Some(1), None], 1, 1), (2, [Some(0), None], 1, 2)],
+            true,
+        ),
+        (
+            [(1, [Some(1), None], 1, 1), (2, [Some(0), Some(0)], 1, 2)],
+            false,
+        ),
+        ([(1, [None, None], 1, 1), (0, [None, None], 1, 2)], false),
+        (
+            [(1, [None, None], 1, 1), (ZERO, [Some(0), None], 1, 2)],
+            false,
+        ),
+        (
+            [(0, [Some(1), None], 1, 1), (ZERO, [None, None], 1, 2)],
+            false,
+        ),
+    ] {
+        let heap = heap_of(alloc, &rows, &[], &[])?;
+        assert!(rt; lawful(&heap) == is_lawful, "{rows:?}");
+    }
     Ok(())
 }

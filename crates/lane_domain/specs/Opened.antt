@@ -35,9 +35,9 @@ root_quota = record { makes = 2; adds = 2 ^ 40 }
 abbrev pub lane_quota : Quota
 lane_quota = record { makes = 0; adds = 2 ^ 40 }
 
--- a weak cell for each intern, and at least one
+-- two weak cells for each intern, so that at most every other one is ever set, and at least one
 abbrev pub cells_for : Work → ℕ
-cells_for work = max (work.rounds * all_pieces work) 1
+cells_for work = max (2 * (work.rounds * all_pieces work)) 1
 
 abbrev pub shape_for : Work → ℕ → ℕ → Shape
 shape_for work lanes slots = record {

@@ -43,6 +43,10 @@ const LANE: Quota = Quota {
     adds: 1 << 40,
 };
 
+/// A walk of the directory ends at a null cell. Where half of all cells stay null, that is soon, even if no two pieces
+/// are the same word.
+const CELLS_FOR_EACH: u64 = 2;
+
 /// A domain and its seats.
 struct Begun {
     domain: Domain<WordsLaw>,
@@ -93,7 +97,8 @@ fn begin(
     ensures root { IfOk result (λ begun. begun.root ≡ fresh_seat begun.domain 0) }
     ensures seats { IfOk result (λ begun. begun.seats.items ≡ fresh_lanes begun.domain lanes) }
 {
-    let weak_cells = (work.rounds * count_pieces(work)).max(1) as u32;
+    let interns = work.rounds * count_pieces(work);
+    let weak_cells = (CELLS_FOR_EACH * interns).max(1) as u32;
     let shape = Shape {
         seats: lanes + 1,
         slots,

@@ -42,7 +42,7 @@ use Rattle.lane_reports.specs.Deeds.{LaneDeeds}
 use Rattle.lane_reports.specs.Gathering.{HasGathered, IsBare, Tally, shares_of, words_popped}
 use Rattle.lane_reports.specs.Kept.{lives_in}
 use Rattle.lane_reports.specs.Learning.{LearnsLaw}
-use Rattle.lane_reports.specs.Reporting.{CountWork, KeepsWork}
+use Rattle.lane_reports.specs.Reporting.{CountWork, HasCounted, KeepsWork}
 use Rattle.lane_reports.specs.Rows.{AreWords}
 use Rattle.lane_reports.specs.Shutting.{ShutsAndSettles}
 use Rattle.lane_reports.specs.Taking.{TakesRest}
@@ -52,16 +52,6 @@ use Rattle.lane_reports.proofs.AtRest.{alone_in}
 use Rattle.lane_reports.proofs.Counting.{counts_all}
 use Rattle.lane_reports.proofs.Occurring.{are_words, as_many, as_often, count_work, few_counted, lanes_counted, lanes_total, sum_work, times_both}
 use Rattle.lane_reports.proofs.Tells.{as_many as as_many_lanes, files_more}
-
--- all of that
-pub record IsFinished (work : Work) (kept : List Handle) (tallies : Tallies)
-    (seat : SeatState View) : Type 0 where
-  pub owned : (x : SlotId) → times x seat.view.core.owned ≡ times x (slots_of kept)
-  pub weakly : (x : SlotId) → times x seat.view.core.weaks ≡ 0
-  pub keeps : KeepsWork work (slots_of kept) seat
-  pub counts : CountWork work tallies
-  pub words : AreWords tallies
-  pub small : All (λ (f : File). All AreBytes f) (texts_in work)
 
 module _ (fits : List ℕ → Type 0) (d : DomainState WordsLaw) (work : Work) (is : IsWork work)
     (few : work.rounds * all_pieces work ≤ 1000000) (done : List Done) (some : 1 ≤ length done)
@@ -252,7 +242,7 @@ module _ (fits : List ℕ → Type 0) (d : DomainState WordsLaw) (work : Work) (
       files_small work (together (shares_of base.deeds)) base_once is.once (map text_bytes ts)
       base.pushed_words.2 (texts_small ts)
 
-  pub all_known : IsFinished work kept tallies l
+  pub all_known : HasCounted work kept tallies l
   all_known = record {
     owned = owned_kept;
     weakly = weakly_none;

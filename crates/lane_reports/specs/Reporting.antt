@@ -1,7 +1,11 @@
 -- What is answered.
 use Rattle.std.specs.Prelude.{ℕ, ◌≡◌, List, []}
+use Rattle.std.specs.List.{All}
 use Rattle.plain_state.specs.declared.slot.SlotId.{SlotId}
-use Rattle.cdrc_text.specs.Fold.{occurrences_in}
+use Rattle.plain_state.specs.Lists.{times}
+use Rattle.cdrc_text.specs.Fold.{File, occurrences_in}
+use Rattle.directory_law.specs.Bytes.{AreBytes}
+use Rattle.counted_handles.specs.Handles.{Handle}
 use Rattle.core_events.specs.declared.view.CoreView.{CoreView}
 use Rattle.domain_rule.specs.Views.{IsAlone}
 use Rattle.acquire_retire.specs.Seats.{SeatState}
@@ -9,10 +13,12 @@ use Rattle.words_law.specs.Views.{View}
 use Rattle.words_rest.specs.Kept.{TellsFiles}
 use Rattle.ticket_shares.specs.Tickets.{IsEachOnce}
 use Rattle.lane_files.specs.declared.work.Work.{Work}
+use Rattle.lane_files.specs.Keeping.{slots_of}
 use Rattle.lane_files.specs.Work.{all_tickets, kept_files}
 use Rattle.lane_domain.specs.Opened.{shape_for}
 use Rattle.lane_domain.specs.Sizes.{texts_in}
 use Rattle.lane_reports.specs.Kept.{lives_in}
+use Rattle.lane_reports.specs.Rows.{AreWords}
 use Rattle.lane_reports.specs.Words.{Tallies, counted_in}
 
 -- the tallies together counted each word as often as it occurs in all rounds
@@ -26,6 +32,17 @@ pub record KeepsWork (work : Work) (kept : List SlotId) (seat : SeatState View) 
   pub tickets : List ℕ
   pub once : IsEachOnce (all_tickets work) tickets
   pub tells : TellsFiles (lives_in seat) (kept_files work tickets) kept seat.view.client.1
+
+-- Of all that a report is made of: the seat owns the references that are kept and nothing else, and knows whose they
+-- are; the tallies counted each word as often as it occurs, and a report has room for these words; files have bytes.
+pub record HasCounted (work : Work) (kept : List Handle) (tallies : Tallies)
+    (seat : SeatState View) : Type 0 where
+  pub owned : (s : SlotId) → times s seat.view.core.owned ≡ times s (slots_of kept)
+  pub weakly : (s : SlotId) → times s seat.view.core.weaks ≡ 0
+  pub keeps : KeepsWork work (slots_of kept) seat
+  pub counts : CountWork work tallies
+  pub words : AreWords tallies
+  pub small : All (λ (f : File). All AreBytes f) (texts_in work)
 
 -- the seat has nothing retired, and nothing is dying
 pub record HasNothingDeferred (v : CoreView) : Type 0 where

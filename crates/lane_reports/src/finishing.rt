@@ -1,25 +1,19 @@
 //! What seat 0 does once all lanes ran to their end.
 ghost use Rattle.std.specs.Prelude.{◌≡◌, ◌+◌, ◌≤◌, [], IfErr, IfOk, OnOk, length};
-ghost use Rattle.std.specs.List.{All};
-ghost use Rattle.cdrc_text.specs.Fold.{File};
 ghost use Rattle.cdrc_text.specs.Text.{IsReport};
-ghost use Rattle.directory_law.specs.Bytes.{AreBytes};
 ghost use Rattle.core_events.specs.Views.{snapshots};
 ghost use Rattle.control_word.specs.Resting.{IsAtRest};
 ghost use Rattle.deleter.specs.Weighing.{Weighs};
 ghost use Rattle.domain_rule.specs.Views.{IsAlone};
-ghost use Rattle.plain_state.specs.declared.slot.SlotId.{SlotId};
-ghost use Rattle.plain_state.specs.Lists.{times};
 ghost use Rattle.lane_domain.specs.Sizes.{IsWithinLimits, texts_in};
-ghost use Rattle.lane_files.specs.Keeping.{slots_of};
 ghost use Rattle.lane_files.specs.Work.{IsWork};
 ghost use Rattle.lane_files.specs.Ready.{IsReady};
 ghost use Rattle.words_law.specs.Known.{ForgetsNothing};
 ghost use Rattle.lane_reports.specs.Counting.{CountsAll};
 ghost use Rattle.lane_reports.specs.Gathering.{EachDid, IsBare};
 ghost use Rattle.lane_reports.specs.Holders.{IsRoot};
-ghost use Rattle.lane_reports.specs.Reporting.{CountWork, HasNothing, KeepsWork};
-ghost use Rattle.lane_reports.specs.Rows.{AreWords, IsWhyNoRows};
+ghost use Rattle.lane_reports.specs.Reporting.{HasCounted, HasNothing};
+ghost use Rattle.lane_reports.specs.Rows.{IsWhyNoRows};
 
 use crate::audits::{audit_at_rest, audit_line, list_ranks};
 use crate::done::{Done, Gathered};
@@ -59,13 +53,7 @@ fn write_report<R: Wait, F: Fn(&[u64; 16]) -> u64>(
 ) -> Result<Vec<u8>, RowsError>
     requires ready { IsRoot domain.now shared.now root.old }
     requires under_none { snapshots root.old.view.core ≡ [] }
-    requires owns { (s : SlotId) → times s root.old.view.core.owned
-        ≡ times s (slots_of kept.items) }
-    requires weakly { (s : SlotId) → times s root.old.view.core.weaks ≡ 0 }
-    requires words { AreWords tallies.now }
-    requires counts { CountWork work.now tallies.now }
-    requires keeps { KeepsWork work.now (slots_of kept.items) root.old }
-    requires small { All (λ (f : File). All AreBytes f) (texts_in work.now) }
+    requires counted { HasCounted work.now kept.items tallies.now root.old }
     requires work { IsWork work.now }
     requires cells { domain.now.shape.cells ≡ 2 }
     requires weighs { Weighs ⟦<PairKind<NodeKind, RecordKind> as PayloadKind>⟧.fits

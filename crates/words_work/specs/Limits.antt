@@ -1,5 +1,5 @@
 -- How contents are to be counted, and within which limits.
-use Rattle.std.specs.Prelude.{ℕ, ◌+◌, ◌*◌, ◌<◌, ◌≤◌, ◌⊎◌, Bool, true, false, List, length, map, string_bytes, unwrap_or, IfSome}
+use Rattle.std.specs.Prelude.{ℕ, ◌≡◌, ◌+◌, ◌*◌, ◌<◌, ◌≤◌, ◌⊎◌, Bool, true, false, List, Some, length, map, string_bytes, unwrap_or, IfSome}
 use Rattle.std.specs.List.{sum_by}
 use Rattle.command_line.specs.declared.asked.WordsArgs.{WordsArgs}
 use Rattle.queue_law.specs.declared.view.Form.{Form}
@@ -47,6 +47,11 @@ slots_needed rounds files = rounds * (pieces_in_all files + parts_in_all files) 
 -- the slots that are asked for, or so many as serve
 abbrev pub slots_for : Plan → List File → ℕ
 slots_for plan files = unwrap_or plan.slots (slots_needed plan.rounds files)
+
+-- a number of slots is asked for, and it is below the one that serves
+abbrev pub AsksTooFewSlots : Plan → List File → Type 0
+AsksTooFewSlots plan files =
+    (n : ℕ) × (plan.slots ≡ Some n) × (n < slots_needed plan.rounds files)
 
 abbrev pub most_files : ℕ
 most_files = 4096

@@ -15,7 +15,7 @@ use Rattle.lane_reports.specs.Refusals.{IsWhyNothing}
 use Rattle.lane_reports.specs.Reporting.{IsLast}
 use Rattle.lane_reports.specs.declared.counted.CountError.TheVariants as uncounted
 use Rattle.words_work.specs.Contents.{AreContents, IsTooLong, Told}
-use Rattle.words_work.specs.Limits.{HasTooMany, IsWithinLimits, most_bytes, most_files, slots_for}
+use Rattle.words_work.specs.Limits.{AsksTooFewSlots, HasTooMany, IsWithinLimits, most_bytes, most_files, slots_for}
 use Rattle.words_work.specs.declared.plan.Plan.{Plan}
 use Rattle.words_work.specs.declared.outcome.WordsDone.{WordsDone}
 use Rattle.words_work.specs.declared.outcome.WordsRefused.{WordsRefused}
@@ -47,8 +47,9 @@ pub record IsDone (told : Told) (names : List (List ℕ)) (plan : Plan) (done : 
   pub counted : IsCounted plan contents done
 
 module _ (fits : List ℕ → Type 0) where
-  -- this seat of a domain for the work on the contents found each slot taken
+  -- fewer slots were asked for than serve, and this seat of a domain for the work on the contents found each one taken
   pub record IsFull (plan : Plan) (contents : List (List ℕ)) (seat : SeatState View) : Type 0 where
+    pub few : AsksTooFewSlots plan (map pieces_of contents)
     pub work : Work
     pub on : IsWorkOn plan.rounds contents work
     pub full :

@@ -7,7 +7,7 @@ pub loop-i-preserved : goal.loop-i-preserved
 loop-i-preserved c = λ s h.
     elim (cases_lt s.0 c.loop-i.i) [
       | inl l ↦ c.loop-i.invariant s l
-      | inr g ↦ (let same : slot c.loop-i.i ≡ s = ap slot (omega (arith, h, g)) in subst (ObeysAt c.args.heap.now) same (c.obeys.ensures (search rules)))
+      | inr g ↦ (let same : slot c.loop-i.i ≡ s = ap slot (omega (arith, h, g)) in subst (ObeysAt c.args.heap.now) same (c.obeys.ensures.0 (search rules)))
     ]
 
 pub returns : goal.returns

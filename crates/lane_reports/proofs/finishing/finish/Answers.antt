@@ -8,8 +8,7 @@ use Rattle.words_law.specs.Known.{KnowsMore}
 use Rattle.words_law.specs.Views.{View}
 use Rattle.lane_reports.specs.Gathering.{Tally}
 use Rattle.lane_reports.specs.Counting.{CountsAll}
-use Rattle.lane_reports.specs.Reporting.{CountWork}
-use Rattle.lane_reports.specs.Rows.{AreWords}
+use Rattle.lane_reports.specs.Reporting.{HasCounted}
 use Rattle.lane_reports.specs.Words.{Tallies}
 use Rattle.lane_reports.proofs.Counting.{counts_all}
 use Rattle.lane_reports.proofs.Finished.{all_known}
@@ -35,77 +34,18 @@ write_report-requires-clause-under_none g c =
     (subst IsUnderNone (sym c.holds_nothing-is_null.ensures.learns.core)
     c.shut_and_settle.ensures.none)
 
-pub write_report-requires-clause-owns : goal.write_report-requires-clause-owns
-write_report-requires-clause-owns g c =
-    let known = all_known _ c.args.domain.now c.args.work.now c.requires.work c.requires.within.interns
+pub write_report-requires-clause-counted : goal.write_report-requires-clause-counted
+write_report-requires-clause-counted g c =
+    subst (λ (ts : Tallies). HasCounted c.args.work.now c.in_ok-tallies.field-0.kept.items ts
+    c.holds_nothing-is_null.new.root) (sym c.deref.ensures.value)
+    (all_known _ c.args.domain.now c.args.work.now c.requires.work c.requires.within.interns
     c.args.done.items c.requires.some c.args.root.now c.gather.new.root c.take_rest.new.root
     c.shut_and_settle.new.root c.holds_nothing-is_null.new.root
     c.in_ok-tallies.field-0.tallies.items c.in_ok-tallies-2.tallies.items
     c.in_ok-tallies.field-0.kept.items c.in_ok-tallies.ensures.gathers c.requires.bare
     c.requires.named c.in_ok-tallies-2.ensures.takes c.take_rest.ensures.owns
     c.shut_and_settle.ensures.shuts c.holds_nothing-is_null.ensures.learns
-    c.holds_nothing-is_null.ensures.rest in
-    known.owned
-
-pub write_report-requires-clause-weakly : goal.write_report-requires-clause-weakly
-write_report-requires-clause-weakly g c =
-    let known = all_known _ c.args.domain.now c.args.work.now c.requires.work c.requires.within.interns
-    c.args.done.items c.requires.some c.args.root.now c.gather.new.root c.take_rest.new.root
-    c.shut_and_settle.new.root c.holds_nothing-is_null.new.root
-    c.in_ok-tallies.field-0.tallies.items c.in_ok-tallies-2.tallies.items
-    c.in_ok-tallies.field-0.kept.items c.in_ok-tallies.ensures.gathers c.requires.bare
-    c.requires.named c.in_ok-tallies-2.ensures.takes c.take_rest.ensures.owns
-    c.shut_and_settle.ensures.shuts c.holds_nothing-is_null.ensures.learns
-    c.holds_nothing-is_null.ensures.rest in
-    known.weakly
-
-pub write_report-requires-clause-keeps : goal.write_report-requires-clause-keeps
-write_report-requires-clause-keeps g c =
-    let known = all_known _ c.args.domain.now c.args.work.now c.requires.work c.requires.within.interns
-    c.args.done.items c.requires.some c.args.root.now c.gather.new.root c.take_rest.new.root
-    c.shut_and_settle.new.root c.holds_nothing-is_null.new.root
-    c.in_ok-tallies.field-0.tallies.items c.in_ok-tallies-2.tallies.items
-    c.in_ok-tallies.field-0.kept.items c.in_ok-tallies.ensures.gathers c.requires.bare
-    c.requires.named c.in_ok-tallies-2.ensures.takes c.take_rest.ensures.owns
-    c.shut_and_settle.ensures.shuts c.holds_nothing-is_null.ensures.learns
-    c.holds_nothing-is_null.ensures.rest in
-    known.keeps
-
-pub write_report-requires-clause-small : goal.write_report-requires-clause-small
-write_report-requires-clause-small g c =
-    let known = all_known _ c.args.domain.now c.args.work.now c.requires.work c.requires.within.interns
-    c.args.done.items c.requires.some c.args.root.now c.gather.new.root c.take_rest.new.root
-    c.shut_and_settle.new.root c.holds_nothing-is_null.new.root
-    c.in_ok-tallies.field-0.tallies.items c.in_ok-tallies-2.tallies.items
-    c.in_ok-tallies.field-0.kept.items c.in_ok-tallies.ensures.gathers c.requires.bare
-    c.requires.named c.in_ok-tallies-2.ensures.takes c.take_rest.ensures.owns
-    c.shut_and_settle.ensures.shuts c.holds_nothing-is_null.ensures.learns
-    c.holds_nothing-is_null.ensures.rest in
-    known.small
-
-pub write_report-requires-clause-words : goal.write_report-requires-clause-words
-write_report-requires-clause-words g c =
-    let known = all_known _ c.args.domain.now c.args.work.now c.requires.work c.requires.within.interns
-    c.args.done.items c.requires.some c.args.root.now c.gather.new.root c.take_rest.new.root
-    c.shut_and_settle.new.root c.holds_nothing-is_null.new.root
-    c.in_ok-tallies.field-0.tallies.items c.in_ok-tallies-2.tallies.items
-    c.in_ok-tallies.field-0.kept.items c.in_ok-tallies.ensures.gathers c.requires.bare
-    c.requires.named c.in_ok-tallies-2.ensures.takes c.take_rest.ensures.owns
-    c.shut_and_settle.ensures.shuts c.holds_nothing-is_null.ensures.learns
-    c.holds_nothing-is_null.ensures.rest in
-    subst (λ (ts : Tallies). AreWords ts) (sym c.deref.ensures.value) known.words
-
-pub write_report-requires-clause-counts : goal.write_report-requires-clause-counts
-write_report-requires-clause-counts g c =
-    let known = all_known _ c.args.domain.now c.args.work.now c.requires.work c.requires.within.interns
-    c.args.done.items c.requires.some c.args.root.now c.gather.new.root c.take_rest.new.root
-    c.shut_and_settle.new.root c.holds_nothing-is_null.new.root
-    c.in_ok-tallies.field-0.tallies.items c.in_ok-tallies-2.tallies.items
-    c.in_ok-tallies.field-0.kept.items c.in_ok-tallies.ensures.gathers c.requires.bare
-    c.requires.named c.in_ok-tallies-2.ensures.takes c.take_rest.ensures.owns
-    c.shut_and_settle.ensures.shuts c.holds_nothing-is_null.ensures.learns
-    c.holds_nothing-is_null.ensures.rest in
-    subst (λ (ts : Tallies). CountWork c.args.work.now ts) (sym c.deref.ensures.value) known.counts
+    c.holds_nothing-is_null.ensures.rest)
 
 pub returns-clause-counts : goal.returns-clause-counts
 returns-clause-counts g c =

@@ -35,14 +35,14 @@ count_rows-requires-clause-owned g c k d h =
     let s = (slice_index_or c.in_ok-records.records.items k d).slot in
     let some = (c.in_ok-records.ensures.records k d h).held in
     let kept = ap (λ (hs : List Handle). times s (slots_of hs)) c.deref.ensures.value in
-    let owns = c.requires.owns s in
+    let owns = c.requires.counted.owned s in
     let left = c.find_records.ensures.leaves.owns s in
     let same = ap (λ (v : CoreView). times s v.owned) c.audit_at_rest.ensures.same in
     omega (arith, some, kept, owns, left, same)
 
 pub give_all-requires-clause-owned : goal.give_all-requires-clause-owned
 give_all-requires-clause-owned g c s =
-    let owns = c.requires.owns s in
+    let owns = c.requires.counted.owned s in
     let left = c.find_records.ensures.leaves.owns s in
     let same = ap (λ (v : CoreView). times s v.owned) c.audit_at_rest.ensures.same in
     let counted = c.count_rows.ensures.leaves.owns s in omega (arith, owns, left, same, counted)
@@ -51,7 +51,7 @@ pub audit_at_rest-requires-2-clause-weakly : goal.audit_at_rest-requires-2-claus
 audit_at_rest-requires-2-clause-weakly g c s =
     c.give_all.ensures.gives.weakly s ∙ c.count_rows.ensures.leaves.weakly s
     ∙ ap (λ (v : CoreView). times s v.weaks) c.audit_at_rest.ensures.same
-    ∙ c.find_records.ensures.leaves.weakly s ∙ c.requires.weakly s
+    ∙ c.find_records.ensures.leaves.weakly s ∙ c.requires.counted.weakly s
 
 pub returns-clause-nothing : goal.returns-clause-nothing
 returns-clause-nothing g c = record {
@@ -59,7 +59,7 @@ returns-clause-nothing g c = record {
       c.give_all.new.root c.audit_at_rest-2.new.root
       (λ s. c.count_rows.ensures.leaves.owns s
       ∙ ap (λ (v : CoreView). times s v.owned) c.audit_at_rest.ensures.same
-      ∙ c.find_records.ensures.leaves.owns s ∙ c.requires.owns s)
+      ∙ c.find_records.ensures.leaves.owns s ∙ c.requires.counted.owned s)
       refl c.give_all.ensures.gives c.audit_at_rest-2.ensures.same;
   deferred = c.audit_at_rest-2.ensures.settled;
 }
@@ -73,26 +73,26 @@ returns-clause-report g c =
     c.count_rows.new.root c.give_all.new.root c.audit_at_rest-2.new.root
     (λ s. c.count_rows.ensures.leaves.owns s
     ∙ ap (λ (v : CoreView). times s v.owned) c.audit_at_rest.ensures.same
-    ∙ c.find_records.ensures.leaves.owns s ∙ c.requires.owns s)
+    ∙ c.find_records.ensures.leaves.owns s ∙ c.requires.counted.owned s)
     refl c.give_all.ensures.gives c.audit_at_rest-2.ensures.same in
     subst (IsReport (texts_in c.args.work.now) c.args.work.now.rounds)
     (sym (text_is c.args.work.now c.in_ok-text.text.items c.deref-4.result.now
     c.in_ok-rows.rows.items _ c.in_ok-held.held c.in_ok-freed.freed c.in_ok-text.ensures
     c.deref-4.ensures.value (c.len.ensures ∙ size) c.count_pieces.ensures c.audit_line.ensures
     c.audit_line-2.ensures))
-    (written c.args.domain.now (λ words. 0) _ c.args.work.now c.requires.work c.requires.small
+    (written c.args.domain.now (λ words. 0) _ c.args.work.now c.requires.work c.requires.counted.small
     (slots_of c.args.kept.items) c.args.tallies.now c.in_ok-records.records.items
     c.args.root.now c.find_records.new.root c.audit_at_rest.new.root c.in_ok-held.held
-    c.requires.keeps c.requires.counts c.in_ok-records.ensures.words
+    c.requires.counted.keeps c.requires.counted.counts c.in_ok-records.ensures.words
     (subst (λ (hs : List Handle). All (IsRecordOf (slots_of hs) c.find_records.new.root)
     c.in_ok-records.records.items) c.deref.ensures.value c.in_ok-records.ensures.records)
     (learns_more c.args.root.now.view.client.1 c.find_records.new.root.view.client.1
     c.find_records.ensures.learns.part).knows
-    (λ s some. let owns = c.requires.owns s in let left = c.find_records.ensures.leaves.owns s in
+    (λ s some. let owns = c.requires.counted.owned s in let left = c.find_records.ensures.leaves.owns s in
     ap (λ (o : Object). o.life)
     (c.find_records.ensures.leaves.knows s (omega (arith, some, owns))
     (omega (arith, some, owns, left))))
-    (λ s. c.find_records.ensures.leaves.owns s ∙ c.requires.owns s)
+    (λ s. c.find_records.ensures.leaves.owns s ∙ c.requires.counted.owned s)
     (λ s. ap (λ (v : CoreView). times s v.owned) c.audit_at_rest.ensures.same)
     c.audit_at_rest.ensures.objects c.audit_at_rest.ensures.client held c.in_ok-freed.freed
     (nothing_found c.args.domain.now _ _ c.audit_at_rest-2.new.root c.in_ok-freed.freed freed

@@ -1,5 +1,6 @@
-use Rattle.std.proofs.Common.{ℕ, List, ap, subst, ◌∙◌}
+use Rattle.std.proofs.Common.{ℕ, ◌<◌, List, map, ap, subst, ◌∙◌}
 use Rattle.cdrc_text.specs.Fold.{File}
+use Rattle.cdrc_text.specs.Pieces.{pieces_of}
 use Rattle.cdrc_text.specs.Text.{IsReport}
 use Rattle.lane_domain.specs.Sizes.{texts_in}
 use Rattle.protocol_pairs.specs.Shares.{FitsItsPart}
@@ -9,7 +10,9 @@ use Rattle.lane_reports.specs.Refusals.{IsWhyNothing}
 use Rattle.lane_reports.specs.Reporting.{IsLast}
 use Rattle.lane_reports.specs.declared.counted.CountError.{CountError}
 use Rattle.lane_reports.specs.declared.counted.CountError.TheVariants as uncounted
-use Rattle.words_work.specs.Limits.{slots_for}
+use Rattle.words_work.specs.Limits.{slots_for, slots_needed}
+use Rattle.words_work.specs.Outcomes.{bytes_of}
+use Rattle.words_work.proofs.Sizes.{asks_few}
 use Rattle.words_work.proofs.working.count_contents.Goals as goal
 
 pub returns-in-Ok-clause-done : goal.returns-in-Ok-clause-done
@@ -29,13 +32,21 @@ returns-in-Ok-clause-done g c =
 
 pub returns-in-Err-Full-clause-why : goal.returns-in-Err-Full-clause-why
 returns-in-Err-Full-clause-why g c =
+    let contents = bytes_of c.args.contents.items in
     let plan = c.args.plan in let work = c.in_ok-work.work in let on = c.in_ok-work.ensures.on in
     let slots = c.slots_for-slots.ensures ∙ ap (slots_for plan) on.texts in
     let fits = FitsItsPart IsNodePayload IsPiece in
     let why = subst (λ (e : CountError). IsWhyNothing fits work plan.lanes c.slots_for-slots.result plan.form e)
-    c.in-Err-Full.field-0-is c.in-Err-Full.ensures.why in (
+    c.in-Err-Full.field-0-is c.in-Err-Full.ensures.why in
+    let asked = c.slots_for-slots.result in
+    let few : slots_for plan (map pieces_of contents)
+    < slots_needed plan.rounds (map pieces_of contents) =
+    subst (λ (n : ℕ). n < slots_needed plan.rounds (map pieces_of contents)) slots
+    (subst (λ (fs : List File). asked < slots_needed plan.rounds fs) on.texts
+    (subst (λ (n : ℕ). asked < slots_needed n (texts_in work)) on.often why.2)) in (
       c.in_ok-work.ensures.within,
       record {
+        few = asks_few plan.slots (slots_needed plan.rounds (map pieces_of contents)) few;
         work = work;
         on = on;
         full = subst (λ (n : ℕ). IsWhyNothing fits work plan.lanes n plan.form
