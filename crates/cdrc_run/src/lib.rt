@@ -32,11 +32,3 @@ pub use outcome::{End, Why};
 pub use running::run;
 pub use starting::start;
 
-#[cfg(test)]
-mod tests;
-#[cfg(test)]
-mod tests_drawing;
-#[cfg(test)]
-mod tests_gate;
-#[cfg(test)]
-mod tests_words;

@@ -17,10 +17,6 @@ mod cutting;
 mod outcome;
 mod plan;
 mod reading;
-#[cfg(test)]
-mod tests;
-#[cfg(test)]
-mod tests_refusals;
 mod working;
 
 pub use outcome::{WordsDone, WordsRefused};

@@ -1,7 +1,7 @@
 //! Which turns a run passes at its gate.
 
-use crate::running::run;
-use crate::tests::{file_of_bytes, words_of};
+use crate::runs::{file_of_bytes, words_of};
+use cdrc_run::run;
 use crossbeam_utils::atomic::AtomicCell;
 use lane_gate::{Gate, HonestFiles, HonestSink};
 use std::sync::Wait;

@@ -1,12 +1,9 @@
 //! What no clause says: the worked reports byte for byte, the texts, and that a run succeeds with ample memory.
 
-use crate::explaining::explain;
-use crate::running::run;
-use lane_gate::{Files, HonestFiles, HonestSink, MemFiles, MemSink, Open, Sink};
-use std::alloc::{AllocError, Global};
-use std::sync::Wait;
+use crate::runs::{file_of_bytes, status_of};
+use cdrc_run::{explain, run};
+use lane_gate::{HonestFiles, HonestSink, MemFiles, MemSink, Open};
 use std::test::Fail;
-use std::thread::Threads;
 
 /// The three lines of a file of no words.
 pub const NO_WORDS: &str = "files 1 pieces 0 distinct 0\n\
@@ -19,35 +16,6 @@ pub const A_B_A: &str = "2 1 a\n\
                      files 1 pieces 3 distinct 2\n\
                      held live 2 deferred 0 cyclic 0 bytes 2\n\
                      freed live 0 deferred 0 cyclic 0 bytes 0\n";
-
-/// The words of a line, which stand between single spaces.
-pub fn words_of(alloc: Global, line: &str) -> Result<Vec<String>, AllocError> {
-    let mut words = Vec::new(alloc);
-    for word in line.split(' ') {
-        words.push(String::from_str(alloc, word)?)?;
-    }
-    Ok(words)
-}
-
-/// The one file `f`.
-pub fn file_of_bytes(alloc: Global, content: &[u8]) -> Result<Vec<(String, Vec<u8>)>, AllocError> {
-    let mut entries = Vec::new(alloc);
-    let name = String::from_str(alloc, "f")?;
-    entries.push((name, Vec::from_slice(alloc, content)?))?;
-    Ok(entries)
-}
-
-/// The status of a run of these words, at the gate that holds nobody.
-pub fn status_of<R: Threads + Wait + Sync, F: Files, K: Sink>(
-    rt: &R,
-    alloc: Global,
-    line: &str,
-    files: &mut F,
-    sink: &mut K,
-) -> Result<u8, AllocError> {
-    let words = words_of(alloc, line)?;
-    Ok(run(rt, alloc, &words, files, sink, &Open).status)
-}
 
 #[test]
 fn words_that_are_not_understood(rt: HostRuntime) -> Result<(), Fail> {

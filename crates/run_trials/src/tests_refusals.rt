@@ -1,7 +1,8 @@
 //! What is refused, and what few slots do.
 ghost use Rattle.std.specs.Prelude.{◌≤◌};
 
-use crate::tests::{Ended, FOUR, count, names_of_two, two};
+use crate::calls::{Ended, count, names_of_two, two};
+use crate::tests_reports::FOUR;
 use command_line::WordsArgs;
 use lane_gate::{HonestFiles, MemFiles};
 use std::alloc::{AllocError, Global};

@@ -1,6 +1,6 @@
 //! The words that `gen` draws, byte for byte, and which of its numbers are understood.
 
-use crate::tests::status_of;
+use crate::runs::status_of;
 use lane_gate::{HonestFiles, HonestSink, MemSink};
 use std::test::Fail;
 

@@ -1,8 +1,8 @@
 //! The reports of files, byte for byte, the options of `words`, and the evidence that is left.
 
-use crate::outcome::Why;
-use crate::running::run;
-use crate::tests::{A_B_A, NO_WORDS, file_of_bytes, status_of, words_of};
+use crate::runs::{file_of_bytes, status_of, words_of};
+use crate::tests_runs::{A_B_A, NO_WORDS};
+use cdrc_run::{Why, run};
 use lane_gate::{HonestFiles, HonestSink, MemSink, Open};
 use std::test::Fail;
 
