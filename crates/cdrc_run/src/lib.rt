@@ -31,4 +31,3 @@ pub use explaining::{exit_status, explain};
 pub use outcome::{End, Why};
 pub use running::run;
 pub use starting::start;
-

@@ -9,7 +9,7 @@ use Rattle.words_work.specs.Limits.{pieces_in_all}
 pub asks_few : (asked : Option ℕ) (needed : ℕ) → unwrap_or asked needed < needed
     → (n : ℕ) × (asked ≡ Some n) × (n < needed)
 asks_few (Some n) needed few = (n, refl, few)
-asks_few None needed few = absurd (omega few)
+asks_few None needed few = absurd (omega (arith, few))
 
 pub pieces_push : (files : List File) (file : File)
     → pieces_in_all (files ++ file ∷ []) ≡ pieces_in_all files + length file
