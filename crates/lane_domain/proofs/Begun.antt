@@ -1,8 +1,7 @@
 -- A seat that attaches before its lane runs.
-use Rattle.std.proofs.Common.{◌≡◌, ℕ, ◌<◌, ◌≤◌, List, [], refl, sym, ap, subst, ◌∙◌, arith}
-use Rattle.plain_state.specs.Lists.{times}
+use Rattle.std.proofs.Common.{◌≡◌, [], ap, ◌∙◌, arith}
 use Rattle.core_events.specs.declared.view.CoreView.{CoreView}
-use Rattle.core_events.specs.Views.{no_notes, note_of}
+use Rattle.core_events.specs.Views.{note_of}
 use Rattle.core_events.specs.Steps.{HasRoom}
 use Rattle.acquire_retire.specs.Domains.{DomainState}
 use Rattle.acquire_retire.specs.Seats.{SeatState}

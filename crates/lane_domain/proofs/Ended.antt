@@ -1,5 +1,5 @@
 -- What a lane leaves of its seat, whether it ran to its end or stopped.
-use Rattle.std.proofs.Common.{◌≡◌, ℕ, List, [], sym, ap, ◌∙◌}
+use Rattle.std.proofs.Common.{◌≡◌, ℕ, List, [], ap, ◌∙◌}
 use Rattle.std.specs.Prelude.{IfErr, OnOk, Result, Ok, Err}
 use Rattle.core_events.specs.declared.view.CoreView.{CoreView}
 use Rattle.acquire_retire.specs.Domains.{DomainState}

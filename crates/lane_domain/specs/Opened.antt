@@ -1,5 +1,5 @@
 -- A domain that was opened for some work, and its seats.
-use Rattle.std.specs.Prelude.{ℕ, ◌≡◌, ◌<◌, ◌≤◌, ◌+◌, ◌*◌, ◌^◌, List, [], ◌∷◌, max, replicate}
+use Rattle.std.specs.Prelude.{ℕ, ◌≡◌, ◌<◌, ◌≤◌, ◌+◌, ◌*◌, ◌^◌, List, [], ◌∷◌, replicate}
 use Rattle.plain_state.specs.declared.slot.SlotId.{SlotId}
 use Rattle.plain_state.specs.Lists.{times}
 use Rattle.core_events.specs.declared.shape.Quota.{Quota}
@@ -35,9 +35,10 @@ root_quota = record { makes = 2; adds = 2 ^ 40 }
 abbrev pub lane_quota : Quota
 lane_quota = record { makes = 0; adds = 2 ^ 40 }
 
--- two weak cells for each intern, so that at most every other one is ever set, and at least one
+-- Two weak cells for each intern, so that at most every other one is ever set, and one more. Their number is odd: the
+-- place of a text is its hash modulo that number, and modulo a power of 2 the hash is but a sum of the bytes.
 abbrev pub cells_for : Work → ℕ
-cells_for work = max (2 * (work.rounds * all_pieces work)) 1
+cells_for work = 2 * (work.rounds * all_pieces work) + 1
 
 abbrev pub shape_for : Work → ℕ → ℕ → Shape
 shape_for work lanes slots = record {

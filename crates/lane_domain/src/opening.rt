@@ -44,7 +44,8 @@ const LANE: Quota = Quota {
 };
 
 /// A walk of the directory ends at a null cell. Where half of all cells stay null, that is soon, even if no two pieces
-/// are the same word.
+/// are the same word. There is one more, since the place of a text is its hash modulo the number of cells: modulo a
+/// power of 2 that hash is but a sum of the bytes.
 const CELLS_FOR_EACH: u64 = 2;
 
 /// A domain and its seats.
@@ -98,7 +99,7 @@ fn begin(
     ensures seats { IfOk result (λ begun. begun.seats.items ≡ fresh_lanes begun.domain lanes) }
 {
     let interns = work.rounds * count_pieces(work);
-    let weak_cells = (CELLS_FOR_EACH * interns).max(1) as u32;
+    let weak_cells = (CELLS_FOR_EACH * interns + 1) as u32;
     let shape = Shape {
         seats: lanes + 1,
         slots,

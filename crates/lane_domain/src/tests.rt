@@ -61,7 +61,7 @@ fn two_files_of_two_pieces_are_opened(rt: HostRuntime) -> Result<(), Fail> {
     };
     assert_eq!(rt;
         (opened.seats.len(), opened.domain.shape().weak_cells),
-        (2, 24)
+        (2, 25)
     );
     Ok(())
 }

@@ -1,4 +1,4 @@
-use Rattle.std.proofs.Common.{◌≡◌, arith}
+use Rattle.std.proofs.Common.{arith}
 use Rattle.lane_domain.proofs.running.run_jobs.Goals as goal
 
 pub returns : goal.returns
