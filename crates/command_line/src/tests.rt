@@ -80,11 +80,8 @@ fn understood(rt: HostRuntime) -> Result<(), Fail> {
 }
 
 #[test]
-fn refused(rt: HostRuntime) -> Result<(), Fail> {
+fn words_that_are_refused(rt: HostRuntime) -> Result<(), Fail> {
     for line in [
-        "",
-        "word f",
-        "Words f",
         "words",
         "words --",
         "words -x",
@@ -119,6 +116,18 @@ fn refused(rt: HostRuntime) -> Result<(), Fail> {
         "words --version",
         "words -l 3 f",
         "words --operand f",
+    ] {
+        assert_eq!(rt; told(rt.alloc(), line)?.as_str(), "none", "{line}");
+    }
+    Ok(())
+}
+
+#[test]
+fn other_commands_that_are_refused(rt: HostRuntime) -> Result<(), Fail> {
+    for line in [
+        "",
+        "word f",
+        "Words f",
         "help",
         "--help",
         "-h",

@@ -237,59 +237,47 @@ fn walks_are_checked(rt: HostRuntime) -> Result<(), OutOfMemory> {
     Ok(())
 }
 
+/// Whether a heap of these slots, cells and deferred entries is lawful.
+fn is_lawful(
+    alloc: Global,
+    rows: &[Row],
+    cells: &[u64],
+    deferred: &[(Kind, SlotId)],
+) -> Result<bool, AllocError> {
+    let heap = heap_of(alloc, rows, cells, deferred)?;
+    Ok(lawful(&heap))
+}
+
 #[test]
-fn lawful_heaps_are_told(rt: HostRuntime) -> Result<(), OutOfMemory> {
+fn a_count_covers_its_entries(rt: HostRuntime) -> Result<(), OutOfMemory> {
     let alloc = rt.alloc();
     let one = [(1, [None, None], 1, 1)];
-    for (cells, deferred, is_lawful) in [
-        ([1, 0].as_slice(), [].as_slice(), true),
-        ([1, 1].as_slice(), [].as_slice(), false),
-        ([1, 2].as_slice(), [].as_slice(), false),
-        (
-            [0, 0].as_slice(),
-            [(Kind::Strong, SlotId(0))].as_slice(),
-            true,
-        ),
-        (
-            [1, 0].as_slice(),
-            [(Kind::Strong, SlotId(0))].as_slice(),
-            false,
-        ),
-        (
-            [1, 0].as_slice(),
-            [(Kind::Weak, SlotId(0))].as_slice(),
-            true,
-        ),
-        (
-            [1, 0].as_slice(),
-            [(Kind::Weak, SlotId(1))].as_slice(),
-            false,
-        ),
-    ] {
-        let heap = heap_of(alloc, &one, cells, deferred)?;
-        assert!(rt; lawful(&heap) == is_lawful, "{cells:?} {deferred:?}");
-    }
-    for (rows, is_lawful) in [
-        (
-            [(1, [Some(1), None], 1, 1), (2, [Some(0), None], 1, 2)],
-            true,
-        ),
-        (
-            [(1, [Some(1), None], 1, 1), (2, [Some(0), Some(0)], 1, 2)],
-            false,
-        ),
-        ([(1, [None, None], 1, 1), (0, [None, None], 1, 2)], false),
-        (
-            [(1, [None, None], 1, 1), (ZERO, [Some(0), None], 1, 2)],
-            false,
-        ),
-        (
-            [(0, [Some(1), None], 1, 1), (ZERO, [None, None], 1, 2)],
-            false,
-        ),
-    ] {
-        let heap = heap_of(alloc, &rows, &[], &[])?;
-        assert!(rt; lawful(&heap) == is_lawful, "{rows:?}");
-    }
+    let strong = [(Kind::Strong, SlotId(0))];
+    let weak = [(Kind::Weak, SlotId(0))];
+    let beyond = [(Kind::Weak, SlotId(1))];
+    assert!(rt; is_lawful(alloc, &one, &[1, 0], &[])?);
+    assert!(rt; !is_lawful(alloc, &one, &[1, 1], &[])?);
+    assert!(rt; !is_lawful(alloc, &one, &[1, 2], &[])?);
+    assert!(rt; is_lawful(alloc, &one, &[], &strong)?);
+    assert!(rt; !is_lawful(alloc, &one, &[1], &strong)?);
+    assert!(rt; is_lawful(alloc, &one, &[1], &weak)?);
+    assert!(rt; !is_lawful(alloc, &one, &[1], &beyond)?);
+    Ok(())
+}
+
+#[test]
+fn a_slot_that_is_not_live_is_bare(rt: HostRuntime) -> Result<(), OutOfMemory> {
+    let alloc = rt.alloc();
+    let free = (ZERO, [None, None], 0, 2);
+    let to_second = (1, [Some(1), None], 1, 1);
+    let to_first = (2, [Some(0), None], 1, 2);
+    let to_first_twice = (2, [Some(0), Some(0)], 1, 2);
+    assert!(rt; is_lawful(alloc, &[to_second, to_first], &[], &[])?);
+    assert!(rt; !is_lawful(alloc, &[to_second, to_first_twice], &[], &[])?);
+    assert!(rt; !is_lawful(alloc, &[to_second, free], &[], &[])?);
+    let alone = (1, [None, None], 1, 1);
+    assert!(rt; is_lawful(alloc, &[alone, free], &[], &[])?);
+    assert!(rt; !is_lawful(alloc, &[alone, (0, [None, None], 1, 2)], &[], &[])?);
+    assert!(rt; !is_lawful(alloc, &[alone, (ZERO, [Some(0), None], 1, 2)], &[], &[])?);
     Ok(())
 }

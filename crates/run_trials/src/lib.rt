@@ -1,9 +1,9 @@
 //! Trials of whole runs: what `run` and `words_work` write of files that are held in memory, byte for byte, and with
 //! which status they end.
 //!
-//! What a run may write is a clause of `run`. Here stands what no clause says: that a run succeeds with ample memory, and
-//! worked outputs, whose bytes were worked out by hand from the rules. The calls that are not tests hand in files by
-//! their contents, and answer how a run ended.
+//! What a run may write is a clause of `run`. Here stands what no clause says: that a run succeeds with ample memory,
+//! and worked outputs, whose bytes were worked out by hand from the rules. The calls that are not tests hand in files
+//! by their contents, and answer how a run ended.
 //!
 //! It is for tests: nothing is promised but that each call may be made.
 //!
