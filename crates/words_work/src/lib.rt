@@ -8,8 +8,8 @@
 //! It isn't promised that a call returns, since lanes may retry and a gate may wait, nor when memory is enough.
 //!
 //! ```text
-//! let done = words_work(rt, alloc, &args, &mut files, &gate, &weigh)?;      // args of `command_line` done.bytes
-//! // `3 2 a`, `1 1 b`, and three lines of numbers
+//! let done = words_work(rt, alloc, &args, &mut files, &gate, &weigh)?; // args as `command_line` reads them
+//! done.bytes                                                           // `3 2 a`, `1 1 b`, and three lines
 //! ```
 #![tactic(auto)]
 
