@@ -1,5 +1,6 @@
 -- Acts that a seat makes in turn, each with the answer that is expected, for tests.
 use Rattle.std.specs.Prelude.{ℕ, ◌≡◌, ◌+◌, ◌^◌, ◌<◌, ◌≤◌, List, [], ◌∷◌, ◌++◌, length, slice_index, None}
+use Rattle.plain_state.specs.Limits.{words_of_payload}
 use Rattle.plain_state.specs.declared.act.EventPlace.TheVariants.{Field, WeakField}
 use Rattle.plain_state.specs.declared.slot.Kind.TheVariants.{Weak}
 use Rattle.plain_state.specs.declared.slot.SlotId.{SlotId}
@@ -87,7 +88,7 @@ module _ {V : Type 0} where
   -- the seat has filled the first n words of the slot that it has claimed
   pub record Fills (payload : List ℕ) (n : ℕ) (s : SlotId) (old new : SeatState V) : Type 0 where
     pub core : new.view.core ≡ record old.view.core { trail = new.view.core.trail }
-    pub size : length (object_in new.view s).payload ≡ 16
+    pub size : length (object_in new.view s).payload ≡ words_of_payload
     pub words :
         (i : ℕ) → i < n
         → slice_index (object_in new.view s).payload i ≡ slice_index payload i

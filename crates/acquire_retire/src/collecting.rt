@@ -9,6 +9,7 @@ use crate::payment::{Payment, Work};
 use crate::seat::Seat;
 use core_events::Outcome;
 use plain_protocol::Protocol;
+use plain_state::WORDS_OF_SEAT;
 
 impl<P: Protocol> Domain<P> {
     /// Ejects what is no longer announced: reads the announcement words of all seats once, keeps of equal retired
@@ -23,7 +24,7 @@ impl<P: Protocol> Domain<P> {
         requires owes_nothing { seat.old.view.core.owed ≡ [] }
         ensures { Collects P.Kind.fits self.now seat.old seat.new result }
     {
-        let scanned = 4 * self.shape.seats;
+        let scanned = WORDS_OF_SEAT * self.shape.seats;
         let ejected = self.scan_all(seat);
         let ended = self.pay_all(seat, ejected);
         Work {
@@ -40,7 +41,7 @@ impl<P: Protocol> Domain<P> {
         requires owes_nothing { seat.old.view.core.owed ≡ [] }
         ensures { ReadsAllButOne P.Kind.fits self.now seat.old seat.new }
     {
-        for _place in seat.read + 1..4 * self.shape.seats {
+        for _place in seat.read + 1..WORDS_OF_SEAT * self.shape.seats {
             self.scan(seat);
         }
     }

@@ -1,5 +1,6 @@
 //! The whole state of a domain, as words.
 ghost use Rattle.std.specs.Prelude.{◌≡◌, ◌+◌, ◌<◌, ◌≤◌, [], false, IfOk, IsSome};
+ghost use Rattle.plain_state.specs.Limits.{words_of_payload};
 ghost use Rattle.plain_state.specs.Images.{IsImage, image_at};
 ghost use Rattle.plain_state.specs.State.{seat_at};
 ghost use Rattle.core_events.specs.Words.{each_from};
@@ -78,7 +79,7 @@ impl<P: Protocol> Domain<P> {
         first: usize,
     ) -> [u64; 16]
         requires knows { KnowsCore self.now P.Kind.fits seat.old }
-        requires words { first + 16 ≤ word_count self.now.shape }
+        requires words { first + words_of_payload ≤ word_count self.now.shape }
         ensures stays { IsSame seat.old seat.new }
         ensures words { result ≡ each_from 0 16 (λ i. known_word seat.old (first + i)) }
     {

@@ -22,6 +22,7 @@ use dying_slots::Dying;
 use eject_scan::Seen;
 use out_of_memory::OutOfMemory;
 use plain_protocol::Protocol;
+use plain_state::WORDS_OF_SEAT;
 use retire_batch::Batch;
 use std::alloc::Global;
 use std::marker::{Brand, PhantomData};
@@ -57,7 +58,7 @@ fn new_seat<W>(
     ensures { IfOk result (λ s. s ≡ record { table = seat.table_id; view = seat.me.0 }) }
 {
     let batch = Batch::with_room(alloc, room)?;
-    let seen = Seen::with_room(alloc, 4 * shape.seats)?;
+    let seen = Seen::with_room(alloc, WORDS_OF_SEAT * shape.seats)?;
     let dying = Dying::with_room(alloc, shape.slots)?;
     let freed = Vec::with_capacity(alloc, MOST_FREED)?;
     Ok(SeatOf {
@@ -163,7 +164,7 @@ impl<P: Protocol> Domain<P> {
         ensures others { IfOk result (λ others. others.items ≡ each_from 1
             (self.now.shape.seats - 1) (begun_seat (P.first self.now.protocol) self.now)) }
     {
-        let room = 4 * self.shape.seats + self.shape.batch;
+        let room = WORDS_OF_SEAT * self.shape.seats + self.shape.batch;
         let mut others = Vec::with_capacity(alloc, self.shape.seats as usize)?;
         for number in 1..self.shape.seats {
             let seat = self.open_another(root);
@@ -186,7 +187,7 @@ impl<P: Protocol> Domain<P> {
             ≡ opened_seats (P.first self.now.protocol) self.now) }
     {
         let mut seats = self.open_others(alloc, &mut root, quotas)?;
-        let room = self.shape.seats * (4 * self.shape.seats + self.shape.batch);
+        let room = self.shape.seats * (WORDS_OF_SEAT * self.shape.seats + self.shape.batch);
         let first = new_seat(alloc, root, &self.shape, 0, quotas[0], room)?;
         seats.insert(0, first)?;
         Ok(seats)

@@ -9,6 +9,7 @@ ghost use Rattle.core_events.specs.Words.{bits_at, payload_at, place_at, slot_at
 use crate::domain::Domain;
 use core_events::{EventPlace, Kind, SlotId};
 use plain_protocol::Protocol;
+use plain_state::{WORDS_OF_SEAT, WORDS_OF_SLOT};
 
 impl<P: Protocol> Domain<P> {
     /// The first word of a slot, its strong one.
@@ -16,7 +17,7 @@ impl<P: Protocol> Domain<P> {
         ensures at { result ≡ slot_at self.now.shape slot.0 }
         ensures fits { result < 2 ^ 38 }
     {
-        self.first_slot + 21 * slot.0 as usize
+        self.first_slot + WORDS_OF_SLOT * slot.0 as usize
     }
 
     /// A word of a slot's payload.
@@ -49,10 +50,10 @@ impl<P: Protocol> Domain<P> {
         ensures { result ≡ place_at self.now.shape place }
     {
         match place {
-            EventPlace::Cell(cell) => 1 + 4 * self.shape.seats as usize + cell as usize,
+            EventPlace::Cell(cell) => 1 + WORDS_OF_SEAT as usize * self.shape.seats as usize + cell as usize,
             EventPlace::Field(slot, field) => self.slot_word(slot) + 2 + field as usize,
             EventPlace::WeakCell(cell) => {
-                1 + 4 * self.shape.seats as usize + self.shape.cells as usize + cell as usize
+                1 + WORDS_OF_SEAT as usize * self.shape.seats as usize + self.shape.cells as usize + cell as usize
             }
             EventPlace::WeakField(slot) => self.slot_word(slot) + 4,
         }

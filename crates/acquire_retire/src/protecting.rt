@@ -13,6 +13,7 @@ use core_events::{Act, EventPlace, Kind, Note, Outcome, Phase, SlotId};
 use core_functions::{found_in, held_as, note_index, note_of, slot_in_note, validated};
 use counter_word::value;
 use plain_protocol::{Deed, Protocol, Still};
+use plain_state::WORDS_OF_SEAT;
 use std::marker::Brand;
 
 impl<P: Protocol> Domain<P> {
@@ -129,7 +130,7 @@ impl<P: Protocol> Domain<P> {
         let at = 1 + seat.read as usize;
         let found = self.load_as::<Still, Brand>(&mut seat.seat, Act::Scan, Still, at);
         seat.seen.note(found);
-        if seat.read + 1 != 4 * self.shape.seats {
+        if seat.read + 1 != WORDS_OF_SEAT * self.shape.seats {
             seat.read += 1;
             seat.phase = Phase::Scan;
             return Outcome::Word(found);

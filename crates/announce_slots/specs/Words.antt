@@ -1,5 +1,6 @@
 -- Announcement words: a word announces one slot, under one kind.
 use Rattle.std.specs.Prelude.{ℕ, ◌≡◌, ◌<◌, ◌≤◌, ◌+◌, ◌*◌, ◌^◌}
+use Rattle.plain_state.specs.Limits.{most_slots}
 use Rattle.plain_state.specs.declared.slot.Kind.{Kind}
 use Rattle.plain_state.specs.declared.slot.Kind.TheVariants.{Strong, Weak, Disposal}
 use Rattle.plain_state.specs.declared.slot.SlotId.{SlotId}
@@ -10,7 +11,7 @@ announcement kind slot = 4 * (slot + 1) + kind
 
 -- there are such a kind and such a slot
 abbrev pub IsInRange : ℕ → ℕ → Type 0
-IsInRange kind slot = (kind ≤ 2) × (slot < 2 ^ 22)
+IsInRange kind slot = (kind ≤ 2) × (slot < most_slots)
 
 -- the word announces the slot under this kind
 abbrev pub Announces : ℕ → ℕ → ℕ → Type 0

@@ -1,5 +1,6 @@
 //! The slow heap of one seat: every call is the plain steps of its row, and nothing else.
 ghost use Rattle.std.specs.Prelude.{◌≡◌, ◌+◌, ◌<◌, ◌≤◌, ◌↔◌, IfOk, OnErr, IsTrue, length};
+ghost use Rattle.plain_state.specs.Limits.{most_cells, most_slots, most_weak_cells};
 ghost use Rattle.plain_state.specs.declared.act.PlainAct.TheVariants as act;
 ghost use Rattle.plain_state.specs.declared.slot.SlotId.{SlotId};
 ghost use Rattle.plain_state.specs.State.{Plain, empty, seat_at};
@@ -46,9 +47,9 @@ impl<W: PayloadKind> PlainHeap<W> {
         cells: u32,
         weak_cells: u32,
     ) -> Result<PlainHeap<W>, OutOfMemory>
-        requires slots { (1 ≤ slots) × (slots ≤ 4194304) }
-        requires cells { cells ≤ 65536 }
-        requires weak_cells { weak_cells ≤ 4194304 }
+        requires slots { (1 ≤ slots) × (slots ≤ most_slots) }
+        requires cells { cells ≤ most_cells }
+        requires weak_cells { weak_cells ≤ most_weak_cells }
         ensures { IfOk result (λ h. h ≡ empty 1 slots cells weak_cells) }
     {
         let store = Store::new(alloc, slots, cells, weak_cells)?;

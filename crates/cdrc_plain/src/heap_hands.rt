@@ -1,5 +1,6 @@
 //! References of a plain heap: one more, one fewer, and what a slot holds.
 ghost use Rattle.std.specs.Prelude.{◌≡◌, ◌<◌, IfOk, OnErr, slice_index};
+ghost use Rattle.plain_state.specs.Limits.{words_of_payload};
 ghost use Rattle.plain_state.specs.declared.act.PlainAct.TheVariants as act;
 ghost use Rattle.plain_state.specs.State.{seat_at, slot_at};
 ghost use Rattle.plain_state.specs.Places.{Holds};
@@ -65,7 +66,7 @@ impl<W: PayloadKind> PlainHeap<W> {
     /// A word of the slot's payload. Constant.
     pub fn read(&self, slot: SlotId, word: u32) -> u64
         requires held { Holds (seat_at self.now 0) slot }
-        requires word { word < 16 }
+        requires word { word < words_of_payload }
         ensures { result ≡ slice_index (slot_at self.now slot).payload word }
     {
         self.store.word(slot, word)

@@ -1,6 +1,7 @@
 -- What the words of a command line ask for is within ranges, and is one job.
 use Rattle.std.proofs.Common.{◌≡◌, ℕ, ◌≤◌, List, [], ◌∷◌, IfSome, length, sym, ap, subst, ◌∙◌, arith}
 use Rattle.std.specs.declared.option.Option.{Option}
+use Rattle.plain_state.specs.Limits.{most_slots}
 use Rattle.command_line.specs.Parts.{Text}
 use Rattle.command_line.specs.Requests.{AreDraws, Asks, IsSame}
 use Rattle.command_line.specs.Values.{IsNumberOr, IsSlots}
@@ -19,10 +20,10 @@ number_within default least most (word ∷ []) n low high is = (is.1, is.2)
 number_within default least most (word ∷ more ∷ words) n low high is = absurd is
 
 slots_within : (values : List Text) (slots : Option ℕ) → IsSlots values slots
-    → IfSome slots (λ n. (1 ≤ n) × (n ≤ 4194304))
-slots_within [] slots is = subst (λ (o : Option ℕ). IfSome o (λ n. (1 ≤ n) × (n ≤ 4194304))) (sym is) tt
+    → IfSome slots (λ n. (1 ≤ n) × (n ≤ most_slots))
+slots_within [] slots is = subst (λ (o : Option ℕ). IfSome o (λ n. (1 ≤ n) × (n ≤ most_slots))) (sym is) tt
 slots_within (word ∷ []) slots is =
-    subst (λ (o : Option ℕ). IfSome o (λ n. (1 ≤ n) × (n ≤ 4194304))) (sym is.1) (is.2.1, is.2.2)
+    subst (λ (o : Option ℕ). IfSome o (λ n. (1 ≤ n) × (n ≤ most_slots))) (sym is.1) (is.2.1, is.2.2)
 slots_within (word ∷ more ∷ words) slots is = absurd is
 
 draws_within : (most : ℕ) (draws : Draws) (operands : List Text) → AreDraws most draws operands

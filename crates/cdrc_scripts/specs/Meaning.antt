@@ -1,5 +1,6 @@
 -- What a script writes.
 use Rattle.std.specs.Prelude.{ℕ, ◌≡◌, ◌≤◌, Bool, true, false, List, [], Option, Some, None}
+use Rattle.plain_state.specs.Limits.{most_cells, most_slots, most_weak_cells}
 use Rattle.plain_state.specs.declared.slot.SlotId.{SlotId}
 use Rattle.plain_state.specs.State.{empty}
 use Rattle.line_words.specs.declared.reason.Reason.{Reason}
@@ -18,7 +19,7 @@ use Rattle.cdrc_scripts.specs.SaidLines.{said_line}
 -- the numbers of a heap
 abbrev pub IsHeapInRange : ℕ → ℕ → ℕ → Type 0
 IsHeapInRange slots cells weak_cells =
-    (1 ≤ slots) × (slots ≤ 4194304) × (cells ≤ 65536) × (weak_cells ≤ 4194304)
+    (1 ≤ slots) × (slots ≤ most_slots) × (cells ≤ most_cells) × (weak_cells ≤ most_weak_cells)
 
 -- the desk of a heap with nothing in it: no name is bound, and nothing was made
 abbrev pub IsOpened : ℕ → ℕ → ℕ → Desk → Type 0

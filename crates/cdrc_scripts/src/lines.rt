@@ -11,14 +11,9 @@ ghost use Rattle.cdrc_scripts.specs.Meaning.{IsHeapInRange, IsOpened};
 
 use domain_desk::DomainDesk;
 use out_of_memory::OutOfMemory;
+use plain_state::{MOST_CELLS, MOST_SLOTS, MOST_WEAK_CELLS};
 use script_lines::{Command, CommandRefused, ScriptLine, script_line};
 use std::alloc::Global;
-
-const MOST_SLOTS: u128 = 4_194_304;
-
-const MOST_CELLS: u128 = 65_536;
-
-const MOST_WEAK_CELLS: u128 = 4_194_304;
 
 /// The numbers of a heap: its slots, strong cells and weak cells.
 #[derive(Clone, Copy, Debug, Drop)]
@@ -89,9 +84,9 @@ pub(crate) fn open(alloc: Global, numbers: HeapNumbers) -> Result<Option<DomainD
         → IsHeapInRange numbers.slots numbers.cells numbers.weak_cells → ⊥ }
 {
     if numbers.slots == 0
-        || numbers.slots > MOST_SLOTS
-        || numbers.cells > MOST_CELLS
-        || numbers.weak_cells > MOST_WEAK_CELLS
+        || numbers.slots > u128::from(MOST_SLOTS)
+        || numbers.cells > u128::from(MOST_CELLS)
+        || numbers.weak_cells > u128::from(MOST_WEAK_CELLS)
     {
         return Ok(None);
     }

@@ -1,5 +1,6 @@
 -- The state of the core, one event, lists of events, and the history of a state.
 use Rattle.std.specs.Prelude.{ℕ, ◌≡◌, ◌+◌, ◌^◌, ◌<◌, ◌≤◌, true, List, [], ◌∷◌, ◌++◌, length, slice_index, slice_index_or, slice_set, sum, All, ◌==◌, if◌then◌else◌}
+use Rattle.plain_state.specs.Limits.{most_batch, most_cells, most_seats, most_slots, most_weak_cells}
 use Rattle.plain_state.specs.declared.slot.SlotId.{SlotId}
 use Rattle.core_events.specs.declared.act.Act.{Act}
 use Rattle.core_events.specs.declared.act.Act.TheVariants as act
@@ -133,8 +134,8 @@ newest_first (e ∷ es) hs = newest_first es (e ∷ hs)
 -- a shape, and what its seats may use up, in their ranges
 abbrev pub IsShape : Shape → Type 0
 IsShape z =
-    (1 ≤ z.seats) × (z.seats ≤ 32) × (1 ≤ z.slots) × (z.slots ≤ 4194304) × (z.cells ≤ 65536)
-    × (z.weak_cells ≤ 4194304) × (1 ≤ z.batch) × (z.batch ≤ 1024)
+    (1 ≤ z.seats) × (z.seats ≤ most_seats) × (1 ≤ z.slots) × (z.slots ≤ most_slots) × (z.cells ≤ most_cells)
+    × (z.weak_cells ≤ most_weak_cells) × (1 ≤ z.batch) × (z.batch ≤ most_batch)
 
 abbrev pub IsQuota : Quota → Type 0
 IsQuota q = (q.makes ≤ 2 ^ 40) × (q.adds ≤ 2 ^ 40)

@@ -4,6 +4,7 @@
 use Rattle.counter_word.specs.Words.{ZERO}
 use Rattle.std.specs.Prelude.{ℕ, zero, suc, ◌+◌, ◌-◌, ◌*◌, ◌/◌, ◌%◌, ◌^◌, min, ◌==◌, List, [], ◌∷◌, ◌++◌, replicate, Option, Some, None, if◌then◌else◌}
 use Rattle.std.specs.Int.{bit_at}
+use Rattle.plain_state.specs.Limits.{words_of_seat, words_of_slot}
 use Rattle.plain_state.specs.declared.act.EventPlace.{EventPlace}
 use Rattle.plain_state.specs.declared.act.EventPlace.TheVariants.{Cell, Field, WeakCell, WeakField}
 use Rattle.plain_state.specs.declared.slot.SlotId.{SlotId}
@@ -11,21 +12,21 @@ use Rattle.core_events.specs.declared.shape.Shape.{Shape}
 
 -- the number of all announcement words
 abbrev pub announcements : Shape → ℕ
-announcements z = 4 * z.seats
+announcements z = words_of_seat * z.seats
 
 -- announcement word j of seat n
 abbrev pub note_at : ℕ → ℕ → ℕ
-note_at n j = 1 + 4 * n + j
+note_at n j = 1 + words_of_seat * n + j
 
 abbrev pub cell_at : Shape → ℕ → ℕ
-cell_at z i = 1 + 4 * z.seats + i
+cell_at z i = 1 + words_of_seat * z.seats + i
 
 abbrev pub weak_cell_at : Shape → ℕ → ℕ
-weak_cell_at z i = 1 + 4 * z.seats + z.cells + i
+weak_cell_at z i = 1 + words_of_seat * z.seats + z.cells + i
 
 -- the first word of a slot
 abbrev pub slot_at : Shape → ℕ → ℕ
-slot_at z x = 1 + 4 * z.seats + z.cells + z.weak_cells + 21 * x
+slot_at z x = 1 + words_of_seat * z.seats + z.cells + z.weak_cells + words_of_slot * x
 
 abbrev pub strong_at : Shape → SlotId → ℕ
 strong_at z s = slot_at z s.0

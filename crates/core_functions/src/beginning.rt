@@ -3,13 +3,15 @@ ghost use Rattle.std.specs.Prelude.{◌≡◌, ◌<◌, ◌++◌, IfOk, OnOk};
 ghost use Rattle.core_events.specs.Words.{all_free, bitmaps, each_from, first_words, full_bits};
 ghost use Rattle.core_events.specs.Runs.{IsShape};
 
+use crate::places::announcement_words;
 use core_events::Shape;
 use counter_word::ZERO;
 use out_of_memory::OutOfMemory;
+use plain_state::WORDS_OF_SLOT;
 use std::alloc::Global;
 
 /// The words of a free slot: both counters, three fields and the payload.
-const FREE_SLOT: [u64; 21] = [
+const FREE_SLOT: [u64; WORDS_OF_SLOT] = [
     ZERO, 0, 0, 0, 0, 0, 0, 0, 0, 0, 0, 0, 0, 0, 0, 0, 0, 0, 0, 0, 0,
 ];
 
@@ -49,9 +51,9 @@ pub fn first_words(alloc: Global, shape: &Shape) -> Result<Vec<u64>, OutOfMemory
     requires { IsShape shape.now }
     ensures { IfOk result (λ words. words.items ≡ first_words shape.now) }
 {
-    let front = 1 + 4 * shape.seats as usize + shape.cells as usize + shape.weak_cells as usize;
+    let front = 1 + announcement_words(shape) + shape.cells as usize + shape.weak_cells as usize;
     let slots = shape.slots as usize;
-    let mut words = Vec::with_capacity(alloc, front + 21 * slots + slots.div_ceil(64) + 1)?;
+    let mut words = Vec::with_capacity(alloc, front + WORDS_OF_SLOT * slots + slots.div_ceil(64) + 1)?;
     words.resize(front, 0)?;
     push_slots(&mut words, shape.slots)?;
     push_bits(&mut words, shape)?;

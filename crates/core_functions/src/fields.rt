@@ -4,16 +4,7 @@ ghost use Rattle.core_events.specs.Runs.{AreTerms, IsShape};
 ghost use Rattle.core_functions.specs.Fields.{IsFirstBad};
 
 use core_events::{Quota, Shape, ShapeField};
-
-const MOST_SEATS: u32 = 32;
-
-const MOST_SLOTS: u32 = 4_194_304;
-
-const MOST_CELLS: u32 = 65_536;
-
-const MOST_WEAK_CELLS: u32 = 4_194_304;
-
-const MOST_BATCH: u32 = 1_024;
+use plain_state::{MOST_BATCH, MOST_CELLS, MOST_SEATS, MOST_SLOTS, MOST_WEAK_CELLS};
 
 const MOST_USES: u64 = 1 << 40;
 

@@ -6,6 +6,7 @@ ghost use Rattle.core_events.specs.Views.{room_of};
 ghost use Rattle.core_events.specs.Steps.{counter_at, IsContent};
 
 use core_events::{EventPlace, Kind, Shape, SlotId};
+use plain_state::{WORDS_OF_SEAT, WORDS_OF_SLOT};
 
 /// The kind of the references that a place holds.
 pub fn kind_of(place: EventPlace) -> Kind
@@ -32,14 +33,15 @@ pub fn room_for(shape: &Shape) -> u32
     requires { room_of shape.now < 2 ^ 32 }
     ensures { result ≡ room_of shape.now }
 {
-    4 * shape.seats + shape.batch
+    WORDS_OF_SEAT * shape.seats + shape.batch
 }
 
 /// How many announcement words there are.
 pub fn announcement_words(shape: &Shape) -> usize
-    ensures { result ≡ announcements shape.now }
+    ensures at { result ≡ announcements shape.now }
+    ensures fits { result < 2 ^ 34 }
 {
-    4 * shape.seats as usize
+    WORDS_OF_SEAT as usize * shape.seats as usize
 }
 
 /// The first word of a slot, its strong one.
@@ -47,10 +49,10 @@ pub fn slot_index(shape: &Shape, slot: SlotId) -> usize
     ensures at { result ≡ slot_at shape.now slot.0 }
     ensures fits { result < 2 ^ 38 }
 {
-    1 + 4 * shape.seats as usize
+    1 + announcement_words(shape)
         + shape.cells as usize
         + shape.weak_cells as usize
-        + 21 * slot.0 as usize
+        + WORDS_OF_SLOT * slot.0 as usize
 }
 
 /// A word of a slot's payload.
@@ -64,7 +66,7 @@ pub fn payload_index(shape: &Shape, slot: SlotId, at: u32) -> usize
 pub fn note_index(seat: u32, at: u32) -> usize
     ensures { result ≡ note_at seat at }
 {
-    1 + 4 * seat as usize + at as usize
+    1 + WORDS_OF_SEAT as usize * seat as usize + at as usize
 }
 
 /// The counter word of a reference. None is of the kind `Disposal`, and the answer is 0.
@@ -97,10 +99,10 @@ pub fn place_index(shape: &Shape, place: EventPlace) -> usize
     ensures { result ≡ place_at shape.now place }
 {
     match place {
-        EventPlace::Cell(cell) => 1 + 4 * shape.seats as usize + cell as usize,
+        EventPlace::Cell(cell) => 1 + announcement_words(shape) + cell as usize,
         EventPlace::Field(slot, field) => slot_index(shape, slot) + 2 + field as usize,
         EventPlace::WeakCell(cell) => {
-            1 + 4 * shape.seats as usize + shape.cells as usize + cell as usize
+            1 + announcement_words(shape) + shape.cells as usize + cell as usize
         }
         EventPlace::WeakField(slot) => slot_index(shape, slot) + 4,
     }

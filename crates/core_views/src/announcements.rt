@@ -3,6 +3,7 @@ ghost use Rattle.std.specs.Prelude.{◌≡◌, ◌<◌, ◌+◌, ◌-◌, ◌^�
 ghost use Rattle.std.specs.VecDeque.{deque_len};
 ghost use Rattle.core_events.specs.declared.outcome.Outcome.TheVariants as outcome;
 ghost use Rattle.core_events.specs.declared.view.Phase.TheVariants as phase;
+ghost use Rattle.plain_state.specs.Limits.{words_of_seat};
 ghost use Rattle.plain_state.specs.Ejection.{kept, ejected, ripened};
 ghost use Rattle.core_events.specs.Words.{slot_in};
 ghost use Rattle.counter_word.specs.Words.{value};
@@ -20,7 +21,7 @@ use out_of_memory::OutOfMemory;
 impl Holdings {
     /// Another note for an announcement word.
     pub(crate) fn set_note(&mut self, at: u32, note: Note) -> Outcome
-        requires { at < 4 }
+        requires { at < words_of_seat }
         ensures told { result ≡ outcome.Plain }
         ensures changed { self.new ≡ with_note at note self.old }
     {
@@ -30,7 +31,7 @@ impl Holdings {
 
     /// Comes under a snapshot of what was announced.
     fn validate(&mut self, at: u32)
-        requires { at < 4 }
+        requires { at < words_of_seat }
         ensures { self.new ≡ with_note at (validated (note_of self.old at)) self.old }
     {
         let note = validated(note_of(&self.notes, at));
@@ -39,7 +40,7 @@ impl Holdings {
 
     /// Comes under a snapshot, if the word of the place is that of the slot that was announced.
     pub(crate) fn check(&mut self, at: u32, word: u64) -> Outcome
-        requires there { at < 4 }
+        requires there { at < words_of_seat }
         requires content { word < 2 ^ 32 }
         ensures told { result ≡ (if is_valid word (note_of self.old at)
             then outcome.Valid else outcome.Moved (slot_in word)) }
@@ -55,7 +56,7 @@ impl Holdings {
 
     /// Comes under a snapshot, if the strong word counts something.
     pub(crate) fn revive(&mut self, at: u32, word: u64) -> Outcome
-        requires { at < 4 }
+        requires { at < words_of_seat }
         ensures told { result
             ≡ (if nat_lt 0 (value word) then outcome.Alive else outcome.Zeroed) }
         ensures changed { self.new ≡ (if nat_lt 0 (value word)

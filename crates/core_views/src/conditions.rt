@@ -1,5 +1,6 @@
 //! What a seat may do, by what it has.
 ghost use Rattle.std.specs.Prelude.{◌≡◌, ◌≢◌, ◌↔◌, ◌⊎◌, ◌+◌, ◌<◌, ◌≤◌, ◌^◌, ℕ, IsTrue, [], length};
+ghost use Rattle.plain_state.specs.Limits.{words_of_seat};
 ghost use Rattle.plain_state.specs.declared.slot.Kind.TheVariants.{Disposal};
 ghost use Rattle.plain_state.specs.declared.slot.SlotId.{SlotId};
 ghost use Rattle.plain_state.specs.Lists.{times};
@@ -153,14 +154,14 @@ impl Holdings {
 
     /// Whether there is such an announcement word, and it stands for nothing.
     pub(crate) fn has_idle_note(&self, at: u32) -> bool
-        ensures { IsTrue result ↔ ((at < 4) × (note_of self.now at ≡ note.Idle)) }
+        ensures { IsTrue result ↔ ((at < words_of_seat) × (note_of self.now at ≡ note.Idle)) }
     {
         at < 4 && matches!(self.notes[at as usize], Note::Idle)
     }
 
     /// Whether there is such an announcement word, and it stands for something.
     pub(crate) fn has_busy_note(&self, at: u32) -> bool
-        ensures { IsTrue result ↔ ((at < 4) × (note_of self.now at ≢ note.Idle)) }
+        ensures { IsTrue result ↔ ((at < words_of_seat) × (note_of self.now at ≢ note.Idle)) }
     {
         at < 4 && !matches!(self.notes[at as usize], Note::Idle)
     }
@@ -168,7 +169,7 @@ impl Holdings {
     /// Whether a reference of this kind is announced there, and was not found yet.
     pub(crate) fn has_announced(&self, at: u32, kind: Kind) -> bool
         ensures { IsTrue result
-            ↔ ((at < 4) × ((s : SlotId) × (note_of self.now at ≡ note.Announced kind s))) }
+            ↔ ((at < words_of_seat) × ((s : SlotId) × (note_of self.now at ≡ note.Announced kind s))) }
     {
         at < 4
             && match self.notes[at as usize] {
@@ -179,7 +180,7 @@ impl Holdings {
 
     /// Whether a slot that the seat holds is announced for disposal there, and was not found alive yet.
     fn has_announced_disposal(&self, at: u32) -> bool
-        ensures { IsTrue result ↔ ((at < 4)
+        ensures { IsTrue result ↔ ((at < words_of_seat)
             × ((s : SlotId) × (note_of self.now at ≡ note.Announced Disposal s)
             × Holds self.now s)) }
     {

@@ -1,5 +1,6 @@
 -- Texts of bytes, and the payloads of their slots.
 use Rattle.std.specs.Prelude.{◌≡◌, ◌⊎◌, ℕ, zero, suc, ◌+◌, ◌-◌, ◌%◌, ◌/◌, ◌<◌, ◌≤◌, min, nat_lt, List, [], ◌∷◌, ◌++◌, All, length, take, drop, slice_index, if◌then◌else◌}
+use Rattle.plain_state.specs.Limits.{words_of_payload}
 use Rattle.plain_state.specs.Records.{word_of_bytes, eight_bytes}
 use Rattle.directory_law.specs.Payloads.{Text, size, IsHead}
 
@@ -8,7 +9,7 @@ AreBytes bytes = All (λ byte. byte < 256) bytes
 
 -- word 0 is n, and the fifteen words after it hold the bytes, eight in each, and then zeros
 pub record Packs (n : ℕ) (bytes payload : List ℕ) : Type 0 where
-  pub words : length payload ≡ 16
+  pub words : length payload ≡ words_of_payload
   pub size : slice_index payload 0 ≡ n
   pub eights : (k : ℕ) → k < 15 → slice_index payload (k + 1) ≡ word_of_bytes (eight_bytes bytes k)
 

@@ -4,6 +4,7 @@
 use Rattle.std.proofs.Common.{◌≡◌, ◌≢◌, ⊎_elim, inl, inr, ℕ, zero, suc, ◌+◌, ◌^◌, ◌<◌, ◌≤◌, false, List, [], ◌∷◌, length, get_or, refl, ap, sym, ◌∙◌, subst, arith}
 use Rattle.std.specs.Prelude.{None, Result, IfOk, Ok, Err}
 use Rattle.std.proofs.lemmas.List.Sums.{sum_by-cons}
+use Rattle.plain_state.specs.Limits.{most_slots}
 use Rattle.plain_state.specs.declared.image.Heap.{Heap}
 use Rattle.plain_state.specs.declared.slot.Kind.{Kind}
 use Rattle.plain_state.specs.declared.slot.Kind.TheVariants.{Strong, Weak, Disposal}
@@ -39,7 +40,7 @@ pub record IsLoneState (fits : List ℕ → Type 0) (p : Plain) : Type 0 where
   pub there : 0 < length p.seats
   pub others : (n : ℕ) → 0 < n → n < length p.seats → HasNothing (seat_at p n)
   pub none_dying : (s : SlotId) → dying_times p s ≡ 0
-  pub slots : length p.slots ≤ 2 ^ 22
+  pub slots : length p.slots ≤ most_slots
   pub adds : all_adds p + 1 < 2 ^ 63
   pub payloads : AllFit fits p
   pub kinds : (s : SlotId) → entry_times Disposal s (seat_at p 0).deferred ≡ 0

@@ -1,6 +1,7 @@
 -- The audit of the image that a seat takes is one of the state that it knows.
 use Rattle.std.proofs.Common.{◌≡◌, ℕ, ◌^◌, ◌<◌, ◌≤◌, List, [], length, ap, sym, ◌∙◌, subst, arith}
 use Rattle.std.specs.Prelude.{IfOk, Result, Some}
+use Rattle.plain_state.specs.Limits.{most_slots}
 use Rattle.plain_state.specs.declared.image.Heap.{Heap}
 use Rattle.plain_state.specs.State.{Plain}
 use Rattle.core_events.specs.declared.view.CoreView.{CoreView}
@@ -65,7 +66,7 @@ module _ {P V : Type 0} {fits : List ℕ → Type 0} (d : DomainState P) (old se
         whole.image.size
         ∙ ap (λ (p : Plain). length p.slots) state_is ∙ size d.shape core knows.sound
 
-    pub few : length image.slots.items ≤ 2 ^ 22
+    pub few : length image.slots.items ≤ most_slots
     few = let most = knows.sound.shape.3 in let same = slots_are in omega arith
 
     pub ranked : (ranks : List ℕ) → length ranks ≡ d.shape.slots

@@ -1,5 +1,6 @@
 //! A desk is opened.
 ghost use Rattle.std.specs.Prelude.{◌≡◌, ◌≤◌, [], IfOk};
+ghost use Rattle.plain_state.specs.Limits.{most_cells, most_slots, most_weak_cells};
 ghost use Rattle.plain_state.specs.declared.slot.SlotId.{SlotId};
 ghost use Rattle.plain_state.specs.State.{empty};
 ghost use Rattle.plain_store.specs.Settling.{IsSettled};
@@ -21,9 +22,9 @@ impl DomainDesk {
         cells: u32,
         weak_cells: u32,
     ) -> Result<DomainDesk, OutOfMemory>
-        requires slots { (1 ≤ slots) × (slots ≤ 4194304) }
-        requires cells { cells ≤ 65536 }
-        requires weak_cells { weak_cells ≤ 4194304 }
+        requires slots { (1 ≤ slots) × (slots ≤ most_slots) }
+        requires cells { cells ≤ most_cells }
+        requires weak_cells { weak_cells ≤ most_weak_cells }
         ensures plain { IfOk result (λ desk. plain_of desk ≡ empty 1 slots cells weak_cells) }
         ensures settled { IfOk result (λ desk. IsSettled (plain_of desk)) }
         ensures names { IfOk result (λ desk. desk.names ≡ []) }

@@ -1,5 +1,6 @@
 //! What is told of the heap: a word, the counts of an object, an audit.
 ghost use Rattle.std.specs.Prelude.{◌≡◌, ◌<◌, IfOk, OnOk};
+ghost use Rattle.plain_state.specs.Limits.{words_of_payload};
 ghost use Rattle.deleter.specs.Weighing.{Weighs};
 ghost use Rattle.plain_store.specs.Settling.{IsSettled};
 ghost use Rattle.script_lines.specs.declared.command.Command.TheVariants as command;
@@ -19,7 +20,7 @@ impl DomainDesk {
     pub(crate) fn read(&mut self, name: &Name, word: u32) -> Said
         requires kept { IsKept self.old }
         requires bound { IsBoundTo self.old.names name.now is_any }
-        requires word { word < 16 }
+        requires word { word < words_of_payload }
         ensures acts { Acts (desk_of self.old) (command.Read name.now word) result
             (desk_of self.new) }
         ensures shows { ShowsCommand (command.Read name.now word) result

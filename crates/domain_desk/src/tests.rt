@@ -1,5 +1,6 @@
 //! What no clause says: that each command succeeds with ample memory, and what it then answers.
 ghost use Rattle.std.specs.Prelude.{◌≤◌};
+ghost use Rattle.plain_state.specs.Limits.{most_cells, most_slots, most_weak_cells};
 ghost use Rattle.plain_store.specs.Settling.{IsSettled};
 ghost use Rattle.domain_desk.specs.Desks.{IsKept, plain_of};
 
@@ -19,9 +20,9 @@ fn name(rt: &impl Abort, alloc: Global, text: &str) -> Name {
 }
 
 fn opened(rt: &impl Abort, alloc: Global, slots: u32, cells: u32, weak_cells: u32) -> DomainDesk
-    requires slots { (1 ≤ slots) × (slots ≤ 4194304) }
-    requires cells { cells ≤ 65536 }
-    requires weak_cells { weak_cells ≤ 4194304 }
+    requires slots { (1 ≤ slots) × (slots ≤ most_slots) }
+    requires cells { cells ≤ most_cells }
+    requires weak_cells { weak_cells ≤ most_weak_cells }
     ensures kept { IsKept result }
     ensures settled { IsSettled (plain_of result) }
 {

@@ -1,6 +1,7 @@
 -- What a step, an opening and a leave tell the seat that made them.
 use Rattle.std.specs.Prelude.{ℕ, ◌≡◌, ◌+◌, false, List, ◌∷◌, length, slice_set, Option, Some, None, if◌then◌else◌}
 use Rattle.std.specs.Option.{option_map}
+use Rattle.plain_state.specs.Limits.{words_of_payload}
 use Rattle.plain_state.specs.declared.act.EventPlace.{EventPlace}
 use Rattle.plain_state.specs.declared.act.PlainAct.{PlainAct}
 use Rattle.plain_state.specs.declared.act.PlainAct.TheVariants as plain
@@ -86,7 +87,7 @@ module _ {V : Type 0} where
     pub objects :
         (s : SlotId) → HasSlot (show_seat v.core) s
         → object_in v' s ≡ changed_object (shown_act z a w v.core) s (object_in v s)
-    pub payloads : (s : SlotId) → length (object_in v' s).payload ≡ 16
+    pub payloads : (s : SlotId) → length (object_in v' s).payload ≡ words_of_payload
     pub cleared : v'.cleared ≡ cleared_after a v.core v.cleared
     pub whole : v'.whole ≡ whole_after z a v
     pub opened : v'.opened ≡ v.opened

@@ -1,5 +1,6 @@
 //! The audit itself.
 ghost use Rattle.std.specs.Prelude.{◌≡◌, ◌<◌, ◌≤◌, ◌^◌, [], length, IfOk};
+ghost use Rattle.plain_state.specs.Limits.{most_slots};
 ghost use Rattle.deleter.specs.Weighing.{Weighs};
 ghost use Rattle.heap_audit.specs.Heaps.{slot, IsLawful, IsInRange, HasFittingPayloads, live_slots, live_bytes};
 ghost use Rattle.heap_audit.specs.Reached.{IsUnreached, HowMany};
@@ -27,7 +28,7 @@ pub fn audit<W: PayloadKind, F: Fn(&[u64; 16]) -> u64>(
     weigh: &Deleter<W, F>,
     rank: &[u64],
 ) -> Result<Audit, OutOfMemory>
-    requires few { length heap.now.slots.items ≤ 2 ^ 22 }
+    requires few { length heap.now.slots.items ≤ most_slots }
     requires range { IsInRange heap.now }
     requires lawful { IsLawful heap.now }
     requires fits { HasFittingPayloads W.fits heap.now }

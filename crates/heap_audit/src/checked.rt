@@ -1,24 +1,25 @@
 //! Whether a heap meets the condition of an audit, for tests, whose heaps are built by hand. It takes memory, and so
 //! it looks at each place once.
 ghost use Rattle.std.specs.Prelude.{◌≡◌, ◌<◌, ◌≤◌, ◌^◌, length, slice_index, All, IfOk, IsTrue};
+ghost use Rattle.plain_state.specs.Limits.{most_slots};
 ghost use Rattle.heap_audit.specs.Heaps.{IsInRange, IsLawful, HasFittingPayloads};
 ghost use Rattle.heap_audit.specs.Tables.{AreFieldCounts};
 
 use crate::fields::field_counts;
 use crate::obeying::{is_in_range, obeys};
 use out_of_memory::OutOfMemory;
-use plain_state::{Heap, SlotImage};
+use plain_state::{Heap, MOST_SLOTS, SlotImage};
 use std::alloc::Global;
 
 /// Whether a heap has few slots, all names in range, payloads whose first word is at most 2^32, and is lawful.
 pub fn is_auditable(alloc: Global, heap: &Heap) -> Result<bool, OutOfMemory>
-    ensures few { IfOk result (λ found. IsTrue found → length heap.now.slots.items ≤ 2 ^ 22) }
+    ensures few { IfOk result (λ found. IsTrue found → length heap.now.slots.items ≤ most_slots) }
     ensures range { IfOk result (λ found. IsTrue found → IsInRange heap.now) }
     ensures lawful { IfOk result (λ found. IsTrue found → IsLawful heap.now) }
     ensures fits { IfOk result (λ found. IsTrue found
         → HasFittingPayloads (λ words. slice_index words 0 ≤ 2 ^ 32) heap.now) }
 {
-    if heap.slots.len() > 4_194_304 || !is_in_range(heap) || !fits(&heap.slots) {
+    if heap.slots.len() > MOST_SLOTS as usize || !is_in_range(heap) || !fits(&heap.slots) {
         return Ok(false);
     }
     let counts = field_counts(alloc, heap)?;

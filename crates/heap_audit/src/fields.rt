@@ -1,6 +1,7 @@
 //! How many strong fields hold each slot.
 ghost use Rattle.std.specs.Prelude.{◌≡◌, ◌<◌, ◌≤◌, ◌+◌, ◌^◌, length, All, IfOk, slice_index, sum_by};
 ghost use Rattle.heap_audit.specs.Heaps.{HasFieldsWithin, IsInRange, fields_holding};
+ghost use Rattle.plain_state.specs.Limits.{most_slots};
 ghost use Rattle.plain_state.specs.declared.slot.SlotId.{SlotId};
 ghost use Rattle.heap_audit.specs.Tables.{CountsWord, CountsFields, AreFieldCounts};
 
@@ -10,7 +11,7 @@ use std::alloc::Global;
 
 /// How many strong fields hold each slot. One look at each slot.
 pub fn field_counts(alloc: Global, heap: &Heap) -> Result<Vec<u32>, OutOfMemory>
-    requires few { length heap.now.slots.items ≤ 2 ^ 22 }
+    requires few { length heap.now.slots.items ≤ most_slots }
     requires range { IsInRange heap.now }
     ensures { IfOk result (λ counts. AreFieldCounts heap.now counts.items) }
 {
@@ -21,7 +22,7 @@ pub fn field_counts(alloc: Global, heap: &Heap) -> Result<Vec<u32>, OutOfMemory>
 
 /// Counts the strong fields of all slots.
 fn count_all(counts: &mut [u32], slots: &[SlotImage])
-    requires few { length slots.now ≤ 2 ^ 22 }
+    requires few { length slots.now ≤ most_slots }
     requires size { length counts.old ≡ length slots.now }
     requires none { (s : SlotId) → slice_index counts.old s.0 ≡ 0 }
     requires within { All (HasFieldsWithin (length slots.now)) slots.now }

@@ -1,5 +1,6 @@
 //! The Live slots: how many, and what they weigh.
 ghost use Rattle.std.specs.Prelude.{◌≡◌, ◌<◌, ◌≤◌, ◌^◌, length, All, sum_by};
+ghost use Rattle.plain_state.specs.Limits.{most_slots};
 ghost use Rattle.deleter.specs.Weighing.{Weighs};
 ghost use Rattle.heap_audit.specs.Heaps.{live_slots, weight_of};
 
@@ -22,7 +23,7 @@ pub fn weigh_live<W: PayloadKind, F: Fn(&[u64; 16]) -> u64>(
     slots: &[SlotImage],
     weigh: &Deleter<W, F>,
 ) -> u64
-    requires few { length slots.now ≤ 2 ^ 22 }
+    requires few { length slots.now ≤ most_slots }
     requires fits { All (λ x. x.strong < 2 ^ 63 → W.fits x.payload) slots.now }
     requires weighs { Weighs W.fits W.weight F.Fn weigh.now }
     ensures { result ≡ sum_by (weight_of W.weight) slots.now }

@@ -1,5 +1,6 @@
 //! Which slots are reached.
 ghost use Rattle.std.specs.Prelude.{◌≤◌, ◌^◌, length, IfOk, OnOk};
+ghost use Rattle.plain_state.specs.Limits.{most_slots};
 ghost use Rattle.heap_audit.specs.Heaps.{IsInRange, IsLawful};
 ghost use Rattle.heap_audit.specs.Marking.{Follows, IsSpread};
 ghost use Rattle.heap_audit.specs.Tables.{AreReached};
@@ -13,7 +14,7 @@ use std::alloc::Global;
 /// Whether each slot is reached. A list of what is marked stands in place of a deep stack. Two passes over the slots,
 /// and one look at each slot that is reached.
 pub fn reached_slots(alloc: Global, heap: &Heap) -> Result<Vec<bool>, OutOfMemory>
-    requires few { length heap.now.slots.items ≤ 2 ^ 22 }
+    requires few { length heap.now.slots.items ≤ most_slots }
     requires range { IsInRange heap.now }
     requires lawful { IsLawful heap.now }
     ensures { IfOk result (λ marks. AreReached heap.now marks.items) }
@@ -33,7 +34,7 @@ pub fn reached_slots(alloc: Global, heap: &Heap) -> Result<Vec<bool>, OutOfMemor
 /// Marks the slots that more than strong fields hold. On a lawful heap these are just the slots with an owned
 /// reference, in a strong cell, or in a deferred strong entry.
 fn roots(alloc: Global, heap: &Heap) -> Result<Marks, OutOfMemory>
-    requires few { length heap.now.slots.items ≤ 2 ^ 22 }
+    requires few { length heap.now.slots.items ≤ most_slots }
     requires range { IsInRange heap.now }
     requires lawful { IsLawful heap.now }
     ensures { IfOk result (λ marks. IsSpread heap.now marks.marked.items marks.slots.items 0) }
@@ -51,7 +52,7 @@ fn roots(alloc: Global, heap: &Heap) -> Result<Marks, OutOfMemory>
 
 /// Marks the slot that a field's word names, if it names one.
 fn follow(marks: &mut Marks, word: u64) -> Result<(), OutOfMemory>
-    requires few { length marks.old.marked.items ≤ 2 ^ 22 }
+    requires few { length marks.old.marked.items ≤ most_slots }
     requires within { word ≤ length marks.old.marked.items }
     ensures { OnOk result (Follows
         marks.old.marked.items marks.old.slots.items word

@@ -1,5 +1,6 @@
 //! The unreached slots, and the walk that is found among them.
 ghost use Rattle.std.specs.Prelude.{◌≡◌, ◌≤◌, ◌<◌, ◌↔◌, ◌^◌, length, IfOk, IfSome, IsTrue, None};
+ghost use Rattle.plain_state.specs.Limits.{most_slots};
 ghost use Rattle.plain_state.specs.declared.slot.SlotId.{SlotId};
 ghost use Rattle.heap_audit.specs.Heaps.{slot, IsInRange, IsLawful};
 ghost use Rattle.heap_audit.specs.Reached.{IsUnreached, HowMany};
@@ -22,7 +23,7 @@ pub struct Unreached {
 
 /// Counts the unreached slots. One look at each slot.
 pub fn count_unreached(heap: &Heap, reached: &[bool], rank: &[u64]) -> Unreached
-    requires few { length heap.now.slots.items ≤ 2 ^ 22 }
+    requires few { length heap.now.slots.items ≤ most_slots }
     requires table { AreReached heap.now reached.now }
     requires ranked { length rank.now ≡ length heap.now.slots.items }
     ensures many { HowMany (λ n. IsUnreached heap.now (slot n))
@@ -60,7 +61,7 @@ pub fn find_walk(
     rank: &[u64],
     start: SlotId,
 ) -> Result<Vec<SlotId>, OutOfMemory>
-    requires few { length heap.now.slots.items ≤ 2 ^ 22 }
+    requires few { length heap.now.slots.items ≤ most_slots }
     requires range { IsInRange heap.now }
     requires lawful { IsLawful heap.now }
     requires table { AreReached heap.now reached.now }
@@ -81,7 +82,7 @@ fn least_holders(
     reached: &[bool],
     rank: &[u64],
 ) -> Result<Vec<Option<SlotId>>, OutOfMemory>
-    requires few { length heap.now.slots.items ≤ 2 ^ 22 }
+    requires few { length heap.now.slots.items ≤ most_slots }
     requires range { IsInRange heap.now }
     requires table { AreReached heap.now reached.now }
     requires ranked { length rank.now ≡ length heap.now.slots.items }
@@ -94,7 +95,7 @@ fn least_holders(
 
 /// Offers each unreached slot to the slots that its fields hold.
 fn offer_all(holders: &mut [Option<SlotId>], heap: &Heap, reached: &[bool], rank: &[u64])
-    requires few { length heap.now.slots.items ≤ 2 ^ 22 }
+    requires few { length heap.now.slots.items ≤ most_slots }
     requires range { IsInRange heap.now }
     requires table { AreReached heap.now reached.now }
     requires ranked { length rank.now ≡ length heap.now.slots.items }

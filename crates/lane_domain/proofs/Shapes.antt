@@ -19,7 +19,7 @@ use Rattle.lane_files.specs.declared.work.Work.{Work}
 use Rattle.lane_files.specs.Work.{all_tickets}
 use Rattle.queue_law.specs.declared.view.Form.{Form}
 use Rattle.lane_domain.specs.Opened.{IsDomainFor, cells_for, lane_quota, root_quota, shape_for, terms_for}
-use Rattle.lane_domain.specs.Sizes.{IsWithinLimits, all_parts, all_pieces, by_ticket, interns_of, makes_of, most_slots, slots_of_words, texts_in}
+use Rattle.lane_domain.specs.Sizes.{IsWithinLimits, all_parts, all_pieces, by_ticket, interns_of, makes_of, slots_of_words, texts_in}
 use Rattle.lane_domain.proofs.Sums.{is_sum, of_rounds, sum_of_both}
 
 -- all interns, and all makes that tickets grant

@@ -26,7 +26,7 @@ use Rattle.slot_store.specs.Searching.{Misses}
 use Rattle.lane_files.specs.Whys.{of_queue, queue_of}
 use Rattle.lane_domain.specs.declared.opened.OpenLanesError.{OpenLanesError}
 use Rattle.lane_domain.specs.declared.opened.OpenLanesError.TheVariants as refused
-use Rattle.lane_domain.specs.Sizes.{IsWithinLimits, all_parts, all_pieces, by_ticket, interns_of, makes_of, most_slots}
+use Rattle.lane_domain.specs.Sizes.{IsWithinLimits, all_parts, all_pieces, by_ticket, interns_of, makes_of}
 
 -- seat 0 makes the queue's first node, and may make one object more; lanes make what their tickets grant
 abbrev pub root_quota : Quota

@@ -37,12 +37,9 @@ makes_of work ticket = length (words_of work ticket) + slots_of_words (words_of 
 abbrev pub by_ticket : (ℕ → ℕ) → Work → List ℕ
 by_ticket f work = map f (range_with_len 0 (all_tickets work))
 
--- The most interns of all tickets, and the most slots of a domain.
+-- the most interns of all tickets
 abbrev pub most_interns : ℕ
 most_interns = 1000000
-
-abbrev pub most_slots : ℕ
-most_slots = 4194304
 
 -- One domain serves the work: all interns have a cell, and there is a slot for each object that is made, one of them
 -- the queue's first node and one more seat 0's.

@@ -9,7 +9,7 @@ ghost use Rattle.lane_files.specs.declared.shared.Shared.{Shared};
 ghost use Rattle.lane_files.specs.Ready.{IsReady};
 ghost use Rattle.lane_files.specs.declared.work.Work.{Work};
 ghost use Rattle.lane_domain.specs.Opened.{IsDomainFor, fresh_lanes, fresh_seat};
-ghost use Rattle.lane_domain.specs.Sizes.{IsWithinLimits, most_slots, all_parts, all_pieces};
+ghost use Rattle.lane_domain.specs.Sizes.{IsWithinLimits, all_parts, all_pieces};
 ghost use Rattle.lane_domain.specs.Beginning.{CanBegin};
 ghost use Rattle.linked_queue.specs.Leaving.{Leaves};
 ghost use Rattle.slot_store.specs.declared.making.MakeError.TheVariants as unmade;

@@ -1,5 +1,6 @@
 //! How a domain is opened for lanes.
 ghost use Rattle.std.specs.Prelude.{◌≡◌, ◌≤◌, ◌<◌, ◌*◌, ◌∷◌, IfErr, IfOk, OnErr, OnOk, replicate};
+ghost use Rattle.plain_state.specs.Limits.{most_slots};
 ghost use Rattle.claim_law.specs.Claims.{makes_given};
 ghost use Rattle.lane_files.specs.Ready.{IsReady};
 ghost use Rattle.lane_files.specs.Lanes.{HasGrants};
@@ -93,7 +94,7 @@ fn begin(
     requires work { IsWork work.now }
     requires within { IsWithinLimits work.now }
     requires lanes { (1 ≤ lanes) × (lanes ≤ 31) }
-    requires slots { (1 ≤ slots) × (slots ≤ 4194304) }
+    requires slots { (1 ≤ slots) × (slots ≤ most_slots) }
     ensures domain { IfOk result (λ begun. IsDomainFor work.now lanes slots form begun.domain) }
     ensures root { IfOk result (λ begun. begun.root ≡ fresh_seat begun.domain 0) }
     ensures seats { IfOk result (λ begun. begun.seats.items ≡ fresh_lanes begun.domain lanes) }
@@ -163,7 +164,7 @@ pub fn open_lanes(
     requires work { IsWork work.now }
     requires within { IsWithinLimits work.now }
     requires lanes { (1 ≤ lanes) × (lanes ≤ 31) }
-    requires slots { (1 ≤ slots) × (slots ≤ 4194304) }
+    requires slots { (1 ≤ slots) × (slots ≤ most_slots) }
     ensures domain { IfOk result (λ opened.
         IsDomainFor work.now lanes slots form opened.domain) }
     ensures grants { IfOk result (λ opened. HasGrants opened.domain work.now) }

@@ -5,15 +5,13 @@ ghost use Rattle.lane_files.specs.Work.{IsWork};
 ghost use Rattle.lane_domain.specs.Sizes.{IsWithinLimits, all_parts, all_pieces, parts_in};
 
 use lane_files::{FileText, Work};
+use plain_state::MOST_SLOTS;
 
 /// How many bytes of a text a slot holds.
 const SLOT_BYTES: u64 = 120;
 
 /// The most interns that all tickets grant.
 const MOST_INTERNS: u64 = 1_000_000;
-
-/// The most slots of a domain.
-const MOST_SLOTS: u64 = 4_194_304;
 
 /// How many slots the records of the file's pieces take. A step for each piece.
 pub fn count_parts(file: &FileText) -> u64
@@ -60,5 +58,5 @@ pub fn is_within_limits(work: &Work) -> bool
 {
     let pieces = count_pieces(work);
     let makes = pieces + count_slots(work);
-    work.rounds * pieces <= MOST_INTERNS && work.rounds * makes + 2 <= MOST_SLOTS
+    work.rounds * pieces <= MOST_INTERNS && work.rounds * makes + 2 <= u64::from(MOST_SLOTS)
 }

@@ -1,5 +1,6 @@
 //! How the words of some files are counted.
 ghost use Rattle.std.specs.Prelude.{◌≡◌, ◌≤◌, IfErr, IfOk};
+ghost use Rattle.plain_state.specs.Limits.{most_slots};
 ghost use Rattle.cdrc_text.specs.Text.{IsReport};
 ghost use Rattle.deleter.specs.Weighing.{Weighs};
 ghost use Rattle.lane_files.specs.Ready.{IsReady};
@@ -39,7 +40,7 @@ fn open(
     requires work { IsWork work.now }
     requires within { IsWithinLimits work.now }
     requires lanes { (1 ≤ lanes) × (lanes ≤ 31) }
-    requires slots { (1 ≤ slots) × (slots ≤ 4194304) }
+    requires slots { (1 ≤ slots) × (slots ≤ most_slots) }
     ensures domain { IfOk result (λ opened.
         IsDomainFor work.now lanes slots form opened.domain) }
     ensures grants { IfOk result (λ opened. HasGrants opened.domain work.now) }
@@ -78,7 +79,7 @@ pub fn count_words<R: Threads + Wait + Sync, G: Gate + Sync, F: Fn(&[u64; 16]) -
     requires work { IsWork work.now }
     requires within { IsWithinLimits work.now }
     requires lanes { (1 ≤ lanes) × (lanes ≤ 31) }
-    requires slots { (1 ≤ slots) × (slots ≤ 4194304) }
+    requires slots { (1 ≤ slots) × (slots ≤ most_slots) }
     requires weighs { Weighs ⟦<PairKind<NodeKind, RecordKind> as PayloadKind>⟧.fits
         ⟦<PairKind<NodeKind, RecordKind> as PayloadKind>⟧.weight F.Fn weigh.now }
     ensures report { IfOk result (λ counted.

@@ -2,6 +2,7 @@
 use Rattle.std.proofs.Common.{◌≡◌, ◌≤◌, ℕ, [], ◌∷◌, refl, ap, sym, ◌∙◌, subst, arith}
 use Rattle.std.proofs.lemmas.List.Elements.{All-cons, All-get_or, All-nil}
 use Rattle.std.specs.Prelude.{slice_index_or}
+use Rattle.plain_state.specs.Limits.{most_cells, most_slots, most_weak_cells}
 use Rattle.plain_state.specs.declared.slot.Kind.TheVariants.{Disposal}
 use Rattle.plain_state.specs.State.{Plain, empty, seat_at}
 use Rattle.plain_state.proofs.Kit.{entry_none}
@@ -87,8 +88,8 @@ module _ {P V : Type 0} (first : ℕ → V) (d : DomainState P) (protocol : P)
   seat_ready s got = subst (IsReady d) (sym (opened_first s got)) opened_ready
 
 -- with sizes in their ranges no field of the shape is bad
-module _ (slots cells weak_cells : ℕ) (some : (1 ≤ slots) × (slots ≤ 4194304)) (few : cells ≤ 65536)
-    (few_weak : weak_cells ≤ 4194304) (q : Quota) (quota : IsQuota q) where
+module _ (slots cells weak_cells : ℕ) (some : (1 ≤ slots) × (slots ≤ most_slots)) (few : cells ≤ most_cells)
+    (few_weak : weak_cells ≤ most_weak_cells) (q : Quota) (quota : IsQuota q) where
   abbrev lone_shape : Shape
   lone_shape =
       record { seats = 1; slots = slots; cells = cells; weak_cells = weak_cells; batch = 4 }

@@ -1,5 +1,6 @@
 //! A domain of one seat is opened.
 ghost use Rattle.std.specs.Prelude.{◌≡◌, ◌≤◌, [], IfOk};
+ghost use Rattle.plain_state.specs.Limits.{most_cells, most_slots, most_weak_cells};
 ghost use Rattle.plain_state.specs.State.{empty};
 ghost use Rattle.lone_heap.specs.Lone.{IsReady, known_plain};
 ghost use Rattle.lone_heap.specs.Words.{AreNoted};
@@ -29,9 +30,9 @@ pub fn open<K: PayloadKind>(
     cells: u32,
     weak_cells: u32,
 ) -> Result<(Domain<NoLaw<K>>, Seat<NoLaw<K>>, Words), OutOfMemory>
-    requires slots { (1 ≤ slots) × (slots ≤ 4194304) }
-    requires cells { cells ≤ 65536 }
-    requires weak_cells { weak_cells ≤ 4194304 }
+    requires slots { (1 ≤ slots) × (slots ≤ most_slots) }
+    requires cells { cells ≤ most_cells }
+    requires weak_cells { weak_cells ≤ most_weak_cells }
     ensures empty { IfOk result (λ r. known_plain r.0 r.1 ≡ empty 1 slots cells weak_cells) }
     ensures trail { IfOk result (λ r. r.1.view.core.trail ≡ []) }
     ensures noted { IfOk result (λ r. AreNoted r.2 r.1) }

@@ -1,5 +1,6 @@
 //! Snapshots of a seat that is alone: taken, kept by a reference, and ended.
 ghost use Rattle.std.specs.Prelude.{◌≡◌, ◌<◌, ◌↔◌, [], IfNone, IfOk, IfSome, IsErr, None, OnErr, Some, slice_set};
+ghost use Rattle.plain_state.specs.Limits.{words_of_seat};
 ghost use Rattle.plain_state.specs.declared.act.PlainAct.TheVariants as act;
 ghost use Rattle.plain_state.specs.declared.slot.Kind.TheVariants as kind;
 ghost use Rattle.plain_state.specs.Lists.{entry_times};
@@ -67,7 +68,7 @@ fn protect<K: PayloadKind>(
 ) -> Option<SlotId>
     requires ready { IsReady domain.now seat.old }
     requires some { 0 < word }
-    requires few { word < 4 }
+    requires few { word < words_of_seat }
     requires free { note_of seat.old.view.core word ≡ stands.Idle }
     requires strong { place_kind place ≡ kind.Strong }
     requires opened { IsOpen (known_plain domain.now seat.old) 0 place }

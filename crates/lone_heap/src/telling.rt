@@ -1,5 +1,6 @@
 //! What a seat that is alone is told of an object: a word, and how many references there are.
 ghost use Rattle.std.specs.Prelude.{◌≡◌, ◌<◌, [], slice_index};
+ghost use Rattle.plain_state.specs.Limits.{words_of_payload};
 ghost use Rattle.plain_state.specs.Places.{Holds};
 ghost use Rattle.plain_state.specs.References.{strong_refs, weak_refs};
 ghost use Rattle.plain_state.specs.State.{seat_at, slot_at};
@@ -16,7 +17,7 @@ use plain_state::PayloadKind;
 pub fn read<P: Protocol>(domain: &Domain<P>, seat: &mut Seat<P>, slot: SlotId, word: u32) -> u64
     requires ready { IsReady domain.now seat.old }
     requires holds { Holds (seat_at (known_plain domain.now seat.old) 0) slot }
-    requires within { word < 16 }
+    requires within { word < words_of_payload }
     ensures word { result
         ≡ slice_index (slot_at (known_plain domain.now seat.old) slot).payload word }
     ensures there { slot.0 < domain.now.shape.slots }

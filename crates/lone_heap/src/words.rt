@@ -1,5 +1,6 @@
 //! Which slots the announcement words of a seat protect.
 ghost use Rattle.std.specs.Prelude.{◌≡◌, ◌↔◌, IsTrue, Some};
+ghost use Rattle.plain_state.specs.Limits.{words_of_seat};
 
 use plain_state::SlotId;
 
@@ -43,7 +44,7 @@ impl Words {
     /// The word protects this slot from now on, or nothing.
     pub(crate) fn set(&mut self, word: u32, slot: Option<SlotId>)
         requires some { 0 < word }
-        requires few { word < 4 }
+        requires few { word < words_of_seat }
         ensures { notes_for self.new ≡ slice_set (notes_for self.old) word (note_for slot) }
     {
         match word {
@@ -57,7 +58,7 @@ impl Words {
     pub(crate) fn word_of(&self, slot: SlotId) -> u32
         requires { 0 < entry_times Strong slot (valid_of (notes_for self.now)) }
         ensures some { 0 < result }
-        ensures few { result < 4 }
+        ensures few { result < words_of_seat }
         ensures noted { slice_index_or (notes_for self.now) result note.Idle
             ≡ note.Valid Strong slot }
     {

@@ -1,5 +1,6 @@
 pub mod Lists
 pub mod State
+pub mod Limits
 pub mod Fits
 pub mod Places
 pub mod References

@@ -20,6 +20,7 @@ mod announced;
 mod ejection;
 mod image;
 mod laws;
+mod limits;
 mod payload;
 mod record;
 mod slot;
@@ -30,6 +31,9 @@ pub use counter_word::ZERO;
 pub use ejection::laws_of_ejection;
 pub use image::{Heap, SlotImage};
 pub use laws::steps_keep_sound;
+pub use limits::{
+    MOST_BATCH, MOST_CELLS, MOST_SEATS, MOST_SLOTS, MOST_WEAK_CELLS, WORDS_OF_SEAT, WORDS_OF_SLOT,
+};
 pub use payload::PayloadKind;
 pub use record::{RecordKind, laws_of_records, record_of};
 pub use slot::{Kind, PlainSlot, SlotId, Stage};

@@ -1,6 +1,7 @@
 -- A new store is kept.
 use Rattle.std.proofs.Common.{◌≡◌, ℕ, ◌^◌, ◌≤◌, length, replicate, ap, sym, ◌∙◌, subst, arith, lit<}
 use Rattle.std.proofs.lemmas.List.{length-replicate, get_or-replicate}
+use Rattle.plain_state.specs.Limits.{most_slots}
 use Rattle.plain_state.specs.declared.slot.Kind.TheVariants.{Disposal}
 use Rattle.plain_state.specs.declared.slot.PlainSlot.{PlainSlot}
 use Rattle.plain_state.specs.declared.slot.SlotId.{SlotId}
@@ -33,7 +34,7 @@ module _ (slots cells weak_cells : ℕ) where
       }
 
   pub kept_new : (h : Store) → plain_of h ≡ new → h.strong.items ≡ replicate slots 0 → h.weak.items ≡ replicate slots 0
-      → h.adds ≡ 0 → slots ≤ 2 ^ 22 → h.next ≡ 0 → Kept h
+      → h.adds ≡ 0 → slots ≤ most_slots → h.next ≡ 0 → Kept h
   kept_new h e f g adds fits next =
       let size : length h.slots.items ≡ slots = ap (λ (p : Plain). length p.slots) e ∙ length-replicate slots new_slot in
       record {

@@ -1,5 +1,6 @@
 -- What the calls of a plain heap ask and do, in words of the plain state of its one seat.
 use Rattle.std.specs.Prelude.{ℕ, false, ◌≡◌, ◌≢◌, ◌<◌, ◌≤◌, ◌+◌, ◌^◌, List, [], ◌∷◌, ◌++◌, length, All, None}
+use Rattle.plain_state.specs.Limits.{most_slots}
 use Rattle.plain_state.specs.declared.act.PlainAct.{PlainAct}
 use Rattle.plain_state.specs.declared.act.PlainAct.TheVariants as act
 use Rattle.plain_state.specs.declared.slot.Kind.TheVariants.{Disposal}
@@ -45,7 +46,7 @@ pub record NoDisposals (p : Plain) : Type 0 where
 pub record IsHeap (fits : List ℕ → Type 0) (p : Plain) : Type 0 where
   pub sound : Sound p
   pub seats : length p.seats ≡ 1
-  pub slots : length p.slots ≤ 2 ^ 22
+  pub slots : length p.slots ≤ most_slots
   pub adds : all_adds p + 1 < 2 ^ 63
   pub payloads : AllFit fits p
   pub tickets : p.tickets ≡ 0

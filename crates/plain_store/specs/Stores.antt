@@ -1,5 +1,6 @@
 -- The plain state that a store stands for, and what a store keeps.
 use Rattle.std.specs.Prelude.{ℕ, ◌≡◌, ◌<◌, ◌≤◌, ◌+◌, ◌^◌, false, List, [], ◌∷◌, length, slice_index, None}
+use Rattle.plain_state.specs.Limits.{most_slots}
 use Rattle.plain_state.specs.declared.slot.SlotId.{SlotId}
 use Rattle.plain_store.specs.declared.store.Store.{Store}
 use Rattle.plain_state.specs.State.{Plain}
@@ -40,5 +41,5 @@ pub record Kept (h : Store) : Type 0 where
   pub tallied : Tallied (plain_of h) h.strong.items h.weak.items
   -- so no count reaches the zero flag of its word
   pub adds : h.adds + 1 < 2 ^ 63
-  pub slots : length h.slots.items ≤ 2 ^ 22
+  pub slots : length h.slots.items ≤ most_slots
   pub next : h.next ≤ length h.slots.items

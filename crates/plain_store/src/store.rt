@@ -1,6 +1,7 @@
 //! What a plain heap keeps: the lists of its one seat, its places, its slots, and beside each slot the sums of the
 //! references to it. The sums are kept up step by step, so that no call adds up a list.
 ghost use Rattle.std.specs.Prelude.{◌≡◌, ◌+◌, ◌<◌, ◌≤◌, ◌^◌, IfOk, replicate};
+ghost use Rattle.plain_state.specs.Limits.{most_slots};
 ghost use Rattle.plain_state.specs.State.{empty};
 ghost use Rattle.plain_store.specs.Stores.{plain_of, Kept};
 
@@ -52,7 +53,7 @@ fn copies<T: Copy>(alloc: Global, value: T, count: u32) -> Result<Vec<T>, OutOfM
 impl Store {
     /// An empty heap of at most 4,194,304 slots.
     pub fn new(alloc: Global, slots: u32, cells: u32, weak_cells: u32) -> Result<Store, OutOfMemory>
-        requires { slots ≤ 4194304 }
+        requires { slots ≤ most_slots }
         ensures empty { IfOk result (λ h. plain_of h ≡ empty 1 slots cells weak_cells) }
         ensures kept { IfOk result Kept }
     {

@@ -1,5 +1,6 @@
 //! References that the seat of a store gains and gives up.
 ghost use Rattle.std.specs.Prelude.{◌≡◌, ◌+◌, ◌<◌, IfOk, OnErr, length, slice_index};
+ghost use Rattle.plain_state.specs.Limits.{words_of_payload};
 ghost use Rattle.plain_state.specs.declared.act.PlainAct.TheVariants as act;
 ghost use Rattle.plain_state.specs.State.{seat_at, slot_at};
 ghost use Rattle.plain_state.specs.Places.{Holds, HoldsStrongly};
@@ -97,7 +98,7 @@ impl Store {
     pub fn word(&self, slot: SlotId, word: u32) -> u64
         requires kept { Kept self.now }
         requires held { Holds (seat_at (plain_of self.now) 0) slot }
-        requires word { word < 16 }
+        requires word { word < words_of_payload }
         ensures { result ≡ slice_index (slot_at (plain_of self.now) slot).payload word }
     {
         self.slots[slot.0 as usize].payload[word as usize]

@@ -1,5 +1,6 @@
 //! Protecting what a place holds.
 ghost use Rattle.std.specs.Prelude.{◌≡◌, ◌≢◌, ◌<◌, IfErr, IfOk, IfSome, None, Ok, Some};
+ghost use Rattle.plain_state.specs.Limits.{words_of_seat};
 ghost use Rattle.plain_state.specs.declared.slot.SlotId.{SlotId};
 ghost use Rattle.core_events.specs.declared.act.Act.TheVariants as act;
 ghost use Rattle.core_events.specs.declared.view.Note.TheVariants as stands;
@@ -39,7 +40,7 @@ pub fn acquire<P: Protocol, L: Deed<P>, C: Deed<P>>(
     check: C,
 ) -> Result<Option<SlotId>, Moved>
     requires rest { IsAtRest domain.now seat.old }
-    requires note { note < 4 }
+    requires note { note < words_of_seat }
     requires free { note_of seat.old.view.core note ≡ stands.Idle }
     requires place { IsReadable domain.now.shape seat.old.view.core place }
     requires look { IsReady (L.ready look domain.now.protocol) domain.now.shape (act.Look place)

@@ -1,5 +1,6 @@
 //! An acquire that goes on until the place holds still.
 ghost use Rattle.std.specs.Prelude.{◌≡◌, ◌≢◌, ◌<◌, Some};
+ghost use Rattle.plain_state.specs.Limits.{words_of_seat};
 ghost use Rattle.plain_state.specs.declared.slot.SlotId.{SlotId};
 ghost use Rattle.core_events.specs.declared.view.Note.TheVariants as stands;
 ghost use Rattle.core_events.specs.Steps.{HasRoom};
@@ -28,7 +29,7 @@ pub fn acquire_at_last<P: Protocol, D: Deed<P>, R: Wait>(
     deed: D,
 ) -> Option<SlotId>
     requires rest { IsAtRest domain.now seat.old }
-    requires note { note < 4 }
+    requires note { note < words_of_seat }
     requires free { note_of seat.old.view.core note ≡ stands.Idle }
     requires place { IsReadable domain.now.shape seat.old.view.core place }
     requires deed { IsReadyToReacquire P.Kind.fits domain.now place

@@ -1,5 +1,6 @@
 //! A desk is opened, and closed.
 ghost use Rattle.std.specs.Prelude.{◌≡◌, ◌≤◌, [], All, IfOk, length};
+ghost use Rattle.plain_state.specs.Limits.{most_cells, most_slots, most_weak_cells};
 ghost use Rattle.plain_state.specs.declared.slot.SlotId.{SlotId};
 ghost use Rattle.plain_state.specs.State.{empty};
 ghost use Rattle.plain_store.specs.Settling.{IsSettled};
@@ -33,9 +34,9 @@ impl Desk {
     /// A desk with an empty heap and no names: 1 to 4,194,304 slots, at most 65,536 strong cells and 4,194,304 weak
     /// ones. Linear in them.
     pub fn open(alloc: Global, slots: u32, cells: u32, weak_cells: u32) -> Result<Desk, OutOfMemory>
-        requires slots { (1 ≤ slots) × (slots ≤ 4194304) }
-        requires cells { cells ≤ 65536 }
-        requires weak_cells { weak_cells ≤ 4194304 }
+        requires slots { (1 ≤ slots) × (slots ≤ most_slots) }
+        requires cells { cells ≤ most_cells }
+        requires weak_cells { weak_cells ≤ most_weak_cells }
         ensures plain { IfOk result (λ desk. desk.plain ≡ empty 1 slots cells weak_cells) }
         ensures settled { IfOk result (λ desk. IsSettled desk.plain) }
         ensures names { IfOk result (λ desk. desk.names ≡ []) }

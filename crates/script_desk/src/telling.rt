@@ -1,5 +1,6 @@
 //! What is told of the heap: a word, the counts of an object, an audit.
 ghost use Rattle.std.specs.Prelude.{◌<◌, IfOk};
+ghost use Rattle.plain_state.specs.Limits.{words_of_payload};
 ghost use Rattle.plain_store.specs.Settling.{IsSettled};
 ghost use Rattle.script_lines.specs.declared.command.Command.TheVariants as command;
 ghost use Rattle.script_desk.specs.Audits.{AnswersAudit};
@@ -20,7 +21,7 @@ impl Desk {
     /// A word of the payload.
     pub(crate) fn read(&self, name: &Name, word: u32) -> Said
         requires bound { IsBoundTo self.now.names name.now is_any }
-        requires word { word < 16 }
+        requires word { word < words_of_payload }
         ensures { Acts self.now (command.Read name.now word) result self.now }
     {
         Said::Word(self.heap.read(self.slot(name), word))

@@ -1,5 +1,6 @@
 //! A payload word of an object, as a seat that has its slot reads it.
 ghost use Rattle.std.specs.Prelude.{◌≡◌, ◌<◌, slice_index};
+ghost use Rattle.plain_state.specs.Limits.{words_of_payload};
 ghost use Rattle.core_events.specs.Views.{Holds};
 ghost use Rattle.domain_rule.specs.Views.{object_in};
 ghost use Rattle.core_events.specs.Steps.{HasRoom};
@@ -15,7 +16,7 @@ use plain_protocol::Protocol;
 pub fn read<P: Protocol>(domain: &Domain<P>, seat: &mut Seat<P>, slot: SlotId, word: u32) -> u64
     requires rest { IsAtRest domain.now seat.old }
     requires holds { Holds seat.old.view.core slot }
-    requires within { word < 16 }
+    requires within { word < words_of_payload }
     ensures read { result ≡ slice_index (object_in seat.old.view slot).payload word }
     ensures seen { SeesWord P.Kind.fits domain.now slot word result seat.old seat.new }
     ensures client { seat.new.view.client ≡ seat.old.view.client }

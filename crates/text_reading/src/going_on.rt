@@ -1,5 +1,6 @@
 //! From one slot of a text to the next, hand over hand.
 ghost use Rattle.std.specs.Prelude.{ℕ, ◌≡◌, ◌≢◌, ◌+◌, ◌<◌, length, None, Some};
+ghost use Rattle.plain_state.specs.Limits.{words_of_seat};
 ghost use Rattle.plain_state.specs.declared.slot.Kind.TheVariants.{Strong};
 ghost use Rattle.core_events.specs.declared.view.Note.TheVariants as stands;
 ghost use Rattle.core_events.specs.Steps.{with_note};
@@ -69,7 +70,7 @@ fn protect_part<S, P: HasDirectory<S>>(
     word: u32,
 ) -> SlotId
     requires rest { IsAtRest domain.now seat.old }
-    requires word { (0 < word) × (word < 4) }
+    requires word { (0 < word) × (word < words_of_seat) }
     requires free { note_of seat.old.view.core word ≡ stands.Idle }
     requires held { HoldsStrongly seat.old.view.core slot }
     requires reading { IsReading P.seen slot seat.old }

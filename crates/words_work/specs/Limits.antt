@@ -1,6 +1,7 @@
 -- How contents are to be counted, and within which limits.
 use Rattle.std.specs.Prelude.{ℕ, ◌≡◌, ◌+◌, ◌*◌, ◌<◌, ◌≤◌, ◌⊎◌, Bool, true, false, List, Some, length, map, string_bytes, unwrap_or, IfSome}
 use Rattle.std.specs.List.{sum_by}
+use Rattle.plain_state.specs.Limits.{most_slots}
 use Rattle.command_line.specs.declared.asked.WordsArgs.{WordsArgs}
 use Rattle.queue_law.specs.declared.view.Form.{Form}
 use Rattle.queue_law.specs.declared.view.Form.TheVariants.{Linked, Double}
@@ -27,7 +28,7 @@ plan_of args = record {
 pub record IsPlan (plan : Plan) : Type 0 where
   pub lanes : (1 ≤ plan.lanes) × (plan.lanes ≤ 31)
   pub rounds : (1 ≤ plan.rounds) × (plan.rounds ≤ 1000)
-  pub slots : IfSome plan.slots (λ n. (1 ≤ n) × (n ≤ 4194304))
+  pub slots : IfSome plan.slots (λ n. (1 ≤ n) × (n ≤ most_slots))
 
 -- the names of the files
 abbrev pub names_of : WordsArgs → List (List ℕ)
@@ -61,9 +62,6 @@ most_bytes = 67108864
 
 abbrev pub most_pieces : ℕ
 most_pieces = 1000000
-
-abbrev pub most_slots : ℕ
-most_slots = 4194304
 
 -- contents that may be counted in so many rounds
 pub record IsWithinLimits (rounds : ℕ) (contents : List (List ℕ)) : Type 0 where
