@@ -50,10 +50,14 @@ impl<P: Protocol> Domain<P> {
         ensures { result ≡ place_at self.now.shape place }
     {
         match place {
-            EventPlace::Cell(cell) => 1 + WORDS_OF_SEAT as usize * self.shape.seats as usize + cell as usize,
+            EventPlace::Cell(cell) => 1
+                + WORDS_OF_SEAT as usize * self.shape.seats as usize
+                + cell as usize,
             EventPlace::Field(slot, field) => self.slot_word(slot) + 2 + field as usize,
             EventPlace::WeakCell(cell) => {
-                1 + WORDS_OF_SEAT as usize * self.shape.seats as usize + self.shape.cells as usize + cell as usize
+                1 + WORDS_OF_SEAT as usize * self.shape.seats as usize
+                    + self.shape.cells as usize
+                    + cell as usize
             }
             EventPlace::WeakField(slot) => self.slot_word(slot) + 4,
         }

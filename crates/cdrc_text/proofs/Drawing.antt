@@ -6,13 +6,13 @@ use Rattle.std.proofs.lemmas.List.FromFn.{map-range_with_len_more}
 use Rattle.std.specs.List.{flat_map, range_with_len}
 use Rattle.cdrc_text.specs.Generated.{draw, drawn_part, generated_text, next_draw}
 
-pub draw-first : (seed : ℕ) → draw seed 0 ≡ seed
+pub drawn_first : (seed : ℕ) → draw seed 0 ≡ seed
 unfolding draw
-draw-first seed = refl
+drawn_first seed = refl
 
-pub draw-more : (seed k : ℕ) → draw seed (k + 1) ≡ next_draw (draw seed k)
+pub drawn_next : (seed k : ℕ) → draw seed (k + 1) ≡ next_draw (draw seed k)
 unfolding draw
-draw-more seed k = let next : k + 1 ≡ suc k = omega arith in ap (draw seed) next
+drawn_next seed k = let next : k + 1 ≡ suc k = omega arith in ap (draw seed) next
 
 single : {A : Type 0} (piece : List A) → flat_map (λ (xs : List A). xs) (piece ∷ []) ≡ piece
 single piece = search rules
@@ -29,13 +29,13 @@ parts-more part k =
     ∙ ap (λ last. flat_map itself before ++ last) (single (part (k + 1)))
     ∙ ap (λ first. first ++ part (k + 1)) (flat_map-map itself part (range_with_len 1 k))
 
-pub drawn-more : (seed many vocabulary k : ℕ)
+pub drawn_more : (seed many vocabulary k : ℕ)
     → flat_map (drawn_part seed many vocabulary) (range_with_len 1 (k + 1))
     ≡ flat_map (drawn_part seed many vocabulary) (range_with_len 1 k) ++ drawn_part seed many vocabulary (k + 1)
-drawn-more seed many vocabulary k = parts-more (drawn_part seed many vocabulary) k
+drawn_more seed many vocabulary k = parts-more (drawn_part seed many vocabulary) k
 
 -- after the last word stands the whole text
-pub drawn-all : (seed many vocabulary k : ℕ) → k ≡ many
+pub drawn_all : (seed many vocabulary k : ℕ) → k ≡ many
     → flat_map (drawn_part seed many vocabulary) (range_with_len 1 k) ≡ generated_text seed many vocabulary
 unfolding generated_text
-drawn-all seed many vocabulary k is = ap (λ n. flat_map (drawn_part seed many vocabulary) (range_with_len 1 n)) is
+drawn_all seed many vocabulary k is = ap (λ n. flat_map (drawn_part seed many vocabulary) (range_with_len 1 n)) is

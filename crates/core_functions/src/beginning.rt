@@ -53,7 +53,10 @@ pub fn first_words(alloc: Global, shape: &Shape) -> Result<Vec<u64>, OutOfMemory
 {
     let front = 1 + announcement_words(shape) + shape.cells as usize + shape.weak_cells as usize;
     let slots = shape.slots as usize;
-    let mut words = Vec::with_capacity(alloc, front + WORDS_OF_SLOT * slots + slots.div_ceil(64) + 1)?;
+    let mut words = Vec::with_capacity(
+        alloc,
+        front + WORDS_OF_SLOT * slots + slots.div_ceil(64) + 1,
+    )?;
     words.resize(front, 0)?;
     push_slots(&mut words, shape.slots)?;
     push_bits(&mut words, shape)?;

@@ -169,7 +169,8 @@ impl Holdings {
     /// Whether a reference of this kind is announced there, and was not found yet.
     pub(crate) fn has_announced(&self, at: u32, kind: Kind) -> bool
         ensures { IsTrue result
-            ↔ ((at < words_of_seat) × ((s : SlotId) × (note_of self.now at ≡ note.Announced kind s))) }
+            ↔ ((at < words_of_seat)
+            × ((s : SlotId) × (note_of self.now at ≡ note.Announced kind s))) }
     {
         at < 4
             && match self.notes[at as usize] {
