@@ -1,5 +1,5 @@
 -- What a store keeps true while it settles: room for what is yet to move, and no slot that could end or be given.
-use Rattle.std.specs.Prelude.{ℕ, ◌≡◌, ◌<◌, ◌≤◌, ◌+◌, ◌-◌, true, List, length, slice_index, slice_set, vec_capacity, None}
+use Rattle.std.specs.Prelude.{ℕ, ◌≡◌, ◌⊎◌, ◌<◌, ◌≤◌, ◌+◌, ◌-◌, true, List, length, slice_index, slice_set, vec_capacity, None}
 use Rattle.std.specs.VecDeque.{deque_capacity}
 use Rattle.plain_state.specs.declared.slot.Kind.{Kind}
 use Rattle.plain_state.specs.declared.slot.Kind.TheVariants.{Strong, Weak}
@@ -11,7 +11,7 @@ use Rattle.plain_store.specs.declared.store.Store.{Store}
 use Rattle.plain_state.specs.Lists.{Entry, entry_times}
 use Rattle.plain_state.specs.State.{Plain, stage_at}
 use Rattle.plain_state.specs.References.{over_slots, strong_refs, weak_refs}
-use Rattle.plain_store.specs.Stores.{plain_of}
+use Rattle.plain_store.specs.Stores.{Kept, plain_of}
 use Rattle.plain_store.specs.Settling.{SettlesTo}
 
 -- p settles to q and destroys nothing
@@ -51,6 +51,17 @@ per_live n p = over_slots (λ x. if_live n x.stage) p.slots
 pub record HasRoom (h : Store) : Type 0 where
   pub dying : length h.dying.items + per_live 1 (plain_of h) ≤ vec_capacity h.dying
   pub deferred : length h.deferred.items + per_object 3 (plain_of h) ≤ deque_capacity h.deferred
+
+-- A store settled at one slot: it did no more than settle, keeps what it must, and is calm at that slot now, and
+-- elsewhere where it was. What waits and what is under a snapshot is as it was, and so is the number of slots.
+pub record CalmsAt (s : SlotId) (old new : Store) : Type 0 where
+  pub settles : SettlesFreely (plain_of old) (plain_of new)
+  pub kept : Kept new
+  pub room : HasRoom new
+  pub calm : (x : SlotId) → (x ≡ s) ⊎ IsCalm (plain_of old) x → IsCalm (plain_of new) x
+  pub deferred : new.deferred ≡ old.deferred
+  pub snapshots : new.snapshots ≡ old.snapshots
+  pub slots : length new.slots.items ≡ length old.slots.items
 
 -- none of these entries is more than a snapshot needs
 abbrev pub AllNeeded : List Entry → List Entry → Type 0

@@ -1,5 +1,5 @@
 //! How a store settles: the parts of one pass, each some plain steps. Room for all that they move is made first.
-ghost use Rattle.std.specs.Prelude.{◌≡◌, ◌≢◌, ◌+◌, ◌<◌, ◌≤◌, ◌⊎◌, ◌++◌, List, length, take, OnOk, IfSome, IfNone, [], slice_index_or, slice_set, vec_len, vec_capacity};
+ghost use Rattle.std.specs.Prelude.{◌≡◌, ◌≢◌, ◌+◌, ◌<◌, ◌≤◌, ◌++◌, List, length, take, OnOk, IfSome, IfNone, [], slice_index_or, slice_set, vec_len, vec_capacity};
 ghost use Rattle.std.specs.VecDeque.{deque_capacity};
 ghost use Rattle.std.specs.List.{remove};
 ghost use Rattle.plain_state.specs.declared.slot.SlotId.{SlotId};
@@ -10,7 +10,7 @@ ghost use Rattle.plain_state.specs.State.{new_slot, seat_at, slot_at, stage_at};
 ghost use Rattle.plain_state.specs.References.{strong_refs, weak_refs};
 ghost use Rattle.plain_state.specs.Steps.{joined};
 ghost use Rattle.plain_store.specs.Stores.{plain_of, Kept};
-ghost use Rattle.plain_store.specs.Draining.{SettlesFreely, Destroys, IsCalm, HasRoom, AllNeeded, fewer, husk_of, ended_of, freed_of};
+ghost use Rattle.plain_store.specs.Draining.{SettlesFreely, CalmsAt, Destroys, IsCalm, HasRoom, AllNeeded, fewer, husk_of, ended_of, freed_of};
 
 use crate::entries::{count_before, defer, entry_count};
 use crate::store::Store;
@@ -105,14 +105,7 @@ impl Store {
         requires room { HasRoom self.old }
         requires live { stage_at (plain_of self.old) slot ≡ Live }
         requires none { strong_refs (plain_of self.old) slot ≡ 0 }
-        ensures settles { SettlesFreely (plain_of self.old) (plain_of self.new) }
-        ensures kept { Kept self.new }
-        ensures room { HasRoom self.new }
-        ensures calm { (s : SlotId) → (s ≡ slot) ⊎ IsCalm (plain_of self.old) s
-            → IsCalm (plain_of self.new) s }
-        ensures deferred { self.new.deferred ≡ self.old.deferred }
-        ensures snapshots { self.new.snapshots ≡ self.old.snapshots }
-        ensures slots { length self.new.slots.items ≡ length self.old.slots.items }
+        ensures { CalmsAt slot self.old self.new }
     {
         let object = ended(slot_in(&self.slots, slot));
         self.slots[slot.0 as usize] = object;
@@ -125,14 +118,7 @@ impl Store {
         requires room { HasRoom self.old }
         requires husk { stage_at (plain_of self.old) slot ≡ Husk }
         requires none { weak_refs (plain_of self.old) slot ≡ 0 }
-        ensures settles { SettlesFreely (plain_of self.old) (plain_of self.new) }
-        ensures kept { Kept self.new }
-        ensures room { HasRoom self.new }
-        ensures calm { (s : SlotId) → (s ≡ slot) ⊎ IsCalm (plain_of self.old) s
-            → IsCalm (plain_of self.new) s }
-        ensures deferred { self.new.deferred ≡ self.old.deferred }
-        ensures snapshots { self.new.snapshots ≡ self.old.snapshots }
-        ensures slots { length self.new.slots.items ≡ length self.old.slots.items }
+        ensures { CalmsAt slot self.old self.new }
     {
         let empty = freed(slot_in(&self.slots, slot));
         self.slots[slot.0 as usize] = empty;
@@ -143,14 +129,7 @@ impl Store {
         requires kept { Kept self.old }
         requires room { HasRoom self.old }
         requires there { slot.0 < length self.old.slots.items }
-        ensures settles { SettlesFreely (plain_of self.old) (plain_of self.new) }
-        ensures kept { Kept self.new }
-        ensures room { HasRoom self.new }
-        ensures calm { (s : SlotId) → (s ≡ slot) ⊎ IsCalm (plain_of self.old) s
-            → IsCalm (plain_of self.new) s }
-        ensures deferred { self.new.deferred ≡ self.old.deferred }
-        ensures snapshots { self.new.snapshots ≡ self.old.snapshots }
-        ensures slots { length self.new.slots.items ≡ length self.old.slots.items }
+        ensures { CalmsAt slot self.old self.new }
     {
         let at = slot.0 as usize;
         let stage = self.slots[at].stage;

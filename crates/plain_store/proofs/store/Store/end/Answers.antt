@@ -16,43 +16,39 @@ push_reserved-requires c =
     let b = ap (if_live 1) c.requires.live in
     omega (arith, c.requires.room.dying)
 
-pub returns-clause-settles : goal.returns-clause-settles
-returns-clause-settles c =
+pub returns : goal.returns
+returns c =
     let h = c.args.self.now in
-    let is : c.ended-object.result ≡ ended_of (slot_at (plain_of h) c.args.slot) = c.ended-object.ensures ∙ ap ended_of c.slot_in.ensures in
-    rw (c.push_reserved.ensures.items, is)
-    (ends_settles (seat_of h) h.cells.items h.weak_cells.items refl h.slots.items c.args.slot c.requires.live c.requires.none)
-
-pub returns-clause-kept : goal.returns-clause-kept
-returns-clause-kept c =
-    let h = c.args.self.now in
-    let is : c.ended-object.result ≡ ended_of (slot_at (plain_of h) c.args.slot) = c.ended-object.ensures ∙ ap ended_of c.slot_in.ensures in
-    kept_after h _ c.requires.kept (returns-clause-settles c)
-    (rw (c.push_reserved.ensures.items, is)
-    (end_tallied h c.args.slot c.requires.kept c.requires.live c.requires.none))
-    (record { adds = refl; slots = length-set h.slots.items c.args.slot.0 c.ended-object.result; next = refl })
-
-pub returns-clause-room : goal.returns-clause-room
-returns-clause-room c =
-    let h = c.args.self.now in
-    let is : c.ended-object.result ≡ ended_of (slot_at (plain_of h) c.args.slot) = c.ended-object.ensures ∙ ap ended_of c.slot_in.ensures in
+    let object = c.ended-object.result in
+    let is : object ≡ ended_of (slot_at (plain_of h) c.args.slot) =
+    c.ended-object.ensures ∙ ap ended_of c.slot_in.ensures in
     let at = live_there h c.args.slot c.requires.kept c.requires.live c.requires.none in
-    let a = live_room h 1 c.args.slot c.ended-object.result at in
-    let b = object_room h 3 c.args.slot c.ended-object.result at in
+    let a = live_room h 1 c.args.slot object at in
+    let b = object_room h 3 c.args.slot object at in
     let e = ap (λ (y : PlainSlot). if_live 1 y.stage) is in
     let f = ap (λ (y : PlainSlot). if_object 3 y.stage) is in
     let l = ap (if_live 1) c.requires.live in
     let m = ap (if_object 3) c.requires.live in
     let n = ap length c.push_reserved.ensures.items in
     let o = length-append h.dying.items (c.args.slot ∷ []) in
-    record { dying = omega (arith, c.requires.room.dying, c.push_reserved.ensures.capacity, a, e, l, n, o); deferred = omega (arith, c.requires.room.deferred, b, f, m) }
-
-pub returns-clause-calm : goal.returns-clause-calm
-returns-clause-calm c s either =
-    let h = c.args.self.now in
-    let is : c.ended-object.result ≡ ended_of (slot_at (plain_of h) c.args.slot) = c.ended-object.ensures ∙ ap ended_of c.slot_in.ensures in
-    rw (c.push_reserved.ensures.items, is)
-    (end_calm h c.args.slot c.requires.kept c.requires.live c.requires.none s either)
+    let ends = ends_settles (seat_of h) h.cells.items h.weak_cells.items refl h.slots.items c.args.slot
+    c.requires.live c.requires.none in
+    record {
+      settles = rw (c.push_reserved.ensures.items, is) ends;
+      kept = kept_after h _ c.requires.kept (rw (c.push_reserved.ensures.items, is) ends)
+          (rw (c.push_reserved.ensures.items, is)
+          (end_tallied h c.args.slot c.requires.kept c.requires.live c.requires.none))
+          (record { adds = refl; slots = length-set h.slots.items c.args.slot.0 object; next = refl });
+      room = record {
+        dying = omega (arith, c.requires.room.dying, c.push_reserved.ensures.capacity, a, e, l, n, o);
+        deferred = omega (arith, c.requires.room.deferred, b, f, m);
+      };
+      calm = λ s either. rw (c.push_reserved.ensures.items, is)
+          (end_calm h c.args.slot c.requires.kept c.requires.live c.requires.none s either);
+      deferred = refl;
+      snapshots = refl;
+      slots = length-set h.slots.items c.args.slot.0 object;
+    }
 
 pub slot_in-requires : goal.slot_in-requires
 slot_in-requires c = live_there c.args.self.now c.args.slot c.requires.kept c.requires.live c.requires.none
