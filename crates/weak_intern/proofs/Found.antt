@@ -1,5 +1,5 @@
 -- A walk for a text, cell by cell, and where it ends.
-use Rattle.std.proofs.Common.{◌≡◌, inr, ⊎_elim, ℕ, ◌++◌, false, true, ◌+◌, ◌%◌, ◌<◌, List, [], ◌∷◌, refl, sym, ap, subst, ◌∙◌, arith, Some, None}
+use Rattle.std.proofs.Common.{◌≡◌, inr, ⊎_elim, ℕ, ◌++◌, ◌+◌, ◌%◌, ◌<◌, List, [], ◌∷◌, refl, sym, ap, subst, ◌∙◌, arith, Some, None}
 use Rattle.std.specs.Prelude.{Bool, Err, Option, Result, ◌≤◌}
 use Rattle.std.proofs.lemmas.Bool.{cases_lt}
 use Rattle.plain_state.specs.declared.act.EventPlace.TheVariants.{WeakCell}
@@ -13,7 +13,7 @@ use Rattle.core_law.proofs.Kit.{times_push}
 use Rattle.acquire_retire.specs.Calls.{Steps}
 use Rattle.acquire_retire.specs.Domains.{DomainState}
 use Rattle.acquire_retire.specs.Seats.{SeatState}
-use Rattle.control_word.specs.Resting.{IsAtRest, IsSpent}
+use Rattle.control_word.specs.Resting.{IsAtRest}
 use Rattle.control_word.proofs.Becoming.{knows_after, one_step, rest_after}
 use Rattle.counted_handles.specs.Handles.{Handle}
 use Rattle.directory_law.specs.declared.view.View.{View}
@@ -79,8 +79,6 @@ pub record Walks {P V : Type 0} (d : DomainState P) (seen : V → View) (with_se
   pub room : HasRoom now.view.core
   pub rest : IsAtRest d now
   pub makes : now.view.core.makes ≡ old.view.core.makes
-  pub begins : n ≡ 0 → now ≡ old
-  pub able : 0 < n → IsSpent old.view.core → ⊥
 
 module _ {P V : Type 0} (d : DomainState P) (l : Place V) (z : Area) (text : Text)
     (a : SeatState V) where
@@ -93,8 +91,6 @@ module _ {P V : Type 0} (d : DomainState P) (l : Place V) (z : Area) (text : Tex
     room = room;
     rest = rest;
     makes = refl;
-    begins = λ is. refl;
-    able = λ some. absurd (omega (arith, some));
   }
 
   module _ (n : ℕ) (b c : SeatState V) (walks : Walks d l.seen l.with_seen z text n a b) where
@@ -123,21 +119,13 @@ module _ {P V : Type 0} (d : DomainState P) (l : Place V) (z : Area) (text : Tex
     walk_learns k more =
         zero_then l k a.view.client b.view.client c.view.client walks.learns more
 
-    -- a seat that can't count any more is refused at the first cell
-    pub walk_able : (IsSpent b.view.core → ⊥) → IsSpent a.view.core → ⊥
-    walk_able here spent = ⊎_elim
-        (λ (some : 0 < n). walks.able some spent)
-        (λ none. here (subst (λ (x : SeatState V). IsSpent x.view.core)
-        (sym (walks.begins (omega (arith, none)))) spent))
-        (cases_lt 0 n)
-
     pub one_passed : (cell : ℕ) → on z text n ≡ cell
         → Passes (l.seen c.view.client) text cell
         → Leaves b.view.core.owned b.view.core.weaks b c
         → LearnsBy l 0 b.view.client c.view.client
-        → (IsSpent b.view.core → ⊥) → HasRoom c.view.core → IsAtRest d c
+        → HasRoom c.view.core → IsAtRest d c
         → c.view.core.makes ≡ b.view.core.makes → Walks d l.seen l.with_seen z text (n + 1) a c
-    one_passed cell at passes second more here room rest makes = record {
+    one_passed cell at passes second more room rest makes = record {
       walked = λ j low. ⊎_elim
           (λ less. passes_still 0 (l.seen b.view.client) (l.seen c.view.client) text
           (on z text j) more.part (walks.walked j less))
@@ -150,8 +138,6 @@ module _ {P V : Type 0} (d : DomainState P) (l : Place V) (z : Area) (text : Tex
       room = room;
       rest = rest;
       makes = makes ∙ walks.makes;
-      begins = λ is. absurd (omega (arith, is));
-      able = λ some spent. walk_able here spent;
     }
 
     -- WHERE IT ENDS
@@ -228,15 +214,15 @@ module _ {P V : Type 0} (d : DomainState P) (l : Place V) (z : Area) (text : Tex
         → on z text n ≡ cell → Meets l.seen d z cell text found b c
         → Leaves (with_found (met found) b.view.core.owned) b.view.core.weaks b c
         → LearnsBy l (taken intern found) b.view.client c.view.client
-        → (IsSpent b.view.core → false ≡ true) → HasRoom c.view.core → IsAtRest d c
+        → HasRoom c.view.core → IsAtRest d c
         → c.view.core.makes ≡ b.view.core.makes
         → Walks d l.seen l.with_seen z text (n + 1) a c
-    other_passed intern cell found other at meets second more here room rest makes =
+    other_passed intern cell found other at meets second more room rest makes =
         one_passed cell at (subst (λ f. Meets l.seen d z cell text f b c) other meets)
         (subst (λ f. Leaves (with_found (met f) b.view.core.owned) b.view.core.weaks b c) other
         second)
         (subst (λ f. LearnsBy l (taken intern f) b.view.client c.view.client) other more)
-        (λ spent'. let e = here spent' in absurd (cc (e))) room rest makes
+        room rest makes
 
     -- the walk has passed all cells
     pub around_found : z.cells ≤ n → 0 < z.cells → EndsAround l.seen d z b c

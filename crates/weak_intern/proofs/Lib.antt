@@ -1,8 +1,10 @@
 pub mod Seen
+pub mod LetGo
 pub mod Raised
 pub mod Compared
 pub mod Heads
 pub mod Meeting
+pub mod Moves
 pub mod Found
 pub mod Answered
 pub mod Bound

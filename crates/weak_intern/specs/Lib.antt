@@ -1,5 +1,6 @@
 pub mod Sought
 pub mod Seeing
+pub mod Sighting
 pub mod Knowing
 pub mod Walking
 pub mod Interning

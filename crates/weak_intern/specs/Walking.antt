@@ -1,6 +1,7 @@
 -- What a walk meets, and what a find answers.
-use Rattle.std.specs.Prelude.{Bool, ℕ, ◌<◌, List, Option, Some, None, Result, Ok, Err}
+use Rattle.std.specs.Prelude.{Bool, false, true, ℕ, ◌≡◌, ◌⊎◌, ◌<◌, List, Option, Some, None, Result, Ok, Err}
 use Rattle.plain_state.specs.declared.slot.SlotId.{SlotId}
+use Rattle.core_events.specs.declared.view.CoreView.{CoreView}
 use Rattle.counted_handles.specs.Handles.{Handle}
 use Rattle.acquire_retire.specs.Domains.{DomainState}
 use Rattle.acquire_retire.specs.Seats.{SeatState}
@@ -18,6 +19,8 @@ use Rattle.weak_intern.specs.declared.walking.Walk.TheVariants as walk
 use Rattle.directory_calls.specs.Directories.{HasNoRecord, IsRecord}
 use Rattle.weak_intern.specs.Knowing.{Knows}
 use Rattle.weak_intern.specs.Seeing.{EndsAt, HasSeenAt}
+use Rattle.weak_intern.specs.declared.seeing.Sighted.{Sighted}
+use Rattle.weak_intern.specs.Sighting.{Ends, Raises, Sights, Visits}
 use Rattle.directory_calls.specs.Steps.{AtStep}
 
 -- the record that a walk met, if it met one
@@ -47,6 +50,28 @@ taken intern (sight.Record strong) = spent intern
 abbrev pub taken_by : {E : Type 0} → Bool → Result Sight E → ℕ
 taken_by intern (Ok found) = taken intern found
 taken_by intern (Err error) = 0
+
+-- THE MOVES, of which a seat met this where it looked for a short text: in weak cell i
+abbrev pub LooksBy : {E : Type 0} → ℕ → Result Sight E → CoreView → CoreView → Type 0
+LooksBy i (Ok sight.Null) v w = (j : ℕ) × Sights i j None v w
+LooksBy i (Ok sight.Other) v w =
+    (s : SlotId) × (Visits i s None v w ⊎ Visits i s (Some false) v w)
+LooksBy i (Ok (sight.Record strong)) v w = Visits i strong.slot (Some true) v w
+LooksBy i (Err error) v w = (s : SlotId) × Visits i s None v w
+
+-- in a head that it saw
+abbrev pub EndsBy : {E : Type 0} → Sighted → Result Sight E → CoreView → CoreView → Type 0
+EndsBy it (Ok sight.Null) v w = ⊥
+EndsBy it (Ok sight.Other) v w = Ends it None v w ⊎ Ends it (Some false) v w
+EndsBy it (Ok (sight.Record strong)) v w = (strong.slot ≡ it.slot) × Ends it (Some true) v w
+EndsBy it (Err error) v w = Ends it None v w
+
+-- and in one that it had compared
+abbrev pub RaisesBy : {E : Type 0} → Sighted → Result Sight E → CoreView → CoreView → Type 0
+RaisesBy it (Ok sight.Null) v w = ⊥
+RaisesBy it (Ok sight.Other) v w = Raises it (Some false) v w
+RaisesBy it (Ok (sight.Record strong)) v w = (strong.slot ≡ it.slot) × Raises it (Some true) v w
+RaisesBy it (Err error) v w = Raises it None v w
 
 -- of a view, `seen` is what it has of the directory
 module _ {P V : Type 0} (seen : V → View) (d : DomainState P) (z : Area) where

@@ -44,7 +44,6 @@ pub fn find<R: Wait, S, P: HasDirectory<S>>(
     ensures knows { IfOk result (λ found. IfSome found (λ strong.
         KnowsRecord P.seen text.now strong.slot seat.new)) }
     ensures spent { IsErr result → IsSpent seat.new.view.core }
-    ensures refused { IsSpent seat.old.view.core → IsErr result }
     ensures leaves { Leaves (with_found (found_by result) seat.old.view.core.owned)
         seat.old.view.core.weaks seat.old seat.new }
     ensures learns { LearnsIn P.seen P.with_seen 0 seat.old.view.client seat.new.view.client }

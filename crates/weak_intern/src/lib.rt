@@ -33,6 +33,7 @@ mod drawing;
 mod finding;
 mod interning;
 mod looking;
+mod raising;
 mod seeing;
 mod sought;
 #[cfg(test)]
@@ -45,4 +46,5 @@ pub use drawing::draw;
 pub use finding::find;
 pub use interning::intern;
 pub use record_making::{MakeError, cell_on, hash_of, head_of};
-pub use seeing::{raise, see};
+pub use raising::raise;
+pub use seeing::{Sighted, let_go, see};

@@ -51,7 +51,6 @@ pub(crate) fn seek<R: Wait, S, P: HasDirectory<S>>(
         (area_of (P.part domain.now.protocol)) (text_of sought.now.text.now) walk
         seat.old seat.new) }
     ensures spent { IsErr result → IsSpent seat.new.view.core }
-    ensures refused { IsSpent seat.old.view.core → IsErr result }
     ensures leaves { Leaves (with_found (walked_by result) seat.old.view.core.owned)
         seat.old.view.core.weaks seat.old seat.new }
     ensures learns { LearnsIn P.seen P.with_seen (used_by intern result)

@@ -114,7 +114,7 @@ loop-passed-preserved g c =
     c.args.sought.now.hash c.loop-passed.passed c.args.directory.now.cells c.cell_on-cell.result
     c.requires.sought.place c.requires.over.cells c.cell_on-cell.ensures.cell)
     c.in_ok-look.ensures.meets c.in_ok-look.ensures.leaves c.in_ok-look.ensures.learns
-    c.in_ok-look.ensures.refused c.look.ensures.room c.look.ensures.rest c.look.ensures.makes
+    c.look.ensures.room c.look.ensures.rest c.look.ensures.makes
 
 pub returns-clause-comes : goal.returns-clause-comes
 returns-clause-comes g c =

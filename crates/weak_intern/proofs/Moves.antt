@@ -1,0 +1,302 @@
+-- What the moves of a look at a cell leave of a seat, one after another.
+use Rattle.std.proofs.Common.{◌≡◌, ◌≢◌, ℕ, ◌<◌, Bool, true, false, List, [], ◌∷◌, ◌++◌, refl, sym, ap, subst, ◌∙◌, append_assoc, arith, Some, None, inl, inr}
+use Rattle.std.specs.Prelude.{Err, IfOk, Ok, Option, Result}
+use Rattle.plain_state.specs.declared.act.EventPlace.TheVariants.{WeakCell}
+use Rattle.plain_state.specs.declared.slot.Kind.TheVariants.{Weak}
+use Rattle.plain_state.specs.declared.slot.SlotId.{SlotId}
+use Rattle.core_events.specs.declared.view.CoreView.{CoreView}
+use Rattle.core_events.specs.declared.view.Move.{Move}
+use Rattle.core_events.specs.declared.view.Note.TheVariants as note
+use Rattle.core_events.specs.Views.{note_of}
+use Rattle.acquire_retire.specs.Domains.{DomainState}
+use Rattle.acquire_retire.specs.Seats.{SeatState}
+use Rattle.control_word.specs.Moves.{KnowsStill}
+use Rattle.control_word.specs.Resting.{IsSpent}
+use Rattle.domain_rule.specs.Views.{object_in}
+use Rattle.protected_loads.specs.Loads.{protected_by}
+use Rattle.protected_loads.specs.Retries.{lost_by}
+use Rattle.protected_loads.proofs.Noting.{second_stays, written_back}
+use Rattle.directory_law.specs.declared.view.View.{View}
+use Rattle.directory_law.specs.Cells.{Area}
+use Rattle.directory_law.specs.Payloads.{Text}
+use Rattle.directory_calls.specs.Steps.{GoesOn, Leaves, aside, with_found}
+use Rattle.directory_calls.proofs.Going.{leaves_core}
+use Rattle.directory_calls.proofs.Parts.{LearnsBy, Place, part_none}
+use Rattle.snapshot_ptr.proofs.Under.{least_is_free}
+use Rattle.text_reading.specs.Reading.{HasTwoFree}
+use Rattle.weak_intern.specs.declared.looking.Sight.{Sight}
+use Rattle.weak_intern.specs.declared.looking.Sight.TheVariants as sight
+use Rattle.weak_intern.specs.declared.seeing.Sighted.{Sighted}
+use Rattle.weak_intern.specs.Seeing.{HasSeenAt, HasSeenIn, Sees}
+use Rattle.weak_intern.specs.Sighting.{Compares, Ends, IsSighted, Raises, Sights, SightsBy, Visits, compared_by, let_go_of, raised_moves, seat_without, sighted_in, with_added}
+use Rattle.weak_intern.specs.Walking.{EndsBy, LooksBy, Meets, MeetsIn, RaisesBy}
+use Rattle.weak_intern.proofs.LetGo.{had_before, sighted_has}
+use Rattle.weak_intern.proofs.Sights.{head_still, meets_from, met_still, more_leaves, saw_still}
+
+-- what a seat owns more after such an add
+abbrev pub gained : Option Bool → SlotId → Option SlotId
+gained None s = None
+gained (Some true) s = Some s
+gained (Some false) s = None
+
+-- A HEAD LET GO, after an add to it if there was one
+module _ {V : Type 0} (it : Sighted) (a c : SeatState V) where
+  pub raised_leaves : (how : Option Bool) → Raises it how a.view.core c.view.core
+      → KnowsStill (let_go_of it a.view.core) a c
+      → Leaves (with_found (gained how it.slot) a.view.core.owned) a.view.core.weaks
+      (seat_without it a) c
+  raised_leaves how core knows = go how core
+    where
+      left : (v : CoreView) (ms : List Move)
+          → c.view.core ≡ record v { trail = a.view.core.trail ++ ms }
+          → aside v ≡ aside (let_go_of it a.view.core)
+          → Leaves v.owned v.weaks (seat_without it a) c
+      left v ms core same = leaves_core (seat_without it a) c v ms core same knows
+
+      go : (how : Option Bool) → Raises it how a.view.core c.view.core
+          → Leaves (with_found (gained how it.slot) a.view.core.owned) a.view.core.weaks
+          (seat_without it a) c
+      go None core = left (let_go_of it a.view.core) (raised_moves it None) core refl
+      go (Some true) core =
+          left (with_added (Some true) it.slot (let_go_of it a.view.core))
+          (raised_moves it (Some true)) core refl
+      go (Some false) core =
+          left (with_added (Some false) it.slot (let_go_of it a.view.core))
+          (raised_moves it (Some false)) core refl
+
+  pub raised_makes : (how : Option Bool) → Raises it how a.view.core c.view.core
+      → c.view.core.makes ≡ a.view.core.makes
+  raised_makes None core = ap (λ (v : CoreView). v.makes) core
+  raised_makes (Some true) core = ap (λ (v : CoreView). v.makes) core
+  raised_makes (Some false) core = ap (λ (v : CoreView). v.makes) core
+
+  pub raised_seat : (how : Option Bool) → Raises it how a.view.core c.view.core
+      → c.view.core.seat ≡ a.view.core.seat
+  raised_seat None core = ap (λ (v : CoreView). v.seat) core
+  raised_seat (Some true) core = ap (λ (v : CoreView). v.seat) core
+  raised_seat (Some false) core = ap (λ (v : CoreView). v.seat) core
+
+  pub raised_goes : (how : Option Bool) → Raises it how a.view.core c.view.core
+      → GoesOn a.view.core c.view.core
+  raised_goes how core = (raised_moves it how, ap (λ (v : CoreView). v.trail) core)
+
+  pub spent_still : Raises it None a.view.core c.view.core → IsSpent a.view.core
+      → IsSpent c.view.core
+  spent_still core spent = subst IsSpent (sym core) spent
+
+-- A HEAD COMPARED
+module _ {V : Type 0} (l : Place V) (it : Sighted) (a b : SeatState V)
+    (sighted : IsSighted it a.view.core) (compares : Compares it.slot a.view.core b.view.core)
+    (knows : KnowsStill a.view.core a b) (client : b.view.client ≡ a.view.client) where
+  pub sighted_then : IsSighted it b.view.core
+  sighted_then = subst (λ (v : CoreView). IsSighted it v) (sym compares.core) sighted
+
+  pub free_then : HasTwoFree (let_go_of it a.view.core) → HasTwoFree (let_go_of it b.view.core)
+  free_then free =
+      subst (λ (v : CoreView). HasTwoFree (let_go_of it v)) (sym compares.core) free
+
+  known_then : object_in b.view it.slot ≡ object_in a.view it.slot
+  known_then = knows it.slot (sighted_has it a.view.core sighted)
+
+  learns_then : LearnsBy l 0 a.view.client b.view.client
+  learns_then = subst (λ v. LearnsBy l 0 a.view.client v) (sym client)
+      (part_none l a.view.client)
+
+  pub saw_then : HasSeenIn l.seen it.slot a → HasSeenIn l.seen it.slot b
+  saw_then = saw_still l it.slot it.slot refl a b known_then learns_then
+
+  pub head_then : (head : List ℕ) → (object_in a.view it.slot).payload ≡ head
+      → (object_in b.view it.slot).payload ≡ head
+  head_then = head_still l it.slot it.slot refl a b known_then learns_then
+
+  pub met_then : {P E : Type 0} (d : DomainState P) (z : Area) (c : SeatState V) (text : Text)
+      (r : Result Sight E)
+      → IfOk r (λ found. MeetsIn l.seen d z it.slot text found b c)
+      → IfOk r (λ found. MeetsIn l.seen d z it.slot text found a c)
+  met_then d z c text (Ok found) meets =
+      met_still l it.slot it.slot refl a b known_then learns_then d z c text found
+      (ap (λ (v : CoreView). v.seat) compares.core)
+      (_, ap (λ (v : CoreView). v.trail) compares.core) meets
+  met_then d z c text (Err error) meets = tt
+
+  compared_leaves : Leaves a.view.core.owned a.view.core.weaks (seat_without it a)
+      (seat_without it b)
+  compared_leaves =
+      leaves_core (seat_without it a) (seat_without it b) (let_go_of it a.view.core) _
+      (ap (let_go_of it) compares.core) refl
+      (λ x has. knows x (had_before it a.view.core sighted x has))
+
+  pub leaves_then : (c : SeatState V) (o : Option SlotId)
+      → Leaves (with_found o b.view.core.owned) b.view.core.weaks (seat_without it b) c
+      → Leaves (with_found o a.view.core.owned) a.view.core.weaks (seat_without it a) c
+  leaves_then c o second =
+      more_leaves (seat_without it a) (seat_without it b) c o compared_leaves second
+
+  -- and then let go
+  pub ends_then : (c : SeatState V) (how : Option Bool) → Raises it how b.view.core c.view.core
+      → Ends it how a.view.core c.view.core
+  ends_then c how core = record {
+    words = compares.words;
+    few = compares.few;
+    core =
+        core
+        ∙ (ap (λ (v : CoreView). record (with_added how it.slot (let_go_of it v)) {
+          trail = v.trail ++ raised_moves it how;
+        }) compares.core
+        ∙ (shorter how (a.view.core.trail ++ compared_by it.slot compares.words)
+        ((a.view.core.trail ++ compared_by it.slot compares.words) ++ raised_moves it how)
+        ∙ ap (λ (t : List Move). record (with_added how it.slot (let_go_of it a.view.core)) {
+          trail = t;
+        })
+        (append_assoc a.view.core.trail (compared_by it.slot compares.words)
+        (raised_moves it how))));
+  }
+    where
+      shorter : (how : Option Bool) (t u : List Move)
+          → record (with_added how it.slot (let_go_of it (record a.view.core { trail = t }))) {
+            trail = u;
+          }
+          ≡ record (with_added how it.slot (let_go_of it a.view.core)) { trail = u }
+      shorter None t u = refl
+      shorter (Some true) t u = refl
+      shorter (Some false) t u = refl
+
+  pub ends_by : {E : Type 0} (c : SeatState V) (r : Result Sight E)
+      → RaisesBy it r b.view.core c.view.core → EndsBy it r a.view.core c.view.core
+  ends_by c (Ok sight.Null) raises = raises
+  ends_by c (Ok sight.Other) raises = inr (ends_then c (Some false) raises)
+  ends_by c (Ok (sight.Record strong)) raises =
+      (raises.0, ends_then c (Some true) raises.1)
+  ends_by c (Err error) raises = ends_then c None raises
+
+-- A HEAD SEEN in weak cell i
+module _ {V : Type 0} (i : ℕ) (it : Sighted) (a b : SeatState V)
+    (sights : Sights i it.word (Some it) a.view.core b.view.core)
+    (idle : note_of a.view.core it.word ≡ note.Idle) where
+  -- without it the seat has what it had
+  pub without_it : let_go_of it b.view.core ≡ record a.view.core { trail = b.view.core.trail }
+  without_it =
+      ap (λ (v : CoreView). record (let_go_of it v) { trail = b.view.core.trail }) sights.core
+      ∙ ap (λ (v : CoreView). record v { trail = b.view.core.trail })
+      (second_stays a.view.core it.word (note.Valid Weak it.slot) note.Idle
+      ∙ written_back a.view.core it.word note.Idle idle)
+
+  pub seen_leaves : KnowsStill a.view.core a b
+      → Leaves a.view.core.owned a.view.core.weaks a (seat_without it b)
+  seen_leaves knows =
+      leaves_core a (seat_without it b) a.view.core _
+      (without_it
+      ∙ ap (λ (t : List Move). record a.view.core { trail = t })
+      (ap (λ (v : CoreView). v.trail) sights.core))
+      refl knows
+
+  pub seen_free : HasTwoFree a.view.core → HasTwoFree (let_go_of it b.view.core)
+  seen_free free = subst (λ (v : CoreView). HasTwoFree v) (sym without_it) free
+
+  pub visits_then : (c : SeatState V) (s : SlotId) (how : Option Bool) → s ≡ it.slot
+      → Ends it how b.view.core c.view.core → Visits i s how a.view.core c.view.core
+  visits_then c s how same ends =
+      subst (λ (x : SlotId). Visits i x how a.view.core c.view.core) (sym same) (record {
+        word = it.word;
+        lost = sights.lost;
+        words = ends.words;
+        few = ends.few;
+        core =
+            ends.core
+            ∙ (ap (λ (v : CoreView). record (with_added how it.slot v) {
+              trail = b.view.core.trail ++ ended ends;
+            }) without_it
+            ∙ (shorter how (b.view.core.trail ++ ended ends)
+            ∙ ap (λ (t : List Move). record (with_added how it.slot a.view.core) { trail = t })
+            (ap (λ (v : CoreView). v.trail ++ ended ends) sights.core
+            ∙ (append_assoc a.view.core.trail (tries ++ found) (ended ends)
+            ∙ ap (λ (t : List Move). a.view.core.trail ++ t)
+            (append_assoc tries found (ended ends))))));
+      })
+    where
+      abbrev tries : List Move
+      tries = lost_by it.word (WeakCell i) sights.lost
+
+      abbrev found : List Move
+      found = protected_by it.word (WeakCell i) it.slot
+
+      abbrev ended : Ends it how b.view.core c.view.core → List Move
+      ended ends = compared_by it.slot ends.words ++ raised_moves it how
+
+      shorter : (how : Option Bool) (t : List Move)
+          → record (with_added how it.slot (record a.view.core { trail = b.view.core.trail })) {
+            trail = t;
+          }
+          ≡ record (with_added how it.slot a.view.core) { trail = t }
+      shorter None t = refl
+      shorter (Some true) t = refl
+      shorter (Some false) t = refl
+
+  pub looks_then : {E : Type 0} (c : SeatState V) (r : Result Sight E)
+      → EndsBy it r b.view.core c.view.core → LooksBy i r a.view.core c.view.core
+  looks_then c (Ok sight.Null) ends = absurd ends
+  looks_then c (Ok sight.Other) (inl ends) = (it.slot, inl (visits_then c it.slot None refl ends))
+  looks_then c (Ok sight.Other) (inr ends) =
+      (it.slot, inr (visits_then c it.slot (Some false) refl ends))
+  looks_then c (Ok (sight.Record strong)) ends =
+      visits_then c strong.slot (Some true) ends.0 ends.1
+  looks_then c (Err error) ends = (it.slot, visits_then c it.slot None refl ends)
+
+-- A LOOK at weak cell i, in which this was seen
+module _ {V : Type 0} (i : ℕ) (a b : SeatState V) (found : Option Sighted)
+    (sights : SightsBy i found a.view.core b.view.core) (knows : KnowsStill a.view.core a b) where
+  -- null
+  module _ (null : found ≡ None) where
+    pub null_by : (j : ℕ) × Sights i j None a.view.core b.view.core
+    null_by = subst (λ f. SightsBy i f a.view.core b.view.core) null sights
+
+    pub null_leaves : Leaves a.view.core.owned a.view.core.weaks a b
+    null_leaves = leaves_core a b a.view.core _ null_by.1.core refl knows
+
+    pub null_makes : b.view.core.makes ≡ a.view.core.makes
+    null_makes = ap (λ (v : CoreView). v.makes) null_by.1.core
+
+  -- a head
+  module _ (it : Sighted) (is : found ≡ Some it) where
+    by : SightsBy i (Some it) a.view.core b.view.core
+    by = subst (λ f. SightsBy i f a.view.core b.view.core) is sights
+
+    idle : note_of a.view.core it.word ≡ note.Idle
+    idle = (least_is_free a.view.core it.word by.0).2
+
+    pub look_sighted : IsSighted it b.view.core
+    look_sighted = by.1
+
+    pub look_free : HasTwoFree a.view.core → HasTwoFree (let_go_of it b.view.core)
+    look_free = seen_free i it a b by.2 idle
+
+    pub look_without : Leaves a.view.core.owned a.view.core.weaks a (seat_without it b)
+    look_without = seen_leaves i it a b by.2 idle knows
+
+    pub look_makes : b.view.core.makes ≡ a.view.core.makes
+    look_makes = ap (λ (v : CoreView). v.makes) by.2.core
+
+    pub look_saw : {P : Type 0} (seen : V → View) (d : DomainState P) (z : Area) (n : ℕ)
+        → Sees seen d z n (sighted_in found) a b → HasSeenAt seen n it.slot b
+    look_saw seen d z n sees = subst (λ f. Sees seen d z n (sighted_in f) a b) is sees
+
+    module _ (c : SeatState V) where
+      pub look_leaves : (o : Option SlotId)
+          → Leaves (with_found o b.view.core.owned) b.view.core.weaks (seat_without it b) c
+          → Leaves (with_found o a.view.core.owned) a.view.core.weaks a c
+      look_leaves o second = more_leaves a (seat_without it b) c o look_without second
+
+      pub look_by : {E : Type 0} (r : Result Sight E) → EndsBy it r b.view.core c.view.core
+          → LooksBy i r a.view.core c.view.core
+      look_by r ends = looks_then i it a b by.2 idle c r ends
+
+      pub look_met : {P E : Type 0} (d : DomainState P) (l : Place V) (z : Area) (n : ℕ)
+          (text : Text) (r : Result Sight E) → Sees l.seen d z n (sighted_in found) a b
+          → LearnsBy l 0 a.view.client b.view.client
+          → IfOk r (λ found. MeetsIn l.seen d z it.slot text found b c)
+          → IfOk r (λ found. Meets l.seen d z n text found a c)
+      look_met d l z n text (Ok found') sees learns meets =
+          meets_from d l z a b c (ap (λ (v : CoreView). v.seat) by.2.core)
+          (_, ap (λ (v : CoreView). v.trail) by.2.core) learns n text found'
+          (meets n (look_saw l.seen d z n sees))
+      look_met d l z n text (Err error) sees learns meets = tt
