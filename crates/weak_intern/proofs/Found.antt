@@ -1,6 +1,6 @@
 -- A walk for a text, cell by cell, and where it ends.
 use Rattle.std.proofs.Common.{◌≡◌, inr, ⊎_elim, ℕ, ◌++◌, ◌+◌, ◌%◌, ◌<◌, List, [], ◌∷◌, refl, sym, ap, subst, ◌∙◌, arith, Some, None}
-use Rattle.std.specs.Prelude.{Bool, Err, Option, Result, ◌≤◌}
+use Rattle.std.specs.Prelude.{Bool, Err, Ok, Option, Result, ◌≤◌}
 use Rattle.std.proofs.lemmas.Bool.{cases_lt}
 use Rattle.plain_state.specs.declared.act.EventPlace.TheVariants.{WeakCell}
 use Rattle.plain_state.specs.declared.slot.SlotId.{SlotId}
@@ -30,10 +30,12 @@ use Rattle.directory_calls.specs.Learning.{LearnsIn}
 use Rattle.directory_calls.specs.Steps.{AtStep, Leaves, with_found}
 use Rattle.weak_intern.specs.declared.walking.Walk.{Walk}
 use Rattle.weak_intern.specs.declared.walking.Walk.TheVariants as walk
-use Rattle.weak_intern.specs.Walking.{ComesTo, EndsAround, Meets, met, taken, used_by, walked_by}
+use Rattle.weak_intern.specs.Costs.{PassesBy, TakesBy}
+use Rattle.weak_intern.specs.Walking.{ComesTo, EndsAround, LooksBy, Meets, met, taken, used_by, walked_by}
 use Rattle.directory_calls.proofs.Going.{at_step, from_earlier, holds_by, leaves_as, leaves_core, leaves_none, leaves_then, seat_same}
 use Rattle.directory_calls.proofs.Learnt.{passes_still, walked_still}
 use Rattle.directory_calls.proofs.Parts.{LearnsBy, Place, lifts, part_none, tells, zero_then}
+use Rattle.weak_intern.proofs.Costs.{passes_either, passes_none}
 
 -- A LAST LOOK
 module _ {P V : Type 0} (fits : List ℕ → Type 0) (d : DomainState P) (l : Place V) (z : Area)
@@ -72,18 +74,19 @@ module _ {P V : Type 0} (fits : List ℕ → Type 0) (d : DomainState P) (l : Pl
 
 -- THE WALK has passed n cells
 pub record Walks {P V : Type 0} (d : DomainState P) (seen : V → View) (with_seen : V → View → V)
-    (z : Area) (text : Text) (n : ℕ) (old now : SeatState V) : Type 0 where
+    (z : Area) (text : Text) (short : Type 0) (n : ℕ) (old now : SeatState V) : Type 0 where
   pub walked : Walked z (seen now.view.client) text n
   pub leaves : Leaves old.view.core.owned old.view.core.weaks old now
   pub learns : LearnsIn seen with_seen 0 old.view.client now.view.client
   pub room : HasRoom now.view.core
   pub rest : IsAtRest d now
   pub makes : now.view.core.makes ≡ old.view.core.makes
+  pub costs : short → PassesBy old.view.core now.view.core
 
 module _ {P V : Type 0} (d : DomainState P) (l : Place V) (z : Area) (text : Text)
-    (a : SeatState V) where
+    (short : Type 0) (a : SeatState V) where
   pub walks_none : IsAtRest d a → HasRoom a.view.core
-      → Walks d l.seen l.with_seen z text 0 a a
+      → Walks d l.seen l.with_seen z text short 0 a a
   walks_none rest room = record {
     walked = λ j low. absurd (omega (arith, low));
     leaves = leaves_none a;
@@ -91,9 +94,10 @@ module _ {P V : Type 0} (d : DomainState P) (l : Place V) (z : Area) (text : Tex
     room = room;
     rest = rest;
     makes = refl;
+    costs = λ is. passes_none a.view.core;
   }
 
-  module _ (n : ℕ) (b c : SeatState V) (walks : Walks d l.seen l.with_seen z text n a b) where
+  module _ (n : ℕ) (b c : SeatState V) (walks : Walks d l.seen l.with_seen z text short n a b) where
     pub walk_leaves : (o : Option SlotId)
         → Leaves (with_found o b.view.core.owned) b.view.core.weaks b c
         → Leaves (with_found o a.view.core.owned) a.view.core.weaks a c
@@ -124,8 +128,10 @@ module _ {P V : Type 0} (d : DomainState P) (l : Place V) (z : Area) (text : Tex
         → Leaves b.view.core.owned b.view.core.weaks b c
         → LearnsBy l 0 b.view.client c.view.client
         → HasRoom c.view.core → IsAtRest d c
-        → c.view.core.makes ≡ b.view.core.makes → Walks d l.seen l.with_seen z text (n + 1) a c
-    one_passed cell at passes second more room rest makes = record {
+        → c.view.core.makes ≡ b.view.core.makes
+        → (short → PassesBy a.view.core c.view.core)
+        → Walks d l.seen l.with_seen z text short (n + 1) a c
+    one_passed cell at passes second more room rest makes costs = record {
       walked = λ j low. ⊎_elim
           (λ less. passes_still 0 (l.seen b.view.client) (l.seen c.view.client) text
           (on z text j) more.part (walks.walked j less))
@@ -138,6 +144,7 @@ module _ {P V : Type 0} (d : DomainState P) (l : Place V) (z : Area) (text : Tex
       room = room;
       rest = rest;
       makes = makes ∙ walks.makes;
+      costs = costs;
     }
 
     -- WHERE IT ENDS
@@ -210,19 +217,36 @@ module _ {P V : Type 0} (d : DomainState P) (l : Place V) (z : Area) (text : Tex
         (subst (λ f. Leaves (with_found (met f) b.view.core.owned) b.view.core.weaks b c) same
         second)
 
-    pub other_passed : (intern : Bool) (cell : ℕ) (found : Sight) → found ≡ sight.Other
+    pub other_passed : {E : Type 0} (intern : Bool) (cell : ℕ) (found : Sight)
+        → found ≡ sight.Other
         → on z text n ≡ cell → Meets l.seen d z cell text found b c
         → Leaves (with_found (met found) b.view.core.owned) b.view.core.weaks b c
         → LearnsBy l (taken intern found) b.view.client c.view.client
         → HasRoom c.view.core → IsAtRest d c
-        → c.view.core.makes ≡ b.view.core.makes
-        → Walks d l.seen l.with_seen z text (n + 1) a c
-    other_passed intern cell found other at meets second more room rest makes =
+        → c.view.core.makes ≡ b.view.core.makes → (i : ℕ)
+        → (short → LooksBy {E = E} i (Ok found) b.view.core c.view.core)
+        → Walks d l.seen l.with_seen z text short (n + 1) a c
+    other_passed {E = E} intern cell found other at meets second more room rest makes i looks =
         one_passed cell at (subst (λ f. Meets l.seen d z cell text f b c) other meets)
         (subst (λ f. Leaves (with_found (met f) b.view.core.owned) b.view.core.weaks b c) other
         second)
         (subst (λ f. LearnsBy l (taken intern f) b.view.client c.view.client) other more)
         room rest makes
+        (λ is. let by = subst (λ f. LooksBy {E = E} i (Ok f) b.view.core c.view.core) other
+        (looks is) in
+        passes_either a.view.core b.view.core c.view.core i by.0 (walks.costs is) by.1)
+
+    -- what the record cost
+    pub record_costs : {E : Type 0} (i : ℕ) (found : Sight) (strong : Handle)
+        → found ≡ sight.Record strong
+        → (short → LooksBy {E = E} i (Ok found) b.view.core c.view.core)
+        → short → TakesBy strong.slot a.view.core c.view.core
+    record_costs {E = E} i found strong same looks is = (
+      b.view.core,
+      walks.costs is,
+      i,
+      subst (λ f. LooksBy {E = E} i (Ok f) b.view.core c.view.core) same (looks is),
+    )
 
     -- the walk has passed all cells
     pub around_found : z.cells ≤ n → 0 < z.cells → EndsAround l.seen d z b c

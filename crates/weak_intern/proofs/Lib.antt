@@ -5,6 +5,7 @@ pub mod Compared
 pub mod Heads
 pub mod Meeting
 pub mod Moves
+pub mod Costs
 pub mod Found
 pub mod Answered
 pub mod Bound

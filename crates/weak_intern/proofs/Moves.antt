@@ -10,7 +10,10 @@ use Rattle.core_events.specs.declared.view.Note.TheVariants as note
 use Rattle.core_events.specs.Views.{note_of}
 use Rattle.acquire_retire.specs.Domains.{DomainState}
 use Rattle.acquire_retire.specs.Seats.{SeatState}
+use Rattle.control_word.specs.declared.upgrading.UpgradeError.{UpgradeError}
+use Rattle.control_word.specs.declared.upgrading.UpgradeError.TheVariants as no_raise
 use Rattle.control_word.specs.Moves.{KnowsStill}
+use Rattle.counted_handles.specs.Handles.{Handle}
 use Rattle.control_word.specs.Resting.{IsSpent}
 use Rattle.domain_rule.specs.Views.{object_in}
 use Rattle.protected_loads.specs.Loads.{protected_by}
@@ -19,7 +22,7 @@ use Rattle.protected_loads.proofs.Noting.{second_stays, written_back}
 use Rattle.directory_law.specs.declared.view.View.{View}
 use Rattle.directory_law.specs.Cells.{Area}
 use Rattle.directory_law.specs.Payloads.{Text}
-use Rattle.directory_calls.specs.Steps.{GoesOn, Leaves, aside, with_found}
+use Rattle.directory_calls.specs.Steps.{GoesOn, Leaves, aside, handle_by, with_found}
 use Rattle.directory_calls.proofs.Going.{leaves_core}
 use Rattle.directory_calls.proofs.Parts.{LearnsBy, Place, part_none}
 use Rattle.snapshot_ptr.proofs.Under.{least_is_free}
@@ -28,7 +31,7 @@ use Rattle.weak_intern.specs.declared.looking.Sight.{Sight}
 use Rattle.weak_intern.specs.declared.looking.Sight.TheVariants as sight
 use Rattle.weak_intern.specs.declared.seeing.Sighted.{Sighted}
 use Rattle.weak_intern.specs.Seeing.{HasSeenAt, HasSeenIn, Sees}
-use Rattle.weak_intern.specs.Sighting.{Compares, Ends, IsSighted, Raises, Sights, SightsBy, Visits, compared_by, let_go_of, raised_moves, seat_without, sighted_in, with_added}
+use Rattle.weak_intern.specs.Sighting.{Compares, Ends, IsSighted, Raises, Sights, SightsBy, Visits, added, compared_by, let_go_of, raised_moves, seat_without, sighted_in, with_added}
 use Rattle.weak_intern.specs.Walking.{EndsBy, LooksBy, Meets, MeetsIn, RaisesBy}
 use Rattle.weak_intern.proofs.LetGo.{had_before, sighted_has}
 use Rattle.weak_intern.proofs.Sights.{head_still, meets_from, met_still, more_leaves, saw_still}
@@ -63,6 +66,16 @@ module _ {V : Type 0} (it : Sighted) (a c : SeatState V) where
       go (Some false) core =
           left (with_added (Some false) it.slot (let_go_of it a.view.core))
           (raised_moves it (Some false)) core refl
+
+  pub handle_leaves : (r : Result Handle UpgradeError) → IfOk r (λ strong. strong.slot ≡ it.slot)
+      → Raises it (added r) a.view.core c.view.core → KnowsStill (let_go_of it a.view.core) a c
+      → Leaves (with_found (handle_by r) a.view.core.owned) a.view.core.weaks
+      (seat_without it a) c
+  handle_leaves (Ok h) same core knows =
+      subst (λ x. Leaves (a.view.core.owned ++ x ∷ []) a.view.core.weaks (seat_without it a) c)
+      (sym same) (raised_leaves (Some true) core knows)
+  handle_leaves (Err no_raise.Ended) same core knows = raised_leaves (Some false) core knows
+  handle_leaves (Err no_raise.Spent) same core knows = raised_leaves None core knows
 
   pub raised_makes : (how : Option Bool) → Raises it how a.view.core c.view.core
       → c.view.core.makes ≡ a.view.core.makes
@@ -193,44 +206,48 @@ module _ {V : Type 0} (i : ℕ) (it : Sighted) (a b : SeatState V)
   pub seen_free : HasTwoFree a.view.core → HasTwoFree (let_go_of it b.view.core)
   seen_free free = subst (λ (v : CoreView). HasTwoFree v) (sym without_it) free
 
-  pub visits_then : (c : SeatState V) (s : SlotId) (how : Option Bool) → s ≡ it.slot
-      → Ends it how b.view.core c.view.core → Visits i s how a.view.core c.view.core
-  visits_then c s how same ends =
-      subst (λ (x : SlotId). Visits i x how a.view.core c.view.core) (sym same) (record {
-        word = it.word;
-        lost = sights.lost;
-        words = ends.words;
-        few = ends.few;
-        core =
-            ends.core
-            ∙ (ap (λ (v : CoreView). record (with_added how it.slot v) {
-              trail = b.view.core.trail ++ ended ends;
-            }) without_it
-            ∙ (shorter how (b.view.core.trail ++ ended ends)
-            ∙ ap (λ (t : List Move). record (with_added how it.slot a.view.core) { trail = t })
-            (ap (λ (v : CoreView). v.trail ++ ended ends) sights.core
-            ∙ (append_assoc a.view.core.trail (tries ++ found) (ended ends)
-            ∙ ap (λ (t : List Move). a.view.core.trail ++ t)
-            (append_assoc tries found (ended ends))))));
-      })
-    where
-      abbrev tries : List Move
-      tries = lost_by it.word (WeakCell i) sights.lost
+  module _ (c : SeatState V) (s : SlotId) (how : Option Bool) (same : s ≡ it.slot)
+      (ends : Ends it how b.view.core c.view.core) where
+    abbrev tries : List Move
+    tries = lost_by it.word (WeakCell i) sights.lost
 
-      abbrev found : List Move
-      found = protected_by it.word (WeakCell i) it.slot
+    abbrev found : List Move
+    found = protected_by it.word (WeakCell i) it.slot
 
-      abbrev ended : Ends it how b.view.core c.view.core → List Move
-      ended ends = compared_by it.slot ends.words ++ raised_moves it how
+    abbrev ended : List Move
+    ended = compared_by it.slot ends.words ++ raised_moves it how
 
-      shorter : (how : Option Bool) (t : List Move)
-          → record (with_added how it.slot (record a.view.core { trail = b.view.core.trail })) {
-            trail = t;
-          }
-          ≡ record (with_added how it.slot a.view.core) { trail = t }
-      shorter None t = refl
-      shorter (Some true) t = refl
-      shorter (Some false) t = refl
+    shorter : (how : Option Bool) (t : List Move)
+        → record (with_added how it.slot (record a.view.core { trail = b.view.core.trail })) {
+          trail = t;
+        }
+        ≡ record (with_added how it.slot a.view.core) { trail = t }
+    shorter None t = refl
+    shorter (Some true) t = refl
+    shorter (Some false) t = refl
+
+    visits_it : Visits i it.slot how a.view.core c.view.core
+    visits_it = record {
+      word = it.word;
+      lost = sights.lost;
+      words = ends.words;
+      few = ends.few;
+      core =
+          ends.core
+          ∙ (ap (λ (v : CoreView). record (with_added how it.slot v) {
+            trail = b.view.core.trail ++ ended;
+          }) without_it
+          ∙ (shorter how (b.view.core.trail ++ ended)
+          ∙ ap (λ (t : List Move). record (with_added how it.slot a.view.core) { trail = t })
+          (ap (λ (v : CoreView). v.trail ++ ended) sights.core
+          ∙ (append_assoc a.view.core.trail (tries ++ found) ended
+          ∙ ap (λ (t : List Move). a.view.core.trail ++ t)
+          (append_assoc tries found ended)))));
+    }
+
+    pub visits_then : Visits i s how a.view.core c.view.core
+    visits_then =
+        subst (λ (x : SlotId). Visits i x how a.view.core c.view.core) (sym same) visits_it
 
   pub looks_then : {E : Type 0} (c : SeatState V) (r : Result Sight E)
       → EndsBy it r b.view.core c.view.core → LooksBy i r a.view.core c.view.core

@@ -235,6 +235,15 @@ module _ {P V : Type 0} (fits : List ℕ → Type 0) (d : DomainState P) (l : Pl
     goes : GoesOn mid.view.core new.view.core
     goes = (_, ap (λ (v : CoreView). v.trail) core)
 
+    pub raised_same : IfOk r (λ strong. strong.slot ≡ s)
+    raised_same = go r upgraded
+      where
+        go : (o : Result Handle UpgradeError)
+            → IfOk o (λ strong. (strong.slot ≡ s) × GainsStrong fits d next allows s old mid)
+            → IfOk o (λ strong. strong.slot ≡ s)
+        go (Err e) u = tt
+        go (Ok h) u = u.0
+
     -- where it counted, the seat knows the object still
     same_now : GainsStrong fits d next allows s old mid → object_in new.view s ≡ object_in mid.view s
     same_now gains =

@@ -114,9 +114,25 @@ pub record Ends (it : Sighted) (how : Option Bool) (v w : CoreView) : Type 0 whe
         trail = v.trail ++ (compared_by it.slot words ++ raised_moves it how);
       }
 
--- By these moves alone a seat has looked at weak cell i, in which s stood: it lost some tries, found
--- s and announced it, checked that, read at most 16 words of it, made such an add to it, and took
--- the announcement back.
+-- A visit by word j to weak cell i, in which s stood: which tries it lost first, which words of s
+-- were read, the newest first, and whether an add counted, if there was one
+pub record Visit : Type 0 where
+  pub cell : ℕ
+  pub slot : SlotId
+  pub word : ℕ
+  pub lost : List Lost
+  pub words : List ℕ
+  pub how : Option Bool
+
+-- its moves: s was announced, and found there still, read, and let go after such an add
+abbrev pub visited_by : Visit → List Move
+visited_by x =
+    lost_by x.word (WeakCell x.cell) x.lost
+    ++ (protected_by x.word (WeakCell x.cell) x.slot
+    ++ (compared_by x.slot x.words
+    ++ raised_moves (record { slot = x.slot; word = x.word }) x.how))
+
+-- by one visit to weak cell i alone, with such an add to s, which stood there
 pub record Visits (i : ℕ) (s : SlotId) (how : Option Bool) (v w : CoreView) : Type 0 where
   pub word : ℕ
   pub lost : List Lost
@@ -127,8 +143,12 @@ pub record Visits (i : ℕ) (s : SlotId) (how : Option Bool) (v w : CoreView) : 
       ≡ record (with_added how s v) {
         trail =
             v.trail
-            ++ (lost_by word (WeakCell i) lost
-            ++ (protected_by word (WeakCell i) s
-            ++ (compared_by s words
-            ++ raised_moves (record { slot = s; word = word }) how)));
+            ++ visited_by (record {
+              cell = i;
+              slot = s;
+              word = word;
+              lost = lost;
+              words = words;
+              how = how;
+            });
       }

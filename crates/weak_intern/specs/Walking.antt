@@ -20,6 +20,7 @@ use Rattle.directory_calls.specs.Directories.{HasNoRecord, IsRecord}
 use Rattle.weak_intern.specs.Knowing.{Knows}
 use Rattle.weak_intern.specs.Seeing.{EndsAt, HasSeenAt}
 use Rattle.weak_intern.specs.declared.seeing.Sighted.{Sighted}
+use Rattle.weak_intern.specs.Costs.{TakesBy}
 use Rattle.weak_intern.specs.Sighting.{Ends, Raises, Sights, Visits}
 use Rattle.directory_calls.specs.Steps.{AtStep}
 
@@ -108,6 +109,11 @@ abbrev pub used_by : {E : Type 0} → Bool → Result Walk E → ℕ
 used_by intern (Ok (walk.Record strong)) = spent intern
 used_by intern (Ok (walk.Absent passed)) = 0
 used_by intern (Err error) = 0
+
+-- what a walk for a short text cost that came to a record
+abbrev pub CostsBy : Walk → CoreView → CoreView → Type 0
+CostsBy (walk.Record strong) v w = TakesBy strong.slot v w
+CostsBy (walk.Absent passed) v w = Unit {0}
 
 -- At a step of the walk its text had this live record; or it had none, and the walk has passed so
 -- many cells, fewer than all.

@@ -3,8 +3,9 @@
 //!
 //! The rule that it keeps is the law of `directory_law`, by the deeds of `directory_protocol`. The
 //! walk of a text begins at a cell that its bytes tell, and goes on around the end. At each cell a
-//! seat loads a weak reference to the head that stands there, compares its payload with that of the
-//! text, and takes a strong reference where they are the same. Of a text of more than 120 bytes it
+//! seat announces the head that stands there and checks that it stands there still, compares its
+//! payload with that of the text under the announcement, and takes a strong reference where they are
+//! the same; so no weak reference is counted. Of a text of more than 120 bytes it
 //! reads the rest under that reference, by `text_reading`, and gives it up where the bytes differ.
 //! What it learns it notes in its view, as the law asks, so what the walk found stays true. An
 //! intern goes on where the walk comes to null: it makes a record, by `record_making`, and puts it

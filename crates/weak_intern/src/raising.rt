@@ -13,10 +13,10 @@ ghost use Rattle.domain_rule.specs.Views.{object_in};
 ghost use Rattle.directory_law.specs.Views.{In, note};
 ghost use Rattle.directory_calls.specs.Directories.{CanCount, area_of};
 ghost use Rattle.directory_calls.specs.Learning.{LearnsIn};
-ghost use Rattle.directory_calls.specs.Steps.{AtStep};
+ghost use Rattle.directory_calls.specs.Steps.{AtStep, Leaves, handle_by, with_found};
 ghost use Rattle.text_reading.specs.Reading.{HasBegun};
 ghost use Rattle.weak_intern.specs.Seeing.{BeginsText, HasSeenIn};
-ghost use Rattle.weak_intern.specs.Sighting.{IsSighted, Raises, added, let_go_of};
+ghost use Rattle.weak_intern.specs.Sighting.{IsSighted, Raises, added, let_go_of, seat_without};
 ghost use Rattle.weak_intern.specs.Walking.{raised_by};
 
 use crate::seeing::{Sighted, let_go};
@@ -53,6 +53,8 @@ pub fn raise<S, P: HasDirectory<S>>(
         (note sighted.slot (object_in seat.old.view sighted.slot).life)
         (P.seen seat.new.view.client).ended }
     ensures raises { Raises sighted (added result) seat.old.view.core seat.new.view.core }
+    ensures leaves { Leaves (with_found (handle_by result) seat.old.view.core.owned)
+        seat.old.view.core.weaks (seat_without sighted seat.old) seat.new }
     ensures learns { LearnsIn P.seen P.with_seen (raised_by intern result)
         seat.old.view.client seat.new.view.client }
     ensures objects { KnowsStill (let_go_of sighted seat.old.view.core) seat.old seat.new }

@@ -4,10 +4,14 @@ use Rattle.directory_calls.proofs.Parts.{place_of}
 use Rattle.record_making.specs.Texts.{text_of}
 use Rattle.core_events.specs.declared.view.CoreView.{CoreView}
 use Rattle.weak_intern.specs.Walking.{met_by}
-use Rattle.weak_intern.proofs.LetGo.{had_before}
+use Rattle.weak_intern.proofs.LetGo.{sighted_held}
 use Rattle.weak_intern.proofs.Meeting.{is_not, other_met}
 use Rattle.weak_intern.proofs.Moves.{ends_by, ends_then, free_then, head_then, leaves_then, met_then, raised_leaves, saw_then, sighted_then}
 use Rattle.weak_intern.proofs.looking.meet.Goals as goal
+
+pub is_payload-requires-clause-holds : goal.is_payload-requires-clause-holds
+is_payload-requires-clause-holds g c =
+    sighted_held c.args.sighted c.args.seat.now.view.core c.requires.sighted
 
 pub let_go-requires-clause-sighted : goal.let_go-requires-clause-sighted
 let_go-requires-clause-sighted g c =

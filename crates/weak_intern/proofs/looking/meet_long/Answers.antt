@@ -1,25 +1,20 @@
-use Rattle.std.proofs.Common.{ap, arith, refl, subst, sym, ◌∙◌, ◌++◌, ◌∷◌, [], None, Some, true, false}
+use Rattle.std.proofs.Common.{ap, arith, refl, subst, sym, ◌∙◌, None, Some, true, false}
 use Rattle.std.specs.Prelude.{Err}
 use Rattle.directory_calls.specs.Directories.{area_of}
-use Rattle.directory_calls.specs.Steps.{Leaves}
 use Rattle.directory_calls.proofs.Parts.{place_of, zero_then}
 use Rattle.record_making.specs.Texts.{text_of}
 use Rattle.text_reading.specs.Reading.{HasBegun}
 use Rattle.weak_intern.specs.Sighting.{Raises, added, seat_without}
 use Rattle.weak_intern.specs.Walking.{met, taken}
 use Rattle.weak_intern.proofs.Meeting.{ended_met}
-use Rattle.weak_intern.proofs.Moves.{raised_goes, raised_leaves, raised_makes, raised_seat, spent_still}
+use Rattle.weak_intern.proofs.Moves.{raised_goes, raised_makes, raised_seat, spent_still}
 use Rattle.weak_intern.proofs.Sights.{can_still, free_still, head_still, met_still, raised_owned, saw_still, whole_leaves}
 use Rattle.weak_intern.proofs.looking.meet_long.Goals as goal
 
 pub confirm-requires-clause-owned : goal.confirm-requires-clause-owned
 confirm-requires-clause-owned g c =
     raised_owned c.in-Ok.strong.slot (seat_without c.args.sighted c.args.seat.now) c.raise.new.seat
-    (subst (λ x. Leaves (c.args.seat.now.view.core.owned ++ x ∷ []) c.args.seat.now.view.core.weaks
-    (seat_without c.args.sighted c.args.seat.now) c.raise.new.seat) (sym c.in-Ok.ensures.same)
-    (raised_leaves c.args.sighted c.args.seat.now c.raise.new.seat (Some true)
-    (subst (λ r. Raises c.args.sighted (added r) c.args.seat.now.view.core
-    c.raise.new.seat.view.core) c.in-Ok.is c.raise.ensures.raises) c.raise.ensures.objects))
+    c.in-Ok.ensures.leaves
 
 pub confirm-requires-clause-begun : goal.confirm-requires-clause-begun
 confirm-requires-clause-begun g c =
@@ -51,11 +46,7 @@ confirm-requires-clause-quota g c =
 pub confirm-requires-clause-free : goal.confirm-requires-clause-free
 confirm-requires-clause-free g c =
     free_still (seat_without c.args.sighted c.args.seat.now) c.raise.new.seat
-    (subst (λ x. Leaves (c.args.seat.now.view.core.owned ++ x ∷ []) c.args.seat.now.view.core.weaks
-    (seat_without c.args.sighted c.args.seat.now) c.raise.new.seat) (sym c.in-Ok.ensures.same)
-    (raised_leaves c.args.sighted c.args.seat.now c.raise.new.seat (Some true)
-    (subst (λ r. Raises c.args.sighted (added r) c.args.seat.now.view.core
-    c.raise.new.seat.view.core) c.in-Ok.is c.raise.ensures.raises) c.raise.ensures.objects)).same c.requires.free
+    c.in-Ok.ensures.leaves.same c.requires.free
 
 pub returns-in-Ok-clause-meets : goal.returns-in-Ok-clause-meets
 returns-in-Ok-clause-meets g c =
@@ -65,22 +56,16 @@ returns-in-Ok-clause-meets g c =
     c.in-Ok.ensures.known c.in-Ok.ensures.learns
     c.args.domain.now (area_of (g.P.Part.part c.args.domain.now.protocol))
     c.confirm.new.seat (text_of c.args.sought.now.text.now) c.confirm.result
-    (raised_seat c.args.sighted c.args.seat.now c.raise.new.seat (Some true)
-    (subst (λ r. Raises c.args.sighted (added r) c.args.seat.now.view.core
-    c.raise.new.seat.view.core) c.in-Ok.is c.raise.ensures.raises))
-    (raised_goes c.args.sighted c.args.seat.now c.raise.new.seat (Some true)
-    (subst (λ r. Raises c.args.sighted (added r) c.args.seat.now.view.core
-    c.raise.new.seat.view.core) c.in-Ok.is c.raise.ensures.raises))
+    (raised_seat c.args.sighted c.args.seat.now c.raise.new.seat
+    (added c.raise.result) c.raise.ensures.raises)
+    (raised_goes c.args.sighted c.args.seat.now c.raise.new.seat
+    (added c.raise.result) c.raise.ensures.raises)
     c.confirm.ensures.meets
 
 pub returns-in-Ok-clause-leaves : goal.returns-in-Ok-clause-leaves
 returns-in-Ok-clause-leaves g c =
     whole_leaves c.in-Ok.strong.slot (seat_without c.args.sighted c.args.seat.now) c.raise.new.seat
-    (subst (λ x. Leaves (c.args.seat.now.view.core.owned ++ x ∷ []) c.args.seat.now.view.core.weaks
-    (seat_without c.args.sighted c.args.seat.now) c.raise.new.seat) (sym c.in-Ok.ensures.same)
-    (raised_leaves c.args.sighted c.args.seat.now c.raise.new.seat (Some true)
-    (subst (λ r. Raises c.args.sighted (added r) c.args.seat.now.view.core
-    c.raise.new.seat.view.core) c.in-Ok.is c.raise.ensures.raises) c.raise.ensures.objects)) c.confirm.new.seat (met c.confirm.result) c.confirm.ensures.leaves
+    c.in-Ok.ensures.leaves c.confirm.new.seat (met c.confirm.result) c.confirm.ensures.leaves
 
 pub returns-in-Ok-clause-learns : goal.returns-in-Ok-clause-learns
 returns-in-Ok-clause-learns g c =
@@ -92,9 +77,8 @@ returns-in-Ok-clause-learns g c =
 pub returns-in-Ok-clause-makes : goal.returns-in-Ok-clause-makes
 returns-in-Ok-clause-makes g c =
     c.confirm.ensures.makes
-    ∙ raised_makes c.args.sighted c.args.seat.now c.raise.new.seat (Some true)
-    (subst (λ r. Raises c.args.sighted (added r) c.args.seat.now.view.core
-    c.raise.new.seat.view.core) c.in-Ok.is c.raise.ensures.raises)
+    ∙ raised_makes c.args.sighted c.args.seat.now c.raise.new.seat
+    (added c.raise.result) c.raise.ensures.raises
 
 pub returns-in-Err-Ended-clause-meets : goal.returns-in-Err-Ended-clause-meets
 returns-in-Err-Ended-clause-meets g c =
@@ -108,32 +92,25 @@ returns-in-Err-Ended-clause-meets g c =
     (c.raise.ensures.ended (c.in-Err-Ended.is ∙ ap Err c.in-Err-Ended.field-0-is))
 
 pub returns-in-Err-Ended-clause-leaves : goal.returns-in-Err-Ended-clause-leaves
-returns-in-Err-Ended-clause-leaves g c =
-    raised_leaves c.args.sighted c.args.seat.now c.raise.new.seat (Some false)
-    (subst (λ r. Raises c.args.sighted (added r) c.args.seat.now.view.core
-    c.raise.new.seat.view.core) (c.in-Err-Ended.is ∙ ap Err c.in-Err-Ended.field-0-is) c.raise.ensures.raises) c.raise.ensures.objects
+returns-in-Err-Ended-clause-leaves g c = c.in-Err-Ended.ensures.leaves
 
 pub returns-in-Err-Spent-clause-spent : goal.returns-in-Err-Spent-clause-spent
 returns-in-Err-Spent-clause-spent g c =
     λ is. spent_still c.args.sighted c.args.seat.now c.raise.new.seat
     (subst (λ r. Raises c.args.sighted (added r) c.args.seat.now.view.core
-    c.raise.new.seat.view.core) (c.in-Err-Spent.is ∙ ap Err c.in-Err-Spent.field-0-is) c.raise.ensures.raises)
+    c.raise.new.seat.view.core) (c.in-Err-Spent.is ∙ ap Err c.in-Err-Spent.field-0-is)
+    c.raise.ensures.raises)
     (c.raise.ensures.spent.0 (c.in-Err-Spent.is ∙ ap Err c.in-Err-Spent.field-0-is))
 
 pub returns-in-Err-Spent-clause-leaves : goal.returns-in-Err-Spent-clause-leaves
-returns-in-Err-Spent-clause-leaves g c =
-    raised_leaves c.args.sighted c.args.seat.now c.raise.new.seat None
-    (subst (λ r. Raises c.args.sighted (added r) c.args.seat.now.view.core
-    c.raise.new.seat.view.core) (c.in-Err-Spent.is ∙ ap Err c.in-Err-Spent.field-0-is) c.raise.ensures.raises) c.raise.ensures.objects
+returns-in-Err-Spent-clause-leaves g c = c.in-Err-Spent.ensures.leaves
 
 pub returns-in-Err-Ended-clause-makes : goal.returns-in-Err-Ended-clause-makes
 returns-in-Err-Ended-clause-makes g c =
-    raised_makes c.args.sighted c.args.seat.now c.raise.new.seat (Some false)
-    (subst (λ r. Raises c.args.sighted (added r) c.args.seat.now.view.core
-    c.raise.new.seat.view.core) (c.in-Err-Ended.is ∙ ap Err c.in-Err-Ended.field-0-is) c.raise.ensures.raises)
+    raised_makes c.args.sighted c.args.seat.now c.raise.new.seat
+    (added c.raise.result) c.raise.ensures.raises
 
 pub returns-in-Err-Spent-clause-makes : goal.returns-in-Err-Spent-clause-makes
 returns-in-Err-Spent-clause-makes g c =
-    raised_makes c.args.sighted c.args.seat.now c.raise.new.seat None
-    (subst (λ r. Raises c.args.sighted (added r) c.args.seat.now.view.core
-    c.raise.new.seat.view.core) (c.in-Err-Spent.is ∙ ap Err c.in-Err-Spent.field-0-is) c.raise.ensures.raises)
+    raised_makes c.args.sighted c.args.seat.now c.raise.new.seat
+    (added c.raise.result) c.raise.ensures.raises

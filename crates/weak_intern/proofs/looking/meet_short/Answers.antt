@@ -1,13 +1,12 @@
-use Rattle.std.proofs.Common.{ap, arith, refl, subst, sym, ◌∙◌, ◌++◌, ◌∷◌, [], None, Some, true, false}
+use Rattle.std.proofs.Common.{ap, arith, refl, subst, sym, ◌∙◌, None, Some, true, false}
 use Rattle.std.specs.Prelude.{Err}
 use Rattle.directory_calls.specs.Directories.{area_of}
-use Rattle.directory_calls.specs.Steps.{Leaves}
 use Rattle.directory_calls.proofs.Parts.{place_of}
 use Rattle.directory_law.proofs.Bytes.{text_is}
 use Rattle.record_making.specs.Texts.{text_of}
-use Rattle.weak_intern.specs.Sighting.{Raises, added, seat_without}
+use Rattle.weak_intern.specs.Sighting.{Raises, added}
 use Rattle.weak_intern.proofs.Meeting.{ended_met, record_met}
-use Rattle.weak_intern.proofs.Moves.{raised_leaves, raised_makes, spent_still}
+use Rattle.weak_intern.proofs.Moves.{raised_makes, spent_still}
 use Rattle.weak_intern.proofs.looking.meet_short.Goals as goal
 
 pub returns-in-Ok-clause-meets : goal.returns-in-Ok-clause-meets
@@ -25,16 +24,10 @@ returns-in-Ok-clause-meets g c =
 
 pub returns-in-Ok-clause-raises : goal.returns-in-Ok-clause-raises
 returns-in-Ok-clause-raises g c =
-    (c.in-Ok.ensures.same, (subst (λ r. Raises c.args.sighted (added r) c.args.seat.now.view.core
-    c.raise.new.seat.view.core) c.in-Ok.is c.raise.ensures.raises))
+    (c.in-Ok.ensures.same, c.in-Ok.ensures.raises)
 
 pub returns-in-Ok-clause-leaves : goal.returns-in-Ok-clause-leaves
-returns-in-Ok-clause-leaves g c =
-    subst (λ x. Leaves (c.args.seat.now.view.core.owned ++ x ∷ []) c.args.seat.now.view.core.weaks
-    (seat_without c.args.sighted c.args.seat.now) c.raise.new.seat) (sym c.in-Ok.ensures.same)
-    (raised_leaves c.args.sighted c.args.seat.now c.raise.new.seat (Some true)
-    (subst (λ r. Raises c.args.sighted (added r) c.args.seat.now.view.core
-    c.raise.new.seat.view.core) c.in-Ok.is c.raise.ensures.raises) c.raise.ensures.objects)
+returns-in-Ok-clause-leaves g c = c.in-Ok.ensures.leaves
 
 pub returns-in-Err-Ended-clause-meets : goal.returns-in-Err-Ended-clause-meets
 returns-in-Err-Ended-clause-meets g c =
@@ -50,46 +43,40 @@ returns-in-Err-Ended-clause-meets g c =
 pub returns-in-Err-Ended-clause-raises : goal.returns-in-Err-Ended-clause-raises
 returns-in-Err-Ended-clause-raises g c =
     (subst (λ r. Raises c.args.sighted (added r) c.args.seat.now.view.core
-    c.raise.new.seat.view.core) (c.in-Err-Ended.is ∙ ap Err c.in-Err-Ended.field-0-is) c.raise.ensures.raises)
+    c.raise.new.seat.view.core) (c.in-Err-Ended.is ∙ ap Err c.in-Err-Ended.field-0-is)
+    c.raise.ensures.raises)
 
 pub returns-in-Err-Ended-clause-leaves : goal.returns-in-Err-Ended-clause-leaves
-returns-in-Err-Ended-clause-leaves g c =
-    raised_leaves c.args.sighted c.args.seat.now c.raise.new.seat (Some false)
-    (subst (λ r. Raises c.args.sighted (added r) c.args.seat.now.view.core
-    c.raise.new.seat.view.core) (c.in-Err-Ended.is ∙ ap Err c.in-Err-Ended.field-0-is) c.raise.ensures.raises) c.raise.ensures.objects
+returns-in-Err-Ended-clause-leaves g c = c.in-Err-Ended.ensures.leaves
 
 pub returns-in-Err-Spent-clause-spent : goal.returns-in-Err-Spent-clause-spent
 returns-in-Err-Spent-clause-spent g c =
     λ is. spent_still c.args.sighted c.args.seat.now c.raise.new.seat
     (subst (λ r. Raises c.args.sighted (added r) c.args.seat.now.view.core
-    c.raise.new.seat.view.core) (c.in-Err-Spent.is ∙ ap Err c.in-Err-Spent.field-0-is) c.raise.ensures.raises)
+    c.raise.new.seat.view.core) (c.in-Err-Spent.is ∙ ap Err c.in-Err-Spent.field-0-is)
+    c.raise.ensures.raises)
     (c.raise.ensures.spent.0 (c.in-Err-Spent.is ∙ ap Err c.in-Err-Spent.field-0-is))
 
 pub returns-in-Err-Spent-clause-raises : goal.returns-in-Err-Spent-clause-raises
 returns-in-Err-Spent-clause-raises g c =
     (subst (λ r. Raises c.args.sighted (added r) c.args.seat.now.view.core
-    c.raise.new.seat.view.core) (c.in-Err-Spent.is ∙ ap Err c.in-Err-Spent.field-0-is) c.raise.ensures.raises)
+    c.raise.new.seat.view.core) (c.in-Err-Spent.is ∙ ap Err c.in-Err-Spent.field-0-is)
+    c.raise.ensures.raises)
 
 pub returns-in-Err-Spent-clause-leaves : goal.returns-in-Err-Spent-clause-leaves
-returns-in-Err-Spent-clause-leaves g c =
-    raised_leaves c.args.sighted c.args.seat.now c.raise.new.seat None
-    (subst (λ r. Raises c.args.sighted (added r) c.args.seat.now.view.core
-    c.raise.new.seat.view.core) (c.in-Err-Spent.is ∙ ap Err c.in-Err-Spent.field-0-is) c.raise.ensures.raises) c.raise.ensures.objects
+returns-in-Err-Spent-clause-leaves g c = c.in-Err-Spent.ensures.leaves
 
 pub returns-in-Ok-clause-makes : goal.returns-in-Ok-clause-makes
 returns-in-Ok-clause-makes g c =
-    raised_makes c.args.sighted c.args.seat.now c.raise.new.seat (Some true)
-    (subst (λ r. Raises c.args.sighted (added r) c.args.seat.now.view.core
-    c.raise.new.seat.view.core) c.in-Ok.is c.raise.ensures.raises)
+    raised_makes c.args.sighted c.args.seat.now c.raise.new.seat
+    (added c.raise.result) c.raise.ensures.raises
 
 pub returns-in-Err-Ended-clause-makes : goal.returns-in-Err-Ended-clause-makes
 returns-in-Err-Ended-clause-makes g c =
-    raised_makes c.args.sighted c.args.seat.now c.raise.new.seat (Some false)
-    (subst (λ r. Raises c.args.sighted (added r) c.args.seat.now.view.core
-    c.raise.new.seat.view.core) (c.in-Err-Ended.is ∙ ap Err c.in-Err-Ended.field-0-is) c.raise.ensures.raises)
+    raised_makes c.args.sighted c.args.seat.now c.raise.new.seat
+    (added c.raise.result) c.raise.ensures.raises
 
 pub returns-in-Err-Spent-clause-makes : goal.returns-in-Err-Spent-clause-makes
 returns-in-Err-Spent-clause-makes g c =
-    raised_makes c.args.sighted c.args.seat.now c.raise.new.seat None
-    (subst (λ r. Raises c.args.sighted (added r) c.args.seat.now.view.core
-    c.raise.new.seat.view.core) (c.in-Err-Spent.is ∙ ap Err c.in-Err-Spent.field-0-is) c.raise.ensures.raises)
+    raised_makes c.args.sighted c.args.seat.now c.raise.new.seat
+    (added c.raise.result) c.raise.ensures.raises

@@ -3,7 +3,8 @@ use Rattle.directory_calls.specs.Directories.{CanCount, area_of}
 use Rattle.weak_intern.specs.Walking.{raised_by}
 use Rattle.directory_calls.proofs.Parts.{part_as, place_of}
 use Rattle.weak_intern.proofs.LetGo.{sighted_held}
-use Rattle.weak_intern.proofs.Raised.{raised_begun, raised_core, raised_ended, raised_known, raised_learns, raised_live, raised_objects, ready}
+use Rattle.weak_intern.proofs.Raised.{raised_begun, raised_core, raised_ended, raised_known, raised_learns, raised_live, raised_objects, raised_same, ready}
+use Rattle.weak_intern.proofs.Moves.{handle_leaves}
 use Rattle.weak_intern.proofs.raising.raise.Goals as goal
 
 pub upgrade-raised-requires-clause-holds : goal.upgrade-raised-requires-clause-holds
@@ -109,6 +110,39 @@ returns-clause-learns g c =
     c.let_go.new.seat.view.client
     (ap (λ x. raised_by x.intern c.upgrade-raised.result) c.new-deed.ensures)
     (raised_learns g.P.Kind.PayloadKind.fits c.args.domain.now
+    (place_of g.P.Part.seen g.P.Part.with_seen g.P.Part.reads g.P.Part.puts_back
+    g.P.Part.puts_over)
+    (area_of (g.P.Part.part c.args.domain.now.protocol)) c.new-deed.result.deed.intern
+    c.args.sighted.slot c.args.seat.now
+    (sighted_held c.args.sighted c.args.seat.now.view.core c.requires.sighted)
+    c.args.sighted refl c.requires.sighted c.let_go.new.seat c.upgrade-raised.new.seat
+    c.upgrade-raised.result c.upgrade-raised.ensures.upgraded c.upgrade-raised.ensures.objects
+    c.let_go.ensures.core c.let_go.ensures.objects c.let_go.ensures.client c.upgrade-raised.ensures.refused
+    c.upgrade-raised.ensures.ended)
+
+pub returns-clause-leaves : goal.returns-clause-leaves
+returns-clause-leaves g c =
+    handle_leaves c.args.sighted c.args.seat.now c.let_go.new.seat c.upgrade-raised.result
+    (raised_same g.P.Kind.PayloadKind.fits c.args.domain.now
+    (place_of g.P.Part.seen g.P.Part.with_seen g.P.Part.reads g.P.Part.puts_back
+    g.P.Part.puts_over)
+    (area_of (g.P.Part.part c.args.domain.now.protocol)) c.new-deed.result.deed.intern
+    c.args.sighted.slot c.args.seat.now
+    (sighted_held c.args.sighted c.args.seat.now.view.core c.requires.sighted)
+    c.args.sighted refl c.requires.sighted c.let_go.new.seat c.upgrade-raised.new.seat
+    c.upgrade-raised.result c.upgrade-raised.ensures.upgraded c.upgrade-raised.ensures.objects
+    c.let_go.ensures.core c.let_go.ensures.objects c.let_go.ensures.client)
+    (raised_core g.P.Kind.PayloadKind.fits c.args.domain.now
+    (place_of g.P.Part.seen g.P.Part.with_seen g.P.Part.reads g.P.Part.puts_back
+    g.P.Part.puts_over)
+    (area_of (g.P.Part.part c.args.domain.now.protocol)) c.new-deed.result.deed.intern
+    c.args.sighted.slot c.args.seat.now
+    (sighted_held c.args.sighted c.args.seat.now.view.core c.requires.sighted)
+    c.args.sighted refl c.requires.sighted c.let_go.new.seat c.upgrade-raised.new.seat
+    c.upgrade-raised.result c.upgrade-raised.ensures.upgraded c.upgrade-raised.ensures.objects
+    c.let_go.ensures.core c.let_go.ensures.objects c.let_go.ensures.client c.upgrade-raised.ensures.refused
+    c.upgrade-raised.ensures.ended)
+    (raised_objects g.P.Kind.PayloadKind.fits c.args.domain.now
     (place_of g.P.Part.seen g.P.Part.with_seen g.P.Part.reads g.P.Part.puts_back
     g.P.Part.puts_over)
     (area_of (g.P.Part.part c.args.domain.now.protocol)) c.new-deed.result.deed.intern

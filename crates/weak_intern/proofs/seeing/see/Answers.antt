@@ -27,8 +27,8 @@ acquire_at_last-requires-clause-deed g c =
     (g.met.P.HasDirectory.minds_none c.args.domain.now.protocol)
     (subst (λ n. c.args.cell < n) c.requires.over.cells c.requires.inside)
 
-pub returns-in-Some-clause-sees : goal.returns-in-Some-clause-sees
-returns-in-Some-clause-sees g c =
+pub returns-in-Some-acquire_at_last-clause-sees : goal.returns-in-Some-acquire_at_last-clause-sees
+returns-in-Some-acquire_at_last-clause-sees g c =
     (after_found g.P.Kind.PayloadKind.fits c.args.domain.now
     (place_of g.P.Part.seen g.P.Part.with_seen g.P.Part.reads g.P.Part.puts_back
     g.P.Part.puts_over)
@@ -36,11 +36,11 @@ returns-in-Some-clause-sees g c =
     c.number-at.ensures.is c.in-Some.word c.args.seat.now
     c.requires.rest (least_is_free c.args.seat.now.view.core c.in-Some.word
     (sym c.free_note.ensures ∙ c.in-Some.is)) (sym c.free_note.ensures ∙ c.in-Some.is)
-    c.acquire_at_last.new.seat c.acquire_at_last.result c.in-Some-2.slot c.in-Some-2.is
+    c.acquire_at_last.new.seat c.acquire_at_last.result c.in-Some-acquire_at_last.slot c.in-Some-acquire_at_last.is
     c.acquire_at_last.ensures.acquired).0
 
-pub returns-in-Some-clause-sights : goal.returns-in-Some-clause-sights
-returns-in-Some-clause-sights g c =
+pub returns-in-Some-acquire_at_last-clause-sights : goal.returns-in-Some-acquire_at_last-clause-sights
+returns-in-Some-acquire_at_last-clause-sights g c =
     (after_found g.P.Kind.PayloadKind.fits c.args.domain.now
     (place_of g.P.Part.seen g.P.Part.with_seen g.P.Part.reads g.P.Part.puts_back
     g.P.Part.puts_over)
@@ -48,11 +48,11 @@ returns-in-Some-clause-sights g c =
     c.number-at.ensures.is c.in-Some.word c.args.seat.now
     c.requires.rest (least_is_free c.args.seat.now.view.core c.in-Some.word
     (sym c.free_note.ensures ∙ c.in-Some.is)) (sym c.free_note.ensures ∙ c.in-Some.is)
-    c.acquire_at_last.new.seat c.acquire_at_last.result c.in-Some-2.slot c.in-Some-2.is
+    c.acquire_at_last.new.seat c.acquire_at_last.result c.in-Some-acquire_at_last.slot c.in-Some-acquire_at_last.is
     c.acquire_at_last.ensures.acquired).1
 
-pub returns-in-Some-clause-learns : goal.returns-in-Some-clause-learns
-returns-in-Some-clause-learns g c =
+pub returns-in-Some-acquire_at_last-clause-learns : goal.returns-in-Some-acquire_at_last-clause-learns
+returns-in-Some-acquire_at_last-clause-learns g c =
     (after_found g.P.Kind.PayloadKind.fits c.args.domain.now
     (place_of g.P.Part.seen g.P.Part.with_seen g.P.Part.reads g.P.Part.puts_back
     g.P.Part.puts_over)
@@ -60,7 +60,7 @@ returns-in-Some-clause-learns g c =
     c.number-at.ensures.is c.in-Some.word c.args.seat.now
     c.requires.rest (least_is_free c.args.seat.now.view.core c.in-Some.word
     (sym c.free_note.ensures ∙ c.in-Some.is)) (sym c.free_note.ensures ∙ c.in-Some.is)
-    c.acquire_at_last.new.seat c.acquire_at_last.result c.in-Some-2.slot c.in-Some-2.is
+    c.acquire_at_last.new.seat c.acquire_at_last.result c.in-Some-acquire_at_last.slot c.in-Some-acquire_at_last.is
     c.acquire_at_last.ensures.acquired).2
 
 pub returns-in-None-clause-sees : goal.returns-in-None-clause-sees
@@ -98,3 +98,9 @@ returns-in-None-clause-learns g c =
     (sym c.free_note.ensures ∙ c.in-Some.is))
     c.acquire_at_last.new.seat c.acquire_at_last.result c.in-None.is
     c.acquire_at_last.ensures.acquired).2
+
+pub returns-in-Some-acquire_at_last-clause-rest : goal.returns-in-Some-acquire_at_last-clause-rest
+returns-in-Some-acquire_at_last-clause-rest g c =
+    let free = least_is_free c.args.seat.now.view.core c.in-Some.word
+    (sym c.free_note.ensures ∙ c.in-Some.is) in
+    c.acquire_at_last.ensures.rest (λ slot is zero. omega (arith, zero, free.0))
