@@ -1,6 +1,6 @@
 -- A walk for a text, cell by cell, and where it ends.
 use Rattle.std.proofs.Common.{◌≡◌, inr, ⊎_elim, ℕ, ◌++◌, ◌+◌, ◌%◌, ◌<◌, List, [], ◌∷◌, refl, sym, ap, subst, ◌∙◌, arith, Some, None}
-use Rattle.std.specs.Prelude.{Bool, Err, Ok, Option, Result, ◌≤◌}
+use Rattle.std.specs.Prelude.{Bool, Err, Option, Result, ◌≤◌}
 use Rattle.std.proofs.lemmas.Bool.{cases_lt}
 use Rattle.plain_state.specs.declared.act.EventPlace.TheVariants.{WeakCell}
 use Rattle.plain_state.specs.declared.slot.SlotId.{SlotId}
@@ -31,7 +31,7 @@ use Rattle.directory_calls.specs.Steps.{AtStep, Leaves, with_found}
 use Rattle.weak_intern.specs.declared.walking.Walk.{Walk}
 use Rattle.weak_intern.specs.declared.walking.Walk.TheVariants as walk
 use Rattle.weak_intern.specs.Costs.{PassesBy, TakesBy}
-use Rattle.weak_intern.specs.Walking.{ComesTo, EndsAround, LooksBy, Meets, met, taken, used_by, walked_by}
+use Rattle.weak_intern.specs.Walking.{ComesTo, EndsAround, FoundBy, Meets, met, taken, used_by, walked_by}
 use Rattle.directory_calls.proofs.Going.{at_step, from_earlier, holds_by, leaves_as, leaves_core, leaves_none, leaves_then, seat_same}
 use Rattle.directory_calls.proofs.Learnt.{passes_still, walked_still}
 use Rattle.directory_calls.proofs.Parts.{LearnsBy, Place, lifts, part_none, tells, zero_then}
@@ -217,35 +217,35 @@ module _ {P V : Type 0} (d : DomainState P) (l : Place V) (z : Area) (text : Tex
         (subst (λ f. Leaves (with_found (met f) b.view.core.owned) b.view.core.weaks b c) same
         second)
 
-    pub other_passed : {E : Type 0} (intern : Bool) (cell : ℕ) (found : Sight)
+    pub other_passed : (intern : Bool) (cell : ℕ) (found : Sight)
         → found ≡ sight.Other
         → on z text n ≡ cell → Meets l.seen d z cell text found b c
         → Leaves (with_found (met found) b.view.core.owned) b.view.core.weaks b c
         → LearnsBy l (taken intern found) b.view.client c.view.client
         → HasRoom c.view.core → IsAtRest d c
         → c.view.core.makes ≡ b.view.core.makes → (i : ℕ)
-        → (short → LooksBy {E = E} i (Ok found) b.view.core c.view.core)
+        → (short → FoundBy i found b.view.core c.view.core)
         → Walks d l.seen l.with_seen z text short (n + 1) a c
-    other_passed {E = E} intern cell found other at meets second more room rest makes i looks =
+    other_passed intern cell found other at meets second more room rest makes i looks =
         one_passed cell at (subst (λ f. Meets l.seen d z cell text f b c) other meets)
         (subst (λ f. Leaves (with_found (met f) b.view.core.owned) b.view.core.weaks b c) other
         second)
         (subst (λ f. LearnsBy l (taken intern f) b.view.client c.view.client) other more)
         room rest makes
-        (λ is. let by = subst (λ f. LooksBy {E = E} i (Ok f) b.view.core c.view.core) other
+        (λ is. let by = subst (λ f. FoundBy i f b.view.core c.view.core) other
         (looks is) in
         passes_either a.view.core b.view.core c.view.core i by.0 (walks.costs is) by.1)
 
     -- what the record cost
-    pub record_costs : {E : Type 0} (i : ℕ) (found : Sight) (strong : Handle)
+    pub record_costs : (i : ℕ) (found : Sight) (strong : Handle)
         → found ≡ sight.Record strong
-        → (short → LooksBy {E = E} i (Ok found) b.view.core c.view.core)
+        → (short → FoundBy i found b.view.core c.view.core)
         → short → TakesBy strong.slot a.view.core c.view.core
-    record_costs {E = E} i found strong same looks is = (
+    record_costs i found strong same looks is = (
       b.view.core,
       walks.costs is,
       i,
-      subst (λ f. LooksBy {E = E} i (Ok f) b.view.core c.view.core) same (looks is),
+      subst (λ f. FoundBy i f b.view.core c.view.core) same (looks is),
     )
 
     -- the walk has passed all cells

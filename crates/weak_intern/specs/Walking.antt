@@ -53,11 +53,15 @@ taken_by intern (Ok found) = taken intern found
 taken_by intern (Err error) = 0
 
 -- THE MOVES, of which a seat met this where it looked for a short text: in weak cell i
-abbrev pub LooksBy : {E : Type 0} → ℕ → Result Sight E → CoreView → CoreView → Type 0
-LooksBy i (Ok sight.Null) v w = (j : ℕ) × Sights i j None v w
-LooksBy i (Ok sight.Other) v w =
+abbrev pub FoundBy : ℕ → Sight → CoreView → CoreView → Type 0
+FoundBy i sight.Null v w = (j : ℕ) × Sights i j None v w
+FoundBy i sight.Other v w =
     (s : SlotId) × (Visits i s None v w ⊎ Visits i s (Some false) v w)
-LooksBy i (Ok (sight.Record strong)) v w = Visits i strong.slot (Some true) v w
+FoundBy i (sight.Record strong) v w = Visits i strong.slot (Some true) v w
+
+-- or it was refused, in a head that it let go
+abbrev pub LooksBy : {E : Type 0} → ℕ → Result Sight E → CoreView → CoreView → Type 0
+LooksBy i (Ok found) v w = FoundBy i found v w
 LooksBy i (Err error) v w = (s : SlotId) × Visits i s None v w
 
 -- in a head that it saw
