@@ -1,5 +1,5 @@
 -- What the moves of a look at a cell leave of a seat, one after another.
-use Rattle.std.proofs.Common.{◌≡◌, ◌≢◌, ℕ, ◌<◌, Bool, true, false, List, [], ◌∷◌, ◌++◌, refl, sym, ap, subst, ◌∙◌, append_assoc, arith, Some, None, inl, inr}
+use Rattle.std.proofs.Common.{◌≡◌, ℕ, Bool, true, false, List, [], ◌∷◌, ◌++◌, refl, sym, ap, subst, ◌∙◌, append_assoc, Some, None, inl, inr}
 use Rattle.std.specs.Prelude.{Err, IfOk, Ok, Option, Result}
 use Rattle.plain_state.specs.declared.act.EventPlace.TheVariants.{WeakCell}
 use Rattle.plain_state.specs.declared.slot.Kind.TheVariants.{Weak}

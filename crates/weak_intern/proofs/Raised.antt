@@ -1,10 +1,9 @@
 -- What an upgrade with the deed UpgradeHead asks, and what it leaves of a seat.
-use Rattle.std.proofs.Common.{◌≡◌, inl, inr, ℕ, ◌+◌, ◌<◌, Bool, true, false, [], ◌∷◌, ◌++◌, List, refl, sym, ap, subst, ◌∙◌, append_assoc, arith, Some, None}
+use Rattle.std.proofs.Common.{◌≡◌, inl, inr, ℕ, ◌+◌, Bool, true, false, [], ◌∷◌, ◌++◌, List, refl, sym, ap, subst, ◌∙◌, append_assoc, arith, Some, None}
 use Rattle.std.specs.Prelude.{Err, IfOk, Ok, Option, Result, ◌==◌, if◌then◌else◌, nat_lt}
 use Rattle.std.proofs.lemmas.Bool.Decides.{nat_tests}
 use Rattle.std.proofs.lemmas.List.{append-nil}
 use Rattle.plain_state.specs.declared.slot.SlotId.{SlotId}
-use Rattle.plain_state.specs.Lists.{times}
 use Rattle.plain_state.specs.declared.act.PlainAct.{PlainAct}
 use Rattle.plain_state.specs.declared.act.PlainAct.TheVariants as plain
 use Rattle.plain_state.specs.State.{Plain}
@@ -26,7 +25,7 @@ use Rattle.acquire_retire.specs.Seats.{SeatState}
 use Rattle.control_word.specs.declared.upgrading.UpgradeError.{UpgradeError}
 use Rattle.control_word.specs.declared.upgrading.UpgradeError.TheVariants as no_raise
 use Rattle.counted_handles.specs.Handles.{Handle}
-use Rattle.control_word.specs.Calls.{FindsEnded, GainsStrong, with_strong}
+use Rattle.control_word.specs.Calls.{FindsEnded, GainsStrong}
 use Rattle.control_word.specs.Moves.{KnowsStill}
 use Rattle.control_word.proofs.Owning.{some_more}
 use Rattle.core_events.specs.Views.{Holds}

@@ -4,7 +4,6 @@ use Rattle.std.specs.Prelude.{Bool, Option}
 use Rattle.plain_state.specs.declared.slot.SlotId.{SlotId}
 use Rattle.plain_state.specs.Lists.{times}
 use Rattle.plain_protocol.specs.Owns.{Object}
-use Rattle.core_events.specs.Counts.{one}
 use Rattle.core_events.specs.Views.{without}
 use Rattle.core_law.proofs.Kit.{one_same, times_push, times_without}
 use Rattle.domain_rule.specs.Views.{object_in}

@@ -1,4 +1,4 @@
-use Rattle.std.proofs.Common.{ap, arith, sym, inl, ◌∙◌, None}
+use Rattle.std.proofs.Common.{ap, inl, ◌∙◌, None}
 use Rattle.directory_calls.specs.Directories.{area_of}
 use Rattle.directory_calls.proofs.Parts.{place_of}
 use Rattle.record_making.specs.Texts.{text_of}

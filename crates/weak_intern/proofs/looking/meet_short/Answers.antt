@@ -1,4 +1,4 @@
-use Rattle.std.proofs.Common.{ap, arith, refl, subst, sym, ◌∙◌, None, Some, true, false}
+use Rattle.std.proofs.Common.{ap, arith, subst, ◌∙◌}
 use Rattle.std.specs.Prelude.{Err}
 use Rattle.directory_calls.specs.Directories.{area_of}
 use Rattle.directory_calls.proofs.Parts.{place_of}

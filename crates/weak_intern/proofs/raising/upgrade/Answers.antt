@@ -1,4 +1,4 @@
-use Rattle.std.proofs.Common.{arith, refl}
+use Rattle.std.proofs.Common.{refl}
 use Rattle.control_word.proofs.Gaining.{counted, found_ended}
 use Rattle.weak_intern.proofs.raising.upgrade.Goals as goal
 

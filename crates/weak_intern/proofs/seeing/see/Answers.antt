@@ -1,8 +1,7 @@
-use Rattle.std.proofs.Common.{ap, sym, subst, ◌∙◌, ◌<◌, ◌≡◌, ◌+◌, Some, None, arith}
+use Rattle.std.proofs.Common.{sym, subst, ◌∙◌, ◌<◌, arith}
 use Rattle.directory_calls.specs.Directories.{area_of}
 use Rattle.directory_calls.proofs.Parts.{place_of}
-use Rattle.protected_loads.specs.Retries.{AcquiresAtLast}
-use Rattle.snapshot_ptr.proofs.Under.{IsFreeWord, least_is_free}
+use Rattle.snapshot_ptr.proofs.Under.{least_is_free}
 use Rattle.weak_intern.proofs.Seen.{after_found, after_null, ready}
 use Rattle.weak_intern.proofs.seeing.see.Goals as goal
 
