@@ -13,7 +13,7 @@ use Rattle.directory_calls.specs.Steps.{aside}
 use Rattle.directory_law.specs.declared.view.View.{View}
 use Rattle.weak_intern.specs.declared.seeing.Sighted.{Sighted}
 use Rattle.weak_intern.specs.Sighting.{SightsBy, let_go_of}
-use Rattle.weak_intern.proofs.Moves.{look_without, null_by, null_leaves}
+use Rattle.weak_intern.proofs.Looked.{look_without, null_by, null_leaves}
 
 module _ (i : ℕ) (a b : SeatState View) (found : Option Sighted)
     (sights : SightsBy i found a.view.core b.view.core) (knows : KnowsStill a.view.core a b) where

@@ -1,5 +1,5 @@
 -- What a load of a cell with the deed SeeHead asks, and what it leaves of a seat.
-use Rattle.std.proofs.Common.{◌≡◌, inl, inr, ℕ, suc, ◌+◌, ◌-◌, ◌<◌, List, [], ◌∷◌, ◌++◌, length, refl, sym, ap, subst, ◌∙◌, arith, append_assoc, Option, Some, None}
+use Rattle.std.proofs.Common.{◌≡◌, inl, inr, ℕ, suc, ◌+◌, ◌-◌, ◌<◌, List, length, refl, sym, ap, subst, ◌∙◌, arith, Option, Some, None}
 use Rattle.std.specs.Prelude.{if◌then◌else◌}
 use Rattle.plain_state.specs.declared.act.EventPlace.TheVariants.{WeakCell}
 use Rattle.plain_state.specs.declared.act.PlainAct.{PlainAct}
@@ -15,7 +15,6 @@ use Rattle.protocol_pairs.specs.Spared.{IsWithin}
 use Rattle.core_events.specs.declared.act.Act.TheVariants as act
 use Rattle.core_events.specs.declared.outcome.Outcome.TheVariants as outcome
 use Rattle.core_events.specs.declared.view.CoreView.{CoreView}
-use Rattle.core_events.specs.declared.view.Move.{Move}
 use Rattle.core_events.specs.declared.view.Note.TheVariants as stands
 use Rattle.core_events.specs.Runs.{after}
 use Rattle.core_events.specs.Shows.{show_seat, shows}
@@ -23,15 +22,13 @@ use Rattle.core_events.specs.Views.{note_of}
 use Rattle.core_events.specs.Words.{slot_in}
 use Rattle.core_law.proofs.ShownPlaces.{word_slot}
 use Rattle.domain_rule.specs.Views.{object_in, own_of}
-use Rattle.acquire_retire.specs.Calls.{IsSameView, Steps, same_view}
-use Rattle.acquire_retire.specs.Collecting.{move}
+use Rattle.acquire_retire.specs.Calls.{Steps}
 use Rattle.acquire_retire.specs.Domains.{DomainState}
 use Rattle.acquire_retire.specs.Notes.{least_free}
 use Rattle.acquire_retire.specs.Seats.{SeatState}
-use Rattle.control_word.specs.Resting.{IsAtRest, IsSettled}
-use Rattle.control_word.proofs.Becoming.{walks_table}
-use Rattle.protected_loads.specs.Loads.{FindsNull, Misses, Protects, announced_by, protected_by, with_snapshot}
-use Rattle.protected_loads.specs.Retries.{AcquiresAtLast, IsReadyToReacquire, Loses, Lost, lost_by}
+use Rattle.control_word.specs.Resting.{IsAtRest}
+use Rattle.protected_loads.specs.Loads.{FindsNull, Protects, protected_by, with_snapshot}
+use Rattle.protected_loads.specs.Retries.{AcquiresAtLast, IsReadyToReacquire}
 use Rattle.protected_loads.proofs.Checking.{valid_word}
 use Rattle.protected_loads.proofs.Learning.{client_null}
 use Rattle.protected_loads.proofs.Noting.{written}
@@ -48,10 +45,11 @@ use Rattle.weak_intern.specs.declared.seeing.Sighted.{Sighted}
 use Rattle.weak_intern.specs.Seeing.{EndsAt, HasSeenAt, seen_in}
 use Rattle.snapshot_ptr.proofs.Under.{IsFreeWord}
 use Rattle.weak_intern.specs.Sighting.{IsSighted, Sights, SightsBy, seen_by}
-use Rattle.directory_calls.specs.Steps.{AtStep, GoesOn}
+use Rattle.directory_calls.specs.Steps.{AtStep}
 use Rattle.directory_calls.proofs.Going.{at_step, from_earlier}
 use Rattle.directory_calls.proofs.Learnt.{learns_keeps, learns_none, see_learns, sees_learns, walked_still}
-use Rattle.directory_calls.proofs.Parts.{LearnsBy, Place, lift_learns, lift_ready, lifts, part_none, part_then, tells}
+use Rattle.weak_intern.proofs.Tries.{goes_mid, idle_mid, learns_mid, rest_mid, sights_so}
+use Rattle.directory_calls.proofs.Parts.{LearnsBy, Place, lift_learns, lift_ready, lifts, part_then, tells}
 
 module _ {P V : Type 0} (fits : List ℕ → Type 0) (d : DomainState P) (l : Place V) (z : Area)
     (i c : ℕ) (is : i ≡ z.first + c) (j : ℕ) (old : SeatState V) where
@@ -77,55 +75,6 @@ module _ {P V : Type 0} (fits : List ℕ → Type 0) (d : DomainState P) (l : Pl
           (λ after w. learns_keeps 0 (l.seen v) (see_next z own after (l.seen v) a w)
           (see_learns z own after (l.seen v) a w))
 
-  -- LOST TRIES
-  lost_learns : (ts : List Lost) (mid : SeatState V)
-      → Loses fits d (WeakCell i) (lifts l (see_next z)) (tells l (SeeTells z)) j ts old mid
-      → LearnsBy l 0 old.view.client mid.view.client
-  lost_learns [] mid same =
-      subst (λ (x : SeatState V). LearnsBy l 0 old.view.client x.view.client) (sym same)
-      (part_none l old.view.client)
-  lost_learns (t ∷ ts) new loses =
-      let mid = loses.0 in
-      let m = loses.2 in
-      let own = own_of m.mid.view in
-      let late = own_of m.checks.walks.0.view in
-      let v = m.mid.view.client in
-      let a = plain.Check j (WeakCell i) in
-      let w = m.checks.walks.1.word in
-      let more = lift_learns l 0 v (see_next z own late (l.seen v) a w)
-      (see_learns z own late (l.seen v) a w) in
-      part_then l 0 0 old.view.client mid.view.client new.view.client
-      (lost_learns ts mid loses.1)
-      (subst (λ v. LearnsBy l 0 mid.view.client v) (sym (client_moved mid t m))
-      (subst (λ u. LearnsBy l 0 u (lifts l (see_next z) own late v a w)) m.announces.client more))
-    where
-      -- what a lost try tells the client's view
-      client_moved : (mid : SeatState V) (t : Lost)
-          → (m : Misses fits d j (WeakCell i) (lifts l (see_next z)) (tells l (SeeTells z))
-          (Some t.slot) t.now mid new)
-          → new.view.client
-          ≡ lifts l (see_next z) (own_of m.mid.view) (own_of m.checks.walks.0.view)
-          m.mid.view.client (plain.Check j (WeakCell i)) m.checks.walks.1.word
-      client_moved mid t m =
-          m.client
-          ∙ (ap (λ (x : SeatState V). x.view.client) m.checks.walks.2
-          ∙ m.checks.walks.1.told.client)
-
-  lost_table : (ts : List Lost) (mid : SeatState V)
-      → Loses fits d (WeakCell i) (lifts l (see_next z)) (tells l (SeeTells z)) j ts old mid
-      → mid.table ≡ old.table
-  lost_table [] mid same = ap (λ (x : SeatState V). x.table) same
-  lost_table (t ∷ ts) new loses =
-      let mid = loses.0 in
-      let m = loses.2 in
-      walks_table fits d same_view IsSameView
-      (move (act.Release j) outcome.Plain ∷ []) m.late new m.releases.walks
-      ∙ walks_table fits d (lifts l (see_next z)) (tells l (SeeTells z))
-      (move (act.Check j (WeakCell i)) (outcome.Moved t.now) ∷ []) m.mid m.late m.checks.walks
-      ∙ walks_table fits d same_view IsSameView (announced_by j (WeakCell i) m.slot) mid m.mid
-      m.announces.becomes.walks
-      ∙ lost_table ts mid loses.1
-
   -- WHAT IT LEAVES
   module _ (rest : IsAtRest d old) (word : IsFreeWord j old.view.core) (new : SeatState V)
       (found : Option SlotId)
@@ -134,47 +83,14 @@ module _ {P V : Type 0} (fits : List ℕ → Type 0) (d : DomainState P) (l : Pl
     abbrev mid : SeatState V
     mid = last.mid
 
-    rest_mid : IsAtRest d mid
-    rest_mid = record {
-      of_domain = (
-        lost_table last.lost mid last.loses ∙ rest.of_domain.0,
-        ap (λ (v : CoreView). v.shape) last.core ∙ rest.of_domain.1,
-      );
-      idle = (
-        ap (λ (v : CoreView). v.phase) last.core ∙ rest.idle.0,
-        ap (λ (v : CoreView). v.left) last.core ∙ rest.idle.1,
-      );
-      owes_nothing = ap (λ (v : CoreView). v.owed) last.core ∙ rest.owes_nothing;
-      first = ap (λ (v : CoreView). note_of v 0) last.core ∙ rest.first;
-      others = λ k. subst IsSettled (sym (ap (λ (v : CoreView). note_of v k) last.core))
-          (rest.others k);
-    }
+    resting : IsAtRest d mid
+    resting = rest_mid fits d l z i j old rest word new found last
 
-    idle_mid : note_of mid.view.core j ≡ stands.Idle
-    idle_mid = ap (λ (v : CoreView). note_of v j) last.core ∙ word.2
+    free : note_of mid.view.core j ≡ stands.Idle
+    free = idle_mid fits d l z i j old rest word new found last
 
-    learns_mid : LearnsBy l 0 old.view.client mid.view.client
-    learns_mid = lost_learns last.lost mid last.loses
-
-    goes_mid : GoesOn old.view.core mid.view.core
-    goes_mid = (_, ap (λ (v : CoreView). v.trail) last.core)
-
-    -- the lost tries, and then these moves, by which the seat came to have v
-    sights_so : (v : CoreView → CoreView) (ms : List Move)
-        → ((u : CoreView) (t : List Move)
-        → record (v (record u { trail = t })) { trail = t ++ ms }
-        ≡ record (v u) { trail = t ++ ms })
-        → new.view.core ≡ record (v mid.view.core) { trail = mid.view.core.trail ++ ms }
-        → new.view.core
-        ≡ record (v old.view.core) {
-          trail = old.view.core.trail ++ (lost_by j (WeakCell i) last.lost ++ ms);
-        }
-    sights_so v ms bare core =
-        core
-        ∙ (ap (λ (u : CoreView). record (v u) { trail = u.trail ++ ms }) last.core
-        ∙ (bare old.view.core (old.view.core.trail ++ lost_by j (WeakCell i) last.lost)
-        ∙ ap (λ (t : List Move). record (v old.view.core) { trail = t })
-        (append_assoc old.view.core.trail (lost_by j (WeakCell i) last.lost) ms)))
+    learnt : LearnsBy l 0 old.view.client mid.view.client
+    learnt = learns_mid fits d l z i j old rest word new found last
 
     -- the cell was null
     module _ (null : FindsNull fits d (WeakCell i) (lifts l (see_next z))
@@ -194,17 +110,17 @@ module _ {P V : Type 0} (fits : List ℕ → Type 0) (d : DomainState P) (l : Pl
           let none : NoneBound z p text =
           told.1 text m
           (walked_still 0 z (l.seen old.view.client) (l.seen mid.view.client) text m
-          learns_mid.part walked)
+          learnt.part walked)
           (inl empty) in
           from_earlier d (λ x. NoneBound z x text) old mid new
-          (ap (λ (v : CoreView). v.seat) last.core) goes_mid
+          (ap (λ (v : CoreView). v.seat) last.core) (goes_mid fits d l z i j old rest word new found last)
           (subst (λ (x : SeatState V). AtStep d (λ y. NoneBound z y text) mid x)
           (sym null.becomes.walks.2)
           (at_step d (λ x. NoneBound z x text) step none))
 
       pub null_learns : LearnsBy l 0 old.view.client new.view.client
       null_learns =
-          part_then l 0 0 old.view.client mid.view.client new.view.client learns_mid
+          part_then l 0 0 old.view.client mid.view.client new.view.client learnt
           (subst (λ v. LearnsBy l 0 mid.view.client v) (sym (client_null d (WeakCell i) mid new null))
           (lift_learns l 0 mid.view.client (l.seen mid.view.client)
           (learns_none (l.seen mid.view.client))))
@@ -212,7 +128,7 @@ module _ {P V : Type 0} (fits : List ℕ → Type 0) (d : DomainState P) (l : Pl
       pub null_sights : (k : ℕ) × Sights i k None old.view.core new.view.core
       null_sights = (j, record {
         lost = last.lost;
-        core = sights_so (λ v. v) (seen_by i None) (λ u t. refl) null.becomes.core;
+        core = sights_so fits d l z i j old rest word new found last (λ v. v) (seen_by i None) (λ u t. refl) null.becomes.core;
       })
 
     -- it held s
@@ -235,7 +151,7 @@ module _ {P V : Type 0} (fits : List ℕ → Type 0) (d : DomainState P) (l : Pl
       there = let four = four_notes r.announces.becomes.walks.1.told in omega (arith, four, word.1)
 
       valid : slot_in step.word ≡ Some s
-      valid = valid_word d (WeakCell i) j word.1 s mid r.mid rest_mid idle_mid r.announces checked
+      valid = valid_word d (WeakCell i) j word.1 s mid r.mid resting free r.announces checked
           step
 
       suc_word : step.word ≡ suc s.0
@@ -245,7 +161,7 @@ module _ {P V : Type 0} (fits : List ℕ → Type 0) (d : DomainState P) (l : Pl
       has_found : HasSlot (show_seat checked.view.core) s
       has_found = subst (λ (x : SeatState V). HasSlot (show_seat x.view.core) s) r.checks.walks.2
           (holds_has new.view.core s
-          (holds_snapshot (WeakCell i) j s mid.view.core there idle_mid new _ r.core))
+          (holds_snapshot (WeakCell i) j s mid.view.core there free new _ r.core))
 
       number : i - z.first ≡ c
       number = omega (arith, is)
@@ -278,7 +194,7 @@ module _ {P V : Type 0} (fits : List ℕ → Type 0) (d : DomainState P) (l : Pl
 
       pub found_learns : LearnsBy l 0 old.view.client new.view.client
       found_learns =
-          part_then l 0 0 old.view.client mid.view.client new.view.client learns_mid
+          part_then l 0 0 old.view.client mid.view.client new.view.client learnt
           (subst (λ v. LearnsBy l 0 v new.view.client) r.announces.client
           (subst (λ v. LearnsBy l 0 before v) (sym client)
           (lift_learns l 0 before now_seen
@@ -287,7 +203,7 @@ module _ {P V : Type 0} (fits : List ℕ → Type 0) (d : DomainState P) (l : Pl
       pub found_sights : Sights i j (Some it) old.view.core new.view.core
       found_sights = record {
         lost = last.lost;
-        core = sights_so (λ v. with_snapshot j (WeakCell i) s v) (protected_by j (WeakCell i) s)
+        core = sights_so fits d l z i j old rest word new found last (λ v. with_snapshot j (WeakCell i) s v) (protected_by j (WeakCell i) s)
             (λ u t. refl) r.core;
       }
 

@@ -4,7 +4,7 @@ use Rattle.directory_calls.proofs.Parts.{place_of, zero_then}
 use Rattle.record_making.specs.Texts.{text_of}
 use Rattle.text_reading.proofs.LetGo.{least_there}
 use Rattle.weak_intern.specs.Walking.{met_by, taken_by}
-use Rattle.weak_intern.proofs.Moves.{look_by, look_free, look_leaves, look_makes, look_met, look_saw, look_sighted, null_by, null_leaves, null_makes}
+use Rattle.weak_intern.proofs.Looked.{look_by, look_free, look_leaves, look_makes, look_met, look_saw, look_sighted, null_by, null_leaves, null_makes}
 use Rattle.weak_intern.proofs.looking.look.Goals as goal
 
 pub see-requires-clause-free : goal.see-requires-clause-free

@@ -1,9 +1,10 @@
-use Rattle.std.proofs.Common.{ap, refl, sym, subst}
+use Rattle.std.proofs.Common.{ap, sym, subst}
 use Rattle.directory_calls.specs.Directories.{CanCount, area_of}
 use Rattle.weak_intern.specs.Walking.{raised_by}
 use Rattle.directory_calls.proofs.Parts.{part_as, place_of}
 use Rattle.weak_intern.proofs.LetGo.{sighted_held}
-use Rattle.weak_intern.proofs.Raised.{raised_begun, raised_core, raised_ended, raised_known, raised_learns, raised_live, raised_objects, raised_same, ready}
+use Rattle.weak_intern.proofs.Letting.{raised_begun, raised_core, raised_ended, raised_known, raised_learns, raised_live, raised_objects, raised_same}
+use Rattle.weak_intern.proofs.Raised.{ready}
 use Rattle.weak_intern.proofs.Moves.{handle_leaves}
 use Rattle.weak_intern.proofs.raising.raise.Goals as goal
 
@@ -31,9 +32,7 @@ returns-clause-live g c =
     (place_of g.P.Part.seen g.P.Part.with_seen g.P.Part.reads g.P.Part.puts_back
     g.P.Part.puts_over)
     (area_of (g.P.Part.part c.args.domain.now.protocol)) c.new-deed.result.deed.intern
-    c.args.sighted.slot c.args.seat.now
-    (sighted_held c.args.sighted c.args.seat.now.view.core c.requires.sighted)
-    c.args.sighted refl c.requires.sighted c.let_go.new.seat c.upgrade-raised.new.seat
+    c.args.sighted c.args.seat.now c.requires.sighted c.let_go.new.seat c.upgrade-raised.new.seat
     c.upgrade-raised.result c.upgrade-raised.ensures.upgraded c.upgrade-raised.ensures.objects
     c.let_go.ensures.core c.let_go.ensures.objects c.let_go.ensures.client
 
@@ -43,9 +42,7 @@ returns-clause-begins g c =
     (place_of g.P.Part.seen g.P.Part.with_seen g.P.Part.reads g.P.Part.puts_back
     g.P.Part.puts_over)
     (area_of (g.P.Part.part c.args.domain.now.protocol)) c.new-deed.result.deed.intern
-    c.args.sighted.slot c.args.seat.now
-    (sighted_held c.args.sighted c.args.seat.now.view.core c.requires.sighted)
-    c.args.sighted refl c.requires.sighted c.let_go.new.seat c.upgrade-raised.new.seat
+    c.args.sighted c.args.seat.now c.requires.sighted c.let_go.new.seat c.upgrade-raised.new.seat
     c.upgrade-raised.result c.upgrade-raised.ensures.upgraded c.upgrade-raised.ensures.objects
     c.let_go.ensures.core c.let_go.ensures.objects c.let_go.ensures.client
 
@@ -55,9 +52,7 @@ returns-clause-known g c =
     (place_of g.P.Part.seen g.P.Part.with_seen g.P.Part.reads g.P.Part.puts_back
     g.P.Part.puts_over)
     (area_of (g.P.Part.part c.args.domain.now.protocol)) c.new-deed.result.deed.intern
-    c.args.sighted.slot c.args.seat.now
-    (sighted_held c.args.sighted c.args.seat.now.view.core c.requires.sighted)
-    c.args.sighted refl c.requires.sighted c.let_go.new.seat c.upgrade-raised.new.seat
+    c.args.sighted c.args.seat.now c.requires.sighted c.let_go.new.seat c.upgrade-raised.new.seat
     c.upgrade-raised.result c.upgrade-raised.ensures.upgraded c.upgrade-raised.ensures.objects
     c.let_go.ensures.core c.let_go.ensures.objects c.let_go.ensures.client
 
@@ -67,9 +62,7 @@ returns-clause-ended g c =
     (place_of g.P.Part.seen g.P.Part.with_seen g.P.Part.reads g.P.Part.puts_back
     g.P.Part.puts_over)
     (area_of (g.P.Part.part c.args.domain.now.protocol)) c.new-deed.result.deed.intern
-    c.args.sighted.slot c.args.seat.now
-    (sighted_held c.args.sighted c.args.seat.now.view.core c.requires.sighted)
-    c.args.sighted refl c.requires.sighted c.let_go.new.seat c.upgrade-raised.new.seat
+    c.args.sighted c.args.seat.now c.requires.sighted c.let_go.new.seat c.upgrade-raised.new.seat
     c.upgrade-raised.result c.upgrade-raised.ensures.upgraded c.upgrade-raised.ensures.objects
     c.let_go.ensures.core c.let_go.ensures.objects c.let_go.ensures.client
     c.upgrade-raised.ensures.ended
@@ -80,9 +73,7 @@ returns-clause-raises g c =
     (place_of g.P.Part.seen g.P.Part.with_seen g.P.Part.reads g.P.Part.puts_back
     g.P.Part.puts_over)
     (area_of (g.P.Part.part c.args.domain.now.protocol)) c.new-deed.result.deed.intern
-    c.args.sighted.slot c.args.seat.now
-    (sighted_held c.args.sighted c.args.seat.now.view.core c.requires.sighted)
-    c.args.sighted refl c.requires.sighted c.let_go.new.seat c.upgrade-raised.new.seat
+    c.args.sighted c.args.seat.now c.requires.sighted c.let_go.new.seat c.upgrade-raised.new.seat
     c.upgrade-raised.result c.upgrade-raised.ensures.upgraded c.upgrade-raised.ensures.objects
     c.let_go.ensures.core c.let_go.ensures.objects c.let_go.ensures.client c.upgrade-raised.ensures.refused
     c.upgrade-raised.ensures.ended
@@ -93,9 +84,7 @@ returns-clause-objects g c =
     (place_of g.P.Part.seen g.P.Part.with_seen g.P.Part.reads g.P.Part.puts_back
     g.P.Part.puts_over)
     (area_of (g.P.Part.part c.args.domain.now.protocol)) c.new-deed.result.deed.intern
-    c.args.sighted.slot c.args.seat.now
-    (sighted_held c.args.sighted c.args.seat.now.view.core c.requires.sighted)
-    c.args.sighted refl c.requires.sighted c.let_go.new.seat c.upgrade-raised.new.seat
+    c.args.sighted c.args.seat.now c.requires.sighted c.let_go.new.seat c.upgrade-raised.new.seat
     c.upgrade-raised.result c.upgrade-raised.ensures.upgraded c.upgrade-raised.ensures.objects
     c.let_go.ensures.core c.let_go.ensures.objects c.let_go.ensures.client c.upgrade-raised.ensures.refused
     c.upgrade-raised.ensures.ended
@@ -113,9 +102,7 @@ returns-clause-learns g c =
     (place_of g.P.Part.seen g.P.Part.with_seen g.P.Part.reads g.P.Part.puts_back
     g.P.Part.puts_over)
     (area_of (g.P.Part.part c.args.domain.now.protocol)) c.new-deed.result.deed.intern
-    c.args.sighted.slot c.args.seat.now
-    (sighted_held c.args.sighted c.args.seat.now.view.core c.requires.sighted)
-    c.args.sighted refl c.requires.sighted c.let_go.new.seat c.upgrade-raised.new.seat
+    c.args.sighted c.args.seat.now c.requires.sighted c.let_go.new.seat c.upgrade-raised.new.seat
     c.upgrade-raised.result c.upgrade-raised.ensures.upgraded c.upgrade-raised.ensures.objects
     c.let_go.ensures.core c.let_go.ensures.objects c.let_go.ensures.client c.upgrade-raised.ensures.refused
     c.upgrade-raised.ensures.ended)
@@ -127,18 +114,14 @@ returns-clause-leaves g c =
     (place_of g.P.Part.seen g.P.Part.with_seen g.P.Part.reads g.P.Part.puts_back
     g.P.Part.puts_over)
     (area_of (g.P.Part.part c.args.domain.now.protocol)) c.new-deed.result.deed.intern
-    c.args.sighted.slot c.args.seat.now
-    (sighted_held c.args.sighted c.args.seat.now.view.core c.requires.sighted)
-    c.args.sighted refl c.requires.sighted c.let_go.new.seat c.upgrade-raised.new.seat
+    c.args.sighted c.args.seat.now c.requires.sighted c.let_go.new.seat c.upgrade-raised.new.seat
     c.upgrade-raised.result c.upgrade-raised.ensures.upgraded c.upgrade-raised.ensures.objects
     c.let_go.ensures.core c.let_go.ensures.objects c.let_go.ensures.client)
     (raised_core g.P.Kind.PayloadKind.fits c.args.domain.now
     (place_of g.P.Part.seen g.P.Part.with_seen g.P.Part.reads g.P.Part.puts_back
     g.P.Part.puts_over)
     (area_of (g.P.Part.part c.args.domain.now.protocol)) c.new-deed.result.deed.intern
-    c.args.sighted.slot c.args.seat.now
-    (sighted_held c.args.sighted c.args.seat.now.view.core c.requires.sighted)
-    c.args.sighted refl c.requires.sighted c.let_go.new.seat c.upgrade-raised.new.seat
+    c.args.sighted c.args.seat.now c.requires.sighted c.let_go.new.seat c.upgrade-raised.new.seat
     c.upgrade-raised.result c.upgrade-raised.ensures.upgraded c.upgrade-raised.ensures.objects
     c.let_go.ensures.core c.let_go.ensures.objects c.let_go.ensures.client c.upgrade-raised.ensures.refused
     c.upgrade-raised.ensures.ended)
@@ -146,9 +129,7 @@ returns-clause-leaves g c =
     (place_of g.P.Part.seen g.P.Part.with_seen g.P.Part.reads g.P.Part.puts_back
     g.P.Part.puts_over)
     (area_of (g.P.Part.part c.args.domain.now.protocol)) c.new-deed.result.deed.intern
-    c.args.sighted.slot c.args.seat.now
-    (sighted_held c.args.sighted c.args.seat.now.view.core c.requires.sighted)
-    c.args.sighted refl c.requires.sighted c.let_go.new.seat c.upgrade-raised.new.seat
+    c.args.sighted c.args.seat.now c.requires.sighted c.let_go.new.seat c.upgrade-raised.new.seat
     c.upgrade-raised.result c.upgrade-raised.ensures.upgraded c.upgrade-raised.ensures.objects
     c.let_go.ensures.core c.let_go.ensures.objects c.let_go.ensures.client c.upgrade-raised.ensures.refused
     c.upgrade-raised.ensures.ended)
