@@ -126,10 +126,13 @@ module _ {P V : Type 0} (fits : List ℕ → Type 0) (d : DomainState P) (l : Pl
           (learns_none (l.seen mid.view.client))))
 
       pub null_sights : (k : ℕ) × Sights i k None old.view.core new.view.core
-      null_sights = (j, record {
-        lost = last.lost;
-        core = sights_so fits d l z i j old rest word new found last (λ v. v) (seen_by i None) (λ u t. refl) null.becomes.core;
-      })
+      null_sights = (
+        j,
+        record {
+          lost = last.lost;
+          core = sights_so fits d l z i j old rest word new found last (λ v. v) (seen_by i None) (λ u t. refl) null.becomes.core;
+        },
+      )
 
     -- it held s
     module _ (s : SlotId) (r : Protects fits d j (WeakCell i) (lifts l (see_next z))

@@ -46,6 +46,6 @@ pub use directory_calls::Directory;
 pub use drawing::draw;
 pub use finding::find;
 pub use interning::intern;
-pub use record_making::{MakeError, cell_on, hash_of, head_of};
 pub use raising::raise;
+pub use record_making::{MakeError, cell_on, hash_of, head_of};
 pub use seeing::{Sighted, let_go, see};

@@ -66,7 +66,7 @@ pub fn let_go<P: Protocol>(domain: &Domain<P>, seat: &mut Seat<P>, sighted: Sigh
     requires rest { IsAtRest domain.now seat.old }
     requires sighted { IsSighted sighted seat.old.view.core }
     ensures core { seat.new.view.core ≡ record (let_go_of sighted seat.old.view.core) {
-        trail = seat.old.view.core.trail ++ move (act.Release sighted.word) outcome.Plain ∷ [];
+      trail = seat.old.view.core.trail ++ move (act.Release sighted.word) outcome.Plain ∷ [];
     } }
     ensures client { seat.new.view.client ≡ seat.old.view.client }
     ensures objects { KnowsStill (let_go_of sighted seat.old.view.core) seat.old seat.new }

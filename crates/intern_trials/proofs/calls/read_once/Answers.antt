@@ -1,4 +1,6 @@
-use Rattle.std.proofs.Common.{◌≡◌, ◌<◌, ◌+◌, arith, subst, sym, ◌∙◌}
+use Rattle.std.proofs.Common.{◌≡◌, ◌<◌, ◌+◌, ap, arith, subst, sym, ◌∙◌}
+use Rattle.std.specs.Prelude.{slice_index_or}
+use Rattle.core_events.specs.declared.view.Note.TheVariants as note
 use Rattle.plain_state.specs.declared.slot.SlotId.{SlotId}
 use Rattle.plain_state.specs.Lists.{times}
 use Rattle.directory_calls.specs.Directories.{area_of}
@@ -26,7 +28,7 @@ pub raise-requires-clause-saw : goal.raise-requires-clause-saw
 raise-requires-clause-saw g c = (
   c.args.cell,
   look_saw (c.args.domain.now.protocol.first + c.args.cell) c.args.seat.now c.see.new.seat
-    c.see.result c.see.ensures.sights c.see.ensures.objects c.in-Some.head c.in-Some.is
+      c.see.result c.see.ensures.sights c.see.ensures.objects c.in-Some.head c.in-Some.is
       (λ v. v) c.args.domain.now (area_of c.args.domain.now.protocol) c.args.cell
       c.see.ensures.sees,
 )
@@ -74,3 +76,15 @@ returns-clause-owns g c =
     omega (arith, more, same))
     (dropped c.read_text-size.new.seat c.drop_strong.new.seat c.in-Ok.record.slot _
     c.args.domain.now c.drop_strong.ensures.dropped c.drop_strong.ensures.objects).owns
+
+pub returns-clause-ready : goal.returns-clause-ready
+returns-clause-ready g c = record {
+  rest = c.drop_strong.ensures.rest;
+  none = λ j. ap (λ ns. slice_index_or ns j note.Idle) c.drop_strong.ensures.notes
+      ∙ under_after (c.args.domain.now.protocol.first + c.args.cell) c.args.seat.now c.see.new.seat
+          c.see.result c.see.ensures.sights c.see.ensures.objects c.in-Some.head c.in-Some.is
+      c.read_text-size.new.seat
+      (c.read_text-size.ensures.leaves.same ∙ c.raise.ensures.leaves.same)
+      c.requires.ready.none j;
+  room = c.drop_strong.ensures.room c.read_text-size.ensures.room;
+}

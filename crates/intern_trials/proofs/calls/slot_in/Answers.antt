@@ -24,9 +24,9 @@ returns-clause-owns g c =
 
 pub returns-clause-ready : goal.returns-clause-ready
 returns-clause-ready g c = record {
-      rest = c.let_go.ensures.rest;
-      none = under_after (c.args.domain.now.protocol.first + c.args.cell) c.args.seat.now c.see.new.seat
-    c.see.result c.see.ensures.sights c.see.ensures.objects c.in_ok-head.head c.in_ok-head.was c.let_go.new.seat
-          (ap aside c.let_go.ensures.core) c.requires.ready.none;
-      room = c.let_go.ensures.room c.see.ensures.room;
-    }
+  rest = c.let_go.ensures.rest;
+  none = under_after (c.args.domain.now.protocol.first + c.args.cell) c.args.seat.now c.see.new.seat
+      c.see.result c.see.ensures.sights c.see.ensures.objects c.in_ok-head.head c.in_ok-head.was c.let_go.new.seat
+      (ap aside c.let_go.ensures.core) c.requires.ready.none;
+  room = c.let_go.ensures.room c.see.ensures.room;
+}

@@ -23,8 +23,8 @@ pub meet-requires-clause-saw : goal.meet-requires-clause-saw
 meet-requires-clause-saw g c = (
   c.args.cell,
   look_saw ((g.P.Part.part c.args.domain.now.protocol).first + c.args.cell)
-    c.args.seat.now c.see.new.seat c.see.result c.see.ensures.sights c.see.ensures.objects
-    c.in-Some.sighted c.in-Some.is
+      c.args.seat.now c.see.new.seat c.see.result c.see.ensures.sights c.see.ensures.objects
+      c.in-Some.sighted c.in-Some.is
       g.P.Part.seen c.args.domain.now (area_of (g.P.Part.part c.args.domain.now.protocol))
       c.args.cell c.see.ensures.sees,
 )
