@@ -130,7 +130,8 @@ module _ {P V : Type 0} (fits : List ℕ → Type 0) (d : DomainState P) (l : Pl
         j,
         record {
           lost = last.lost;
-          core = sights_so fits d l z i j old rest word new found last (λ v. v) (seen_by i None) (λ u t. refl) null.becomes.core;
+          core = sights_so fits d l z i j old rest word new found last (λ v. v) (seen_by i None)
+              (λ u t. refl) null.becomes.core;
         },
       )
 
@@ -206,7 +207,8 @@ module _ {P V : Type 0} (fits : List ℕ → Type 0) (d : DomainState P) (l : Pl
       pub found_sights : Sights i j (Some it) old.view.core new.view.core
       found_sights = record {
         lost = last.lost;
-        core = sights_so fits d l z i j old rest word new found last (λ v. with_snapshot j (WeakCell i) s v) (protected_by j (WeakCell i) s)
+        core = sights_so fits d l z i j old rest word new found last
+            (λ v. with_snapshot j (WeakCell i) s v) (protected_by j (WeakCell i) s)
             (λ u t. refl) r.core;
       }
 

@@ -22,11 +22,11 @@ use record_making::{hash_of, head_of};
 use std::sync::Wait;
 
 /// A strong reference to the live record of a text of 1 to 4,096 bytes, or None where it had none
-/// at a step of the call. `Spent` where the seat has no add left that a head with the payload of the
-/// text's needs. It looks at each cell at most once, and at one of them a last time: at most four
-/// steps for each try to load, 18 more for each cell, and one; of a long text some 700 more for each
-/// cell whose head is the text's. A text of at most 120 bytes is found for one add, and one more for
-/// each record of it that was passed because it had ended.
+/// at a step of the call. `Spent` where the seat has no add left, and comes to a head that has the
+/// payload of the text's. It looks at each cell at most once, and at one of them a last time: at
+/// most four steps for each try to load, 18 more for each cell, and one; of a long text some 700
+/// more for each cell whose head is the text's. A text of at most 120 bytes is found for one add,
+/// and one more for each record with its payload that had ended.
 pub fn find<R: Wait, S, P: HasDirectory<S>>(
     rt: &R,
     domain: &Domain<P>,

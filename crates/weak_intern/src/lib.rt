@@ -3,13 +3,13 @@
 //!
 //! The rule that it keeps is the law of `directory_law`, by the deeds of `directory_protocol`. The
 //! walk of a text begins at a cell that its bytes tell, and goes on around the end. At each cell a
-//! seat announces the head that stands there and checks that it stands there still, compares its
-//! payload with that of the text under the announcement, and takes a strong reference where they are
-//! the same; so no weak reference is counted. Of a text of more than 120 bytes it
-//! reads the rest under that reference, by `text_reading`, and gives it up where the bytes differ.
-//! What it learns it notes in its view, as the law asks, so what the walk found stays true. An
-//! intern goes on where the walk comes to null: it makes a record, by `record_making`, and puts it
-//! there by a compare and exchange.
+//! seat announces the head that stands there, checks that it stands there still, and compares its
+//! payload with that of the text under the announcement. Only where they are the same does it take
+//! a strong reference, so no walk counts a weak one, and a text of at most 120 bytes is found for
+//! one add. Of a longer text it reads the rest under that reference, by `text_reading`, and gives it
+//! up where the bytes differ. What it learns it notes in its view, as the law asks, so what the walk
+//! found stays true. An intern goes on where the walk comes to null: it makes a record, by
+//! `record_making`, and puts it there by a compare and exchange.
 //!
 //! All calls are over each protocol that has a directory as a part, and change nothing else of the
 //! seat's view.

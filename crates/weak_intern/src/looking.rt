@@ -36,10 +36,10 @@ pub enum Sight {
     Record(Strong),
 }
 
-/// Looks at a cell for a text. Where it meets the live record, an intern of the seat is used if that
-/// is asked. A head is compared under an announcement, and only one that begins as the text does is
-/// counted: one add. At most four steps for each try to load, and 18 more, or some 720 where the head
-/// is that of a long text.
+/// Looks at a cell for a text. Where it meets the live record, an intern of the seat is used if
+/// that is asked. A head is compared under an announcement, and one add is made where its payload is
+/// that of the text. At most four steps for each try to load, and 18 more, or some 720 where the
+/// head is that of a long text.
 pub(crate) fn look<R: Wait, S, P: HasDirectory<S>>(
     rt: &R,
     domain: &Domain<P>,

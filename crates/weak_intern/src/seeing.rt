@@ -20,7 +20,8 @@ use protected_loads::acquire_at_last;
 use protocol_pairs::InPart;
 use std::sync::Wait;
 
-/// A head that a cell held, and the seat's announcement word that keeps its slot from another use.
+/// A head that a cell held, and the seat's announcement word that keeps its slot from another use,
+/// until it is raised or let go.
 #[derive(Debug, Drop)]
 pub struct Sighted {
     pub slot: SlotId,

@@ -82,7 +82,7 @@ returns-clause-ready g c = record {
   rest = c.drop_strong.ensures.rest;
   none = λ j. ap (λ ns. slice_index_or ns j note.Idle) c.drop_strong.ensures.notes
       ∙ under_after (c.args.domain.now.protocol.first + c.args.cell) c.args.seat.now c.see.new.seat
-          c.see.result c.see.ensures.sights c.see.ensures.objects c.in-Some.head c.in-Some.is
+      c.see.result c.see.ensures.sights c.see.ensures.objects c.in-Some.head c.in-Some.is
       c.read_text-size.new.seat
       (c.read_text-size.ensures.leaves.same ∙ c.raise.ensures.leaves.same)
       c.requires.ready.none j;

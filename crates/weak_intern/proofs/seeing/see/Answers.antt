@@ -35,7 +35,8 @@ returns-in-Some-acquire_at_last-clause-sees g c =
     c.number-at.ensures.is c.in-Some.word c.args.seat.now
     c.requires.rest (least_is_free c.args.seat.now.view.core c.in-Some.word
     (sym c.free_note.ensures ∙ c.in-Some.is)) (sym c.free_note.ensures ∙ c.in-Some.is)
-    c.acquire_at_last.new.seat c.acquire_at_last.result c.in-Some-acquire_at_last.slot c.in-Some-acquire_at_last.is
+    c.acquire_at_last.new.seat c.acquire_at_last.result
+    c.in-Some-acquire_at_last.slot c.in-Some-acquire_at_last.is
     c.acquire_at_last.ensures.acquired).0
 
 pub returns-in-Some-acquire_at_last-clause-sights : goal.returns-in-Some-acquire_at_last-clause-sights
@@ -47,7 +48,8 @@ returns-in-Some-acquire_at_last-clause-sights g c =
     c.number-at.ensures.is c.in-Some.word c.args.seat.now
     c.requires.rest (least_is_free c.args.seat.now.view.core c.in-Some.word
     (sym c.free_note.ensures ∙ c.in-Some.is)) (sym c.free_note.ensures ∙ c.in-Some.is)
-    c.acquire_at_last.new.seat c.acquire_at_last.result c.in-Some-acquire_at_last.slot c.in-Some-acquire_at_last.is
+    c.acquire_at_last.new.seat c.acquire_at_last.result
+    c.in-Some-acquire_at_last.slot c.in-Some-acquire_at_last.is
     c.acquire_at_last.ensures.acquired).1
 
 pub returns-in-Some-acquire_at_last-clause-learns : goal.returns-in-Some-acquire_at_last-clause-learns
@@ -59,7 +61,8 @@ returns-in-Some-acquire_at_last-clause-learns g c =
     c.number-at.ensures.is c.in-Some.word c.args.seat.now
     c.requires.rest (least_is_free c.args.seat.now.view.core c.in-Some.word
     (sym c.free_note.ensures ∙ c.in-Some.is)) (sym c.free_note.ensures ∙ c.in-Some.is)
-    c.acquire_at_last.new.seat c.acquire_at_last.result c.in-Some-acquire_at_last.slot c.in-Some-acquire_at_last.is
+    c.acquire_at_last.new.seat c.acquire_at_last.result
+    c.in-Some-acquire_at_last.slot c.in-Some-acquire_at_last.is
     c.acquire_at_last.ensures.acquired).2
 
 pub returns-in-None-clause-sees : goal.returns-in-None-clause-sees

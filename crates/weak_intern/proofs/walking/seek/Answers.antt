@@ -181,7 +181,8 @@ returns-in-Record-clause-costs g c =
     (length c.args.sought.now.text.now ≤ 120) c.args.seat.now
     c.loop-passed.passed c.loop-passed.seat
     c.look.new.seat c.loop-passed.invariant
-    ((g.P.Part.part c.args.domain.now.protocol).first + c.cell_on-cell.result) c.in_ok-look.field-0 c.in-Record.strong c.in-Record.is c.in_ok-look.ensures.looks
+    ((g.P.Part.part c.args.domain.now.protocol).first + c.cell_on-cell.result)
+    c.in_ok-look.field-0 c.in-Record.strong c.in-Record.is c.in_ok-look.ensures.looks
 
 pub loop-passed-init : goal.loop-passed-init
 loop-passed-init g c =
