@@ -4,13 +4,13 @@ ghost use Rattle.directory_calls.specs.Directories.{IsOver};
 ghost use Rattle.intern_trials.specs.Ready.{HasLeft, IsReady, Owns, Spends};
 
 use acquire_retire::{Domain, Seat, SlotId};
-use control_word::{drop_strong, drop_weak};
+use control_word::drop_strong;
 use counted_handles::Spent;
 use directory_calls::Directory;
 use directory_protocol::DirectoryLaw;
 use std::sync::Wait;
 use text_reading::read_text;
-use weak_intern::{find, intern, raise, see};
+use weak_intern::{find, intern, let_go, raise, see};
 
 /// Interns a text of 1 to 4,096 bytes, and gives the reference up. The slot of its record; None where it was refused.
 pub fn intern_once<R: Wait>(
@@ -84,14 +84,14 @@ pub fn find_once<R: Wait>(
     Ok(Some(slot))
 }
 
-/// The slot that a cell of the directory holds, or None where it is null; `Spent` where no add is left.
+/// The slot that a cell of the directory holds, or None where it is null.
 pub fn slot_in<R: Wait>(
     rt: &R,
     domain: &Domain<DirectoryLaw>,
     seat: &mut Seat<DirectoryLaw>,
     directory: &Directory,
     cell: u32,
-) -> Result<Option<SlotId>, Spent>
+) -> Option<SlotId>
     requires ready { IsReady domain.now seat.old }
     requires over { IsOver domain.now domain.now.protocol directory.now }
     requires left { HasLeft 0 seat.old }
@@ -100,13 +100,10 @@ pub fn slot_in<R: Wait>(
     ensures owns { Owns seat.old seat.new }
     ensures ready { IsReady domain.now seat.new }
 {
-    let seen = see(rt, domain, seat, directory, cell)?;
-    let Some(head) = seen else {
-        return Ok(None);
-    };
-    let slot = head.slot();
-    drop_weak(domain, seat, head);
-    Ok(Some(slot))
+    let head = see(rt, domain, seat, directory, cell)?;
+    let slot = head.slot;
+    let_go(domain, seat, head);
+    Some(slot)
 }
 
 /// Whether the record whose head a cell holds is alive, and has this text, which is read back whole.
@@ -126,7 +123,7 @@ pub fn read_once<R: Wait>(
     ensures owns { Owns seat.old seat.new }
     ensures ready { IsReady domain.now seat.new }
 {
-    let Ok(Some(head)) = see(rt, domain, seat, directory, cell) else {
+    let Some(head) = see(rt, domain, seat, directory, cell) else {
         return false;
     };
     let Ok(record) = raise(domain, seat, head, false) else {

@@ -66,7 +66,7 @@ fn is_shared<R: Wait>(
     let found = find_once(rt, domain, seat, directory, text);
     let there = slot_in(rt, domain, seat, directory, cell);
     let read = read_once(rt, domain, seat, directory, cell, text);
-    interned == Some(record) && found == Ok(Some(record)) && there == Ok(Some(record)) && read
+    interned == Some(record) && found == Ok(Some(record)) && there == Some(record) && read
 }
 
 /// Whether a text gets a record in this cell that is shared as long as the seat owns it, and is found no more once it

@@ -35,7 +35,7 @@ fn is_put<R: Wait>(
     let before = slot_in(rt, domain, seat, directory, cell);
     let interned = intern_for_good(rt, domain, seat, directory, &[byte]);
     let after = slot_in(rt, domain, seat, directory, cell);
-    before == Ok(None) && interned.is_some() && after == Ok(interned)
+    before.is_none() && interned.is_some() && after == interned
 }
 
 /// Whether a text of one byte is found where its record stands, and read back.
@@ -57,7 +57,7 @@ fn is_there<R: Wait>(
     let found = find_once(rt, domain, seat, directory, &[byte]);
     let there = slot_in(rt, domain, seat, directory, cell);
     let read = read_once(rt, domain, seat, directory, cell, &[byte]);
-    read && found == there
+    read && found == Ok(there)
 }
 
 /// Once every cell is set no intern is left, as the contract of `intern` asks; a fifth text that begins at the same
@@ -106,7 +106,7 @@ fn is_passed<R: Wait>(
     let there = slot_in(rt, domain, seat, directory, cell);
     let read = read_once(rt, domain, seat, directory, cell, text);
     let gone = find_once(rt, domain, seat, directory, text);
-    interned.is_some() && there == Ok(interned) && !read && gone == Ok(None)
+    interned.is_some() && there == interned && !read && gone == Ok(None)
 }
 
 /// One text, which ends four times: each cell keeps the record that ended there, and the walk passes it.

@@ -1,6 +1,6 @@
 -- A record is made and put into a cell, or given up where another one was found.
 use Rattle.std.proofs.Common.{◌≡◌, inl, inr, ⊎_elim, ℕ, ◌+◌, ◌<◌, ◌≤◌, List, [], ◌∷◌, ◌++◌, true, refl, sym, ap, subst, ◌∙◌, arith, Some, None}
-use Rattle.std.specs.Prelude.{◌⊎◌, Bool, false, Err, IfOk, IsErr, IsErrAnd, Ok, OnErr, Option, Result}
+use Rattle.std.specs.Prelude.{◌⊎◌, Err, IfOk, IsErr, IsErrAnd, Ok, OnErr, Option, Result}
 use Rattle.std.proofs.lemmas.Result.{err_from_is_err_and}
 use Rattle.plain_protocol.specs.Owns.{Object}
 use Rattle.domain_rule.specs.Views.{object_in}
@@ -14,18 +14,11 @@ use Rattle.plain_state.specs.Lists.{times}
 use Rattle.core_events.specs.Counts.{one}
 use Rattle.core_events.specs.Views.{without}
 use Rattle.core_law.proofs.Kit.{one_same, times_push, times_without}
-use Rattle.core_events.specs.declared.view.CoreView.{CoreView}
-use Rattle.core_events.specs.declared.view.Move.{Move}
-use Rattle.acquire_retire.specs.Collecting.{ends}
 use Rattle.acquire_retire.specs.Domains.{DomainState}
 use Rattle.acquire_retire.specs.Seats.{SeatState}
-use Rattle.control_word.specs.Calls.{DropsStrong, with_ended, without_strong}
-use Rattle.control_word.specs.Moves.{KnowsStill}
-use Rattle.protected_loads.proofs.Telling.{holds_has}
 use Rattle.directory_law.specs.declared.view.View.{View}
 use Rattle.directory_law.specs.Cells.{Area}
 use Rattle.directory_law.specs.Law.{IsBound}
-use Rattle.control_word.specs.Resting.{IsSpent}
 use Rattle.directory_calls.specs.Directories.{CanCount}
 use Rattle.weak_intern.specs.Interning.{Grows, HasPassed, Places, interned_by, named_or, placed_by}
 use Rattle.record_making.specs.Making.{HasNotedLast, Notes, NotesOnly, candidate_in, with_notes}
@@ -33,7 +26,7 @@ use Rattle.directory_law.specs.Payloads.{Text}
 use Rattle.weak_intern.specs.Knowing.{Knows}
 use Rattle.directory_calls.specs.Steps.{Leaves, with_found}
 use Rattle.weak_intern.specs.Walking.{found_by}
-use Rattle.directory_calls.proofs.Going.{holds_by, leaves_as, leaves_less, leaves_then, seat_same, some_earlier, some_later}
+use Rattle.directory_calls.proofs.Going.{holds_by, leaves_as, leaves_then, seat_same, some_earlier, some_later}
 use Rattle.directory_calls.proofs.Parts.{Place}
 use Rattle.weak_intern.proofs.Placed.{GrowsBy, grow_then, lift_grows}
 use Rattle.directory_law.specs.declared.view.Rope.{Rope}

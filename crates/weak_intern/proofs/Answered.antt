@@ -1,5 +1,5 @@
 -- What a walk came to, of the bytes of its text.
-use Rattle.std.proofs.Common.{◌≡◌, List, [], ◌∷◌, ℕ, subst}
+use Rattle.std.proofs.Common.{◌≡◌, List, ℕ, subst}
 use Rattle.plain_state.specs.declared.slot.SlotId.{SlotId}
 use Rattle.acquire_retire.specs.Domains.{DomainState}
 use Rattle.acquire_retire.specs.Seats.{SeatState}

@@ -1,14 +1,19 @@
 -- How far a payload was compared, word by word.
-use Rattle.std.proofs.Common.{◌≡◌, ◌≢◌, ℕ, ◌+◌, ◌<◌, List, length, refl, sym, ap, subst, ◌∙◌, arith, ⊎_elim}
+use Rattle.std.proofs.Common.{◌≡◌, ◌≢◌, ℕ, ◌+◌, ◌<◌, ◌≤◌, List, [], ◌∷◌, ◌++◌, length, refl, sym, ap, subst, ◌∙◌, append_assoc, arith, ⊎_elim}
 use Rattle.std.specs.Prelude.{slice_index}
-use Rattle.std.proofs.lemmas.List.{get_or_default, same_lists}
+use Rattle.std.proofs.lemmas.List.{append-nil, get_or_default, same_lists}
 use Rattle.std.proofs.lemmas.Bool.{cases_lt}
-use Rattle.plain_protocol.specs.Owns.{Object}
+use Rattle.plain_protocol.specs.Owns.{HasSlot, Object}
+use Rattle.core_events.specs.declared.act.Act.TheVariants as act
+use Rattle.core_events.specs.declared.outcome.Outcome.TheVariants as outcome
 use Rattle.core_events.specs.declared.view.CoreView.{CoreView}
+use Rattle.core_events.specs.declared.view.Move.{Move}
 use Rattle.plain_state.specs.declared.slot.SlotId.{SlotId}
+use Rattle.core_events.specs.Shows.{show_seat}
 use Rattle.core_events.specs.Steps.{HasRoom}
 use Rattle.core_events.specs.Views.{Holds}
 use Rattle.domain_rule.specs.Views.{object_in}
+use Rattle.acquire_retire.specs.Collecting.{move}
 use Rattle.acquire_retire.specs.Domains.{DomainState}
 use Rattle.acquire_retire.specs.Seats.{SeatState}
 use Rattle.control_word.specs.Moves.{KnowsStill}
@@ -16,9 +21,23 @@ use Rattle.control_word.specs.Resting.{IsAtRest}
 use Rattle.protected_loads.proofs.Telling.{holds_has}
 use Rattle.slot_store.specs.Calls.{SeesWord}
 use Rattle.directory_calls.specs.Steps.{Leaves}
-use Rattle.directory_calls.proofs.Going.{leaves_as, leaves_core, leaves_none, leaves_then}
+use Rattle.directory_calls.proofs.Going.{leaves_core}
+use Rattle.weak_intern.specs.Sighting.{Compares, compared_by}
 
--- the first n words of the slot's payload are these
+-- n words of the payload of s were read, and nothing else was done
+pub record HasRead {P V : Type 0} (d : DomainState P) (s : SlotId) (n : ℕ) (old now : SeatState V)
+    : Type 0 where
+  pub read : List ℕ
+  pub as_many : length read ≡ n
+  pub core :
+      now.view.core
+      ≡ record old.view.core { trail = old.view.core.trail ++ compared_by s read }
+  pub client : now.view.client ≡ old.view.client
+  pub knows : KnowsStill old.view.core old now
+  pub room : HasRoom now.view.core
+  pub rest : IsAtRest d now
+
+-- and they are the first n words of this payload
 pub record Same {P V : Type 0} (d : DomainState P) (s : SlotId) (n : ℕ) (payload : List ℕ)
     (old now : SeatState V) : Type 0 where
   pub size : 0 < n → length (object_in old.view s).payload ≡ 16
@@ -26,13 +45,23 @@ pub record Same {P V : Type 0} (d : DomainState P) (s : SlotId) (n : ℕ) (paylo
   pub words :
       (k : ℕ) → k < n
       → slice_index (object_in old.view s).payload k ≡ slice_index payload k
-  pub leaves : Leaves old.view.core.owned old.view.core.weaks old now
-  pub client : now.view.client ≡ old.view.client
-  pub holds : (x : SlotId) → Holds old.view.core x → Holds now.view.core x
-  pub object : object_in now.view s ≡ object_in old.view s
-  pub makes : now.view.core.makes ≡ old.view.core.makes
-  pub room : HasRoom now.view.core
-  pub rest : IsAtRest d now
+  pub so_far : HasRead d s n old now
+
+-- what the words that were read leave of the seat
+module _ {P V : Type 0} (d : DomainState P) (s : SlotId) (n : ℕ) (old now : SeatState V)
+    (has : HasRead d s n old now) where
+  pub read_leaves : Leaves old.view.core.owned old.view.core.weaks old now
+  read_leaves = leaves_core old now old.view.core _ has.core refl has.knows
+
+  pub read_makes : now.view.core.makes ≡ old.view.core.makes
+  read_makes = ap (λ (v : CoreView). v.makes) has.core
+
+  pub read_compares : n ≤ 16 → Compares s old.view.core now.view.core
+  read_compares few = record {
+    words = has.read;
+    few = omega (arith, has.as_many, few);
+    core = has.core;
+  }
 
 module _ {P V : Type 0} (fits : List ℕ → Type 0) (d : DomainState P) (s : SlotId)
     (payload : List ℕ) (old : SeatState V) where
@@ -42,13 +71,16 @@ module _ {P V : Type 0} (fits : List ℕ → Type 0) (d : DomainState P) (s : Sl
     payload_size = long;
     size = λ low. absurd (omega (arith, low));
     words = λ k low. absurd (omega (arith, low));
-    leaves = leaves_none old;
-    client = refl;
-    holds = λ x held. held;
-    object = refl;
-    makes = refl;
-    room = room;
-    rest = rest;
+    so_far = record {
+      read = [];
+      as_many = refl;
+      core = ap (λ (t : List Move). record old.view.core { trail = t })
+          (sym (append-nil old.view.core.trail));
+      client = refl;
+      knows = λ x has. refl;
+      room = room;
+      rest = rest;
+    };
   }
 
   module _ (n word : ℕ) (now new : SeatState V) (same : Same d s n payload old now)
@@ -59,8 +91,15 @@ module _ {P V : Type 0} (fits : List ℕ → Type 0) (d : DomainState P) (s : Sl
       (knows : KnowsStill now.view.core now new)
       (room : HasRoom now.view.core → HasRoom new.view.core)
       (rest : IsAtRest d new) where
-    here : object_in new.view s ≡ object_in now.view s
-    here = knows s (holds_has now.view.core s (same.holds s held))
+    abbrev so_far : HasRead d s n old now
+    so_far = same.so_far
+
+    has_now : (x : SlotId) → HasSlot (show_seat old.view.core) x
+        → HasSlot (show_seat now.view.core) x
+    has_now x has = subst (λ (v : CoreView). HasSlot (show_seat v) x) (sym so_far.core) has
+
+    has_old : HasSlot (show_seat old.view.core) s
+    has_old = holds_has old.view.core s held
 
     long : length (object_in old.view s).payload ≡ 16
     long =
@@ -68,29 +107,32 @@ module _ {P V : Type 0} (fits : List ℕ → Type 0) (d : DomainState P) (s : Sl
         let e : length (object_in new.view s).payload ≡ 16 =
         ap (λ (x : SeatState V). length (object_in x.view s).payload) seen.becomes.walks.2
         ∙ step.told.payloads s in
-        subst (λ (o : Object). length o.payload ≡ 16) (here ∙ same.object) e
+        subst (λ (o : Object). length o.payload ≡ 16)
+        (knows s (has_now s has_old) ∙ so_far.knows s has_old) e
 
-    pub one_read : Same d s n payload old new
+    abbrev see_word : ℕ → List Move
+    see_word k = move (act.See s k) (outcome.Word word) ∷ []
+
+    pub one_read : HasRead d s (n + 1) old new
     one_read = record {
-      size = λ low. long;
-      words = same.words;
-      leaves = leaves_as old.view.core.owned old.view.core.weaks old new
-          (leaves_then old now new same.leaves
-          (leaves_core now new now.view.core _ seen.becomes.core refl knows)
-          (λ x was is. same.holds x was))
-          same.leaves.owns same.leaves.weakly;
-      payload_size = same.payload_size;
-      client = client ∙ same.client;
-      holds = λ x was. subst (λ (v : CoreView). Holds v x) (sym seen.becomes.core)
-          (same.holds x was);
-      object = here ∙ same.object;
-      makes = ap (λ (v : CoreView). v.makes) seen.becomes.core ∙ same.makes;
-      room = room same.room;
+      read = word ∷ so_far.read;
+      as_many = omega (arith, so_far.as_many);
+      core =
+          seen.becomes.core
+          ∙ (ap (λ (v : CoreView). record v { trail = v.trail ++ see_word n }) so_far.core
+          ∙ ap (λ (t : List Move). record old.view.core { trail = t })
+          (append_assoc old.view.core.trail (compared_by s so_far.read) (see_word n)
+          ∙ ap (λ (k : ℕ). old.view.core.trail ++ (compared_by s so_far.read ++ see_word k))
+          (sym so_far.as_many)));
+      client = client ∙ so_far.client;
+      knows = λ x has. knows x (has_now x has) ∙ so_far.knows x has;
+      room = room so_far.room;
       rest = rest;
     }
 
     found_here : word ≡ slice_index (object_in old.view s).payload n
-    found_here = read ∙ ap (λ (o : Object). slice_index o.payload n) same.object
+    found_here = read
+        ∙ ap (λ (o : Object). slice_index o.payload n) (so_far.knows s has_old)
 
     pub one_same : word ≡ slice_index payload n → Same d s (n + 1) payload old new
     one_same is = record {
@@ -102,13 +144,7 @@ module _ {P V : Type 0} (fits : List ℕ → Type 0) (d : DomainState P) (s : Sl
           (sym e) (sym found_here ∙ is))
           (cases_lt k n);
       payload_size = same.payload_size;
-      leaves = one_read.leaves;
-      client = one_read.client;
-      holds = one_read.holds;
-      object = one_read.object;
-      makes = one_read.makes;
-      room = one_read.room;
-      rest = one_read.rest;
+      so_far = one_read;
     }
 
     pub one_differs : word ≢ slice_index payload n → (object_in old.view s).payload ≢ payload

@@ -1,8 +1,7 @@
 -- What a step on the word of tickets with the deed DrawTicket asks, and what it leaves.
-use Rattle.std.proofs.Common.{◌≡◌, ℕ, ◌+◌, List, [], ◌∷◌, ◌++◌, refl, ap, sym, ◌∙◌, subst}
+use Rattle.std.proofs.Common.{◌≡◌, ℕ, ◌+◌, List, [], ◌∷◌, ◌++◌, refl, sym, subst}
 use Rattle.plain_state.specs.declared.act.PlainAct.{PlainAct}
 use Rattle.plain_state.specs.declared.act.PlainAct.TheVariants as plain
-use Rattle.plain_state.specs.declared.slot.SlotId.{SlotId}
 use Rattle.plain_protocol.specs.Owns.{OwnPart}
 use Rattle.protocol_pairs.specs.Parts.{Accepts}
 use Rattle.core_events.specs.declared.act.Act.TheVariants as act

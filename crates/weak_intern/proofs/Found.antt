@@ -1,5 +1,5 @@
 -- A walk for a text, cell by cell, and where it ends.
-use Rattle.std.proofs.Common.{◌≡◌, inr, ⊎_elim, ℕ, ◌++◌, false, true, ◌+◌, ◌%◌, ◌<◌, List, [], ◌∷◌, refl, sym, ap, subst, ◌∙◌, arith, Some, None}
+use Rattle.std.proofs.Common.{◌≡◌, inr, ⊎_elim, ℕ, ◌++◌, ◌+◌, ◌%◌, ◌<◌, List, [], ◌∷◌, refl, sym, ap, subst, ◌∙◌, arith, Some, None}
 use Rattle.std.specs.Prelude.{Bool, Err, Option, Result, ◌≤◌}
 use Rattle.std.proofs.lemmas.Bool.{cases_lt}
 use Rattle.plain_state.specs.declared.act.EventPlace.TheVariants.{WeakCell}
@@ -13,7 +13,7 @@ use Rattle.core_law.proofs.Kit.{times_push}
 use Rattle.acquire_retire.specs.Calls.{Steps}
 use Rattle.acquire_retire.specs.Domains.{DomainState}
 use Rattle.acquire_retire.specs.Seats.{SeatState}
-use Rattle.control_word.specs.Resting.{IsAtRest, IsSpent}
+use Rattle.control_word.specs.Resting.{IsAtRest}
 use Rattle.control_word.proofs.Becoming.{knows_after, one_step, rest_after}
 use Rattle.counted_handles.specs.Handles.{Handle}
 use Rattle.directory_law.specs.declared.view.View.{View}
@@ -30,10 +30,12 @@ use Rattle.directory_calls.specs.Learning.{LearnsIn}
 use Rattle.directory_calls.specs.Steps.{AtStep, Leaves, with_found}
 use Rattle.weak_intern.specs.declared.walking.Walk.{Walk}
 use Rattle.weak_intern.specs.declared.walking.Walk.TheVariants as walk
-use Rattle.weak_intern.specs.Walking.{ComesTo, EndsAround, Meets, met, taken, used_by, walked_by}
+use Rattle.weak_intern.specs.Costs.{PassesBy, TakesBy}
+use Rattle.weak_intern.specs.Walking.{ComesTo, EndsAround, FoundBy, Meets, met, taken, used_by, walked_by}
 use Rattle.directory_calls.proofs.Going.{at_step, from_earlier, holds_by, leaves_as, leaves_core, leaves_none, leaves_then, seat_same}
 use Rattle.directory_calls.proofs.Learnt.{passes_still, walked_still}
 use Rattle.directory_calls.proofs.Parts.{LearnsBy, Place, lifts, part_none, tells, zero_then}
+use Rattle.weak_intern.proofs.Costs.{passes_either, passes_none}
 
 -- A LAST LOOK
 module _ {P V : Type 0} (fits : List ℕ → Type 0) (d : DomainState P) (l : Place V) (z : Area)
@@ -72,20 +74,19 @@ module _ {P V : Type 0} (fits : List ℕ → Type 0) (d : DomainState P) (l : Pl
 
 -- THE WALK has passed n cells
 pub record Walks {P V : Type 0} (d : DomainState P) (seen : V → View) (with_seen : V → View → V)
-    (z : Area) (text : Text) (n : ℕ) (old now : SeatState V) : Type 0 where
+    (z : Area) (text : Text) (short : Type 0) (n : ℕ) (old now : SeatState V) : Type 0 where
   pub walked : Walked z (seen now.view.client) text n
   pub leaves : Leaves old.view.core.owned old.view.core.weaks old now
   pub learns : LearnsIn seen with_seen 0 old.view.client now.view.client
   pub room : HasRoom now.view.core
   pub rest : IsAtRest d now
   pub makes : now.view.core.makes ≡ old.view.core.makes
-  pub begins : n ≡ 0 → now ≡ old
-  pub able : 0 < n → IsSpent old.view.core → ⊥
+  pub costs : short → PassesBy old.view.core now.view.core
 
 module _ {P V : Type 0} (d : DomainState P) (l : Place V) (z : Area) (text : Text)
-    (a : SeatState V) where
+    (short : Type 0) (a : SeatState V) where
   pub walks_none : IsAtRest d a → HasRoom a.view.core
-      → Walks d l.seen l.with_seen z text 0 a a
+      → Walks d l.seen l.with_seen z text short 0 a a
   walks_none rest room = record {
     walked = λ j low. absurd (omega (arith, low));
     leaves = leaves_none a;
@@ -93,11 +94,10 @@ module _ {P V : Type 0} (d : DomainState P) (l : Place V) (z : Area) (text : Tex
     room = room;
     rest = rest;
     makes = refl;
-    begins = λ is. refl;
-    able = λ some. absurd (omega (arith, some));
+    costs = λ is. passes_none a.view.core;
   }
 
-  module _ (n : ℕ) (b c : SeatState V) (walks : Walks d l.seen l.with_seen z text n a b) where
+  module _ (n : ℕ) (b c : SeatState V) (walks : Walks d l.seen l.with_seen z text short n a b) where
     pub walk_leaves : (o : Option SlotId)
         → Leaves (with_found o b.view.core.owned) b.view.core.weaks b c
         → Leaves (with_found o a.view.core.owned) a.view.core.weaks a c
@@ -123,21 +123,15 @@ module _ {P V : Type 0} (d : DomainState P) (l : Place V) (z : Area) (text : Tex
     walk_learns k more =
         zero_then l k a.view.client b.view.client c.view.client walks.learns more
 
-    -- a seat that can't count any more is refused at the first cell
-    pub walk_able : (IsSpent b.view.core → ⊥) → IsSpent a.view.core → ⊥
-    walk_able here spent = ⊎_elim
-        (λ (some : 0 < n). walks.able some spent)
-        (λ none. here (subst (λ (x : SeatState V). IsSpent x.view.core)
-        (sym (walks.begins (omega (arith, none)))) spent))
-        (cases_lt 0 n)
-
     pub one_passed : (cell : ℕ) → on z text n ≡ cell
         → Passes (l.seen c.view.client) text cell
         → Leaves b.view.core.owned b.view.core.weaks b c
         → LearnsBy l 0 b.view.client c.view.client
-        → (IsSpent b.view.core → ⊥) → HasRoom c.view.core → IsAtRest d c
-        → c.view.core.makes ≡ b.view.core.makes → Walks d l.seen l.with_seen z text (n + 1) a c
-    one_passed cell at passes second more here room rest makes = record {
+        → HasRoom c.view.core → IsAtRest d c
+        → c.view.core.makes ≡ b.view.core.makes
+        → (short → PassesBy a.view.core c.view.core)
+        → Walks d l.seen l.with_seen z text short (n + 1) a c
+    one_passed cell at passes second more room rest makes costs = record {
       walked = λ j low. ⊎_elim
           (λ less. passes_still 0 (l.seen b.view.client) (l.seen c.view.client) text
           (on z text j) more.part (walks.walked j less))
@@ -150,8 +144,7 @@ module _ {P V : Type 0} (d : DomainState P) (l : Place V) (z : Area) (text : Tex
       room = room;
       rest = rest;
       makes = makes ∙ walks.makes;
-      begins = λ is. absurd (omega (arith, is));
-      able = λ some spent. walk_able here spent;
+      costs = costs;
     }
 
     -- WHERE IT ENDS
@@ -224,19 +217,36 @@ module _ {P V : Type 0} (d : DomainState P) (l : Place V) (z : Area) (text : Tex
         (subst (λ f. Leaves (with_found (met f) b.view.core.owned) b.view.core.weaks b c) same
         second)
 
-    pub other_passed : (intern : Bool) (cell : ℕ) (found : Sight) → found ≡ sight.Other
+    pub other_passed : (intern : Bool) (cell : ℕ) (found : Sight)
+        → found ≡ sight.Other
         → on z text n ≡ cell → Meets l.seen d z cell text found b c
         → Leaves (with_found (met found) b.view.core.owned) b.view.core.weaks b c
         → LearnsBy l (taken intern found) b.view.client c.view.client
-        → (IsSpent b.view.core → false ≡ true) → HasRoom c.view.core → IsAtRest d c
-        → c.view.core.makes ≡ b.view.core.makes
-        → Walks d l.seen l.with_seen z text (n + 1) a c
-    other_passed intern cell found other at meets second more here room rest makes =
+        → HasRoom c.view.core → IsAtRest d c
+        → c.view.core.makes ≡ b.view.core.makes → (i : ℕ)
+        → (short → FoundBy i found b.view.core c.view.core)
+        → Walks d l.seen l.with_seen z text short (n + 1) a c
+    other_passed intern cell found other at meets second more room rest makes i looks =
         one_passed cell at (subst (λ f. Meets l.seen d z cell text f b c) other meets)
         (subst (λ f. Leaves (with_found (met f) b.view.core.owned) b.view.core.weaks b c) other
         second)
         (subst (λ f. LearnsBy l (taken intern f) b.view.client c.view.client) other more)
-        (λ spent'. let e = here spent' in absurd (cc (e))) room rest makes
+        room rest makes
+        (λ is. let by = subst (λ f. FoundBy i f b.view.core c.view.core) other
+        (looks is) in
+        passes_either a.view.core b.view.core c.view.core i by.0 (walks.costs is) by.1)
+
+    -- what the record cost
+    pub record_costs : (i : ℕ) (found : Sight) (strong : Handle)
+        → found ≡ sight.Record strong
+        → (short → FoundBy i found b.view.core c.view.core)
+        → short → TakesBy strong.slot a.view.core c.view.core
+    record_costs i found strong same looks is = (
+      b.view.core,
+      walks.costs is,
+      i,
+      subst (λ f. FoundBy i f b.view.core c.view.core) same (looks is),
+    )
 
     -- the walk has passed all cells
     pub around_found : z.cells ≤ n → 0 < z.cells → EndsAround l.seen d z b c

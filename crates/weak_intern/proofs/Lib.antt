@@ -1,8 +1,14 @@
+pub mod Tries
 pub mod Seen
+pub mod LetGo
 pub mod Raised
+pub mod Letting
 pub mod Compared
 pub mod Heads
 pub mod Meeting
+pub mod Moves
+pub mod Looked
+pub mod Costs
 pub mod Found
 pub mod Answered
 pub mod Bound

@@ -1,8 +1,7 @@
 -- What an upgrade with the deed UpgradeHead asks, and what it leaves of a seat.
-use Rattle.std.proofs.Common.{◌≡◌, inl, inr, ℕ, ◌+◌, ◌<◌, ◌≤◌, Bool, true, false, [], ◌∷◌, ◌++◌, List, refl, sym, ap, subst, ◌∙◌, arith, Some, None}
-use Rattle.std.specs.Prelude.{Err, IfOk, Ok, Result, ◌==◌, if◌then◌else◌, nat_lt}
+use Rattle.std.proofs.Common.{◌≡◌, inl, inr, ℕ, ◌+◌, Bool, true, false, [], ◌∷◌, List, refl, sym, ap, subst, ◌∙◌, arith, Some, None}
+use Rattle.std.specs.Prelude.{◌==◌, if◌then◌else◌, nat_lt}
 use Rattle.plain_state.specs.declared.slot.SlotId.{SlotId}
-use Rattle.plain_state.specs.Lists.{times}
 use Rattle.plain_state.specs.declared.act.PlainAct.{PlainAct}
 use Rattle.plain_state.specs.declared.act.PlainAct.TheVariants as plain
 use Rattle.plain_state.specs.State.{Plain}
@@ -11,7 +10,6 @@ use Rattle.plain_protocol.specs.Owns.{HasSlot, Object, OwnPart}
 use Rattle.protocol_pairs.specs.Parts.{Accepts, Frees}
 use Rattle.core_events.specs.declared.act.Act.TheVariants as act
 use Rattle.core_events.specs.declared.outcome.Outcome.TheVariants as outcome
-use Rattle.core_events.specs.declared.view.CoreView.{CoreView}
 use Rattle.core_events.specs.Runs.{after}
 use Rattle.core_events.specs.Shows.{show_seat, shows}
 use Rattle.counter_word.specs.Words.{ZERO}
@@ -19,18 +17,14 @@ use Rattle.domain_rule.specs.Views.{object_in, own_of}
 use Rattle.acquire_retire.specs.Calls.{IsReady}
 use Rattle.acquire_retire.specs.Domains.{DomainState}
 use Rattle.acquire_retire.specs.Seats.{SeatState}
-use Rattle.control_word.specs.declared.upgrading.UpgradeError.{UpgradeError}
-use Rattle.control_word.specs.declared.upgrading.UpgradeError.TheVariants as no_raise
-use Rattle.counted_handles.specs.Handles.{Handle}
-use Rattle.control_word.specs.Calls.{DropsWeak, FindsEnded, GainsStrong, with_add, with_strong, without_weak}
-use Rattle.core_events.specs.Views.{without}
-use Rattle.core_law.proofs.Kit.{times_push}
+use Rattle.control_word.specs.Calls.{FindsEnded, GainsStrong}
 use Rattle.control_word.specs.Moves.{KnowsStill}
+use Rattle.core_events.specs.Views.{Holds}
 use Rattle.protected_loads.proofs.Telling.{holds_has}
 use Rattle.directory_law.specs.declared.view.View.{View}
 use Rattle.directory_law.specs.Cells.{Area}
 use Rattle.directory_law.specs.Views.{In, note}
-use Rattle.directory_law.specs.Payloads.{IsText, Text}
+use Rattle.directory_law.specs.Payloads.{IsText}
 use Rattle.directory_law.specs.Law.{IsBound}
 use Rattle.directory_law.specs.Lessons.{UpgradeReady, UpgradeTells, spent, starts_at, upgrade_next}
 use Rattle.directory_law.specs.Steps.{life_in, life_of, payload_in, payload_of, slot_in}
@@ -38,10 +32,9 @@ use Rattle.directory_protocol.specs.Keeping.{KeepsAll, MindsNone}
 use Rattle.directory_calls.specs.Directories.{CanCount}
 use Rattle.text_reading.specs.Reading.{HasBegun}
 use Rattle.weak_intern.specs.Seeing.{BeginsText, HasSeenIn}
-use Rattle.directory_calls.specs.Steps.{AtStep, GoesOn, Leaves, handle_by, with_found}
-use Rattle.weak_intern.specs.Walking.{raised_by}
-use Rattle.directory_calls.proofs.Going.{also, at_step, holds_by, leaves_as, leaves_core, leaves_less, leaves_none, leaves_then, to_later}
-use Rattle.directory_calls.proofs.Parts.{LearnsBy, Place, lift_learns, lift_ready, lifts, part_none, tells}
+use Rattle.directory_calls.specs.Steps.{AtStep}
+use Rattle.directory_calls.proofs.Going.{at_step}
+use Rattle.directory_calls.proofs.Parts.{LearnsBy, Place, lift_learns, lift_ready, lifts, tells}
 
 counts : (w : ℕ) → outcome.Up ≡ (if nat_lt w ZERO then outcome.Up else outcome.Dead)
     → ((if nat_lt w ZERO then 0 else 1) == 0) ≡ true
@@ -74,9 +67,9 @@ upgrade_keeps : (intern : Bool) (own after : OwnPart) (v : View) (a : PlainAct) 
 upgrade_keeps intern own after v a w = upgrade_learns_if (w == 0) intern own (slot_in a) v
 
 module _ {P V : Type 0} (fits : List ℕ → Type 0) (d : DomainState P) (l : Place V) (z : Area)
-    (intern : Bool) (s : SlotId) (old : SeatState V) (owns : 0 < times s old.view.core.weaks) where
+    (intern : Bool) (s : SlotId) (old : SeatState V) (held : Holds old.view.core s) where
   has : HasSlot (show_seat old.view.core) s
-  has = holds_has old.view.core s (omega arith)
+  has = holds_has old.view.core s held
 
   life : life_in (own_of old.view) s ≡ (object_in old.view s).life
   life = ap (λ b. life_of (if b then Some (object_in old.view s) else None)) has
@@ -164,6 +157,36 @@ module _ {P V : Type 0} (fits : List ℕ → Type 0) (d : DomainState P) (l : Pl
             subst (λ h. IsBound z p (h ∷ is.0) s) same is.2,
           ))
 
+      pub live_begun : KnowsStill old.view.core old new → HasBegun l.seen s new
+      live_begun knows =
+          let known = sym (knows s has) in (
+            (l.seen old.view.client).ran,
+            ap (λ (x : SeatState V). (l.seen x.view.client).ran) gains.walks.2
+                ∙ ap (λ (c : V). (l.seen c).ran) client_late
+                ∙ ap (λ (v : View). v.ran) (l.reads old.view.client counted)
+                ∙ starts_as (object_in new.view s)
+                (life ∙ ap (λ (o : Object). o.life) known)
+                (payload ∙ ap (λ (o : Object). o.payload) known),
+          )
+        where
+          starts_as : (o : Object) → life_in (own_of old.view) s ≡ o.life
+              → payload_in (own_of old.view) s ≡ o.payload
+              → starts_at (own_of old.view) s ∷ (l.seen old.view.client).ran
+              ≡ record {
+                slot = s;
+                life = o.life;
+                before = o.payload ∷ [];
+                now = s;
+                now_life = o.life;
+              } ∷ (l.seen old.view.client).ran
+          starts_as o lives words = λ i. record {
+            slot = s;
+            life = lives i;
+            before = words i ∷ [];
+            now = s;
+            now_life = lives i;
+          } ∷ (l.seen old.view.client).ran
+
       pub live_learns : LearnsBy l (spent intern) old.view.client new.view.client
       live_learns =
           subst (λ v. LearnsBy l (spent intern) old.view.client v)
@@ -205,153 +228,3 @@ module _ {P V : Type 0} (fits : List ℕ → Type 0) (d : DomainState P) (l : Pl
             used = omega arith;
             notes = (refl, refl);
           }))
-
-  -- whatever the upgrade answered, and after the weak reference was given up
-  module _ (new mid : SeatState V) (r : Result Handle UpgradeError)
-      (upgraded : IfOk r (λ strong. (strong.slot ≡ s) × GainsStrong fits d next allows s old mid))
-      (knows : KnowsStill old.view.core old mid)
-      (drops : DropsWeak fits d s mid new)
-      (still : KnowsStill (without_weak s mid.view.core) mid new)
-      (client : new.view.client ≡ mid.view.client) where
-    goes : GoesOn mid.view.core new.view.core
-    goes = (_, ap (λ (v : CoreView). v.trail) drops.1.core)
-
-    pub raised_live : IfOk r (λ strong. 0 < times strong.slot mid.view.core.owned)
-        → IfOk r (λ strong. AtStep d (BeginsText z s new) old new)
-    raised_live owned = go r upgraded owned
-      where
-        go : (o : Result Handle UpgradeError)
-            → IfOk o (λ strong. (strong.slot ≡ s) × GainsStrong fits d next allows s old mid)
-            → IfOk o (λ strong. 0 < times strong.slot mid.view.core.owned)
-            → IfOk o (λ strong. AtStep d (BeginsText z s new) old new)
-        go (Err e) u own = tt
-        go (Ok h) u own =
-            let mine = subst (λ x. 0 < times x mid.view.core.owned) u.0 own in
-            let same = still s (holds_has (without_weak s mid.view.core) s (omega arith)) in
-            to_later d (BeginsText z s new) old mid new
-            (also d (BeginsText z s mid) (BeginsText z s new) old mid
-            (λ p is. subst (λ (x : Object). (tail : Text) × IsText (x.payload ∷ tail)
-            × IsBound z p (x.payload ∷ tail) s) (sym same) is)
-            (live mid u.1 knows)) goes
-
-    pub raised_begun : IfOk r (λ strong. 0 < times strong.slot mid.view.core.owned)
-        → IfOk r (λ strong. HasBegun l.seen s new)
-    raised_begun owned = go r upgraded owned
-      where
-        go : (o : Result Handle UpgradeError)
-            → IfOk o (λ strong. (strong.slot ≡ s) × GainsStrong fits d next allows s old mid)
-            → IfOk o (λ strong. 0 < times strong.slot mid.view.core.owned)
-            → IfOk o (λ strong. HasBegun l.seen s new)
-        go (Err e) u own = tt
-        go (Ok h) u own =
-            let mine = subst (λ x. 0 < times x mid.view.core.owned) u.0 own in
-            let same = still s (holds_has (without_weak s mid.view.core) s (omega arith)) in
-            let now : object_in old.view s ≡ object_in new.view s =
-            sym (knows s has) ∙ sym same in (
-              (l.seen old.view.client).ran,
-              ap (λ (c : V). (l.seen c).ran) client
-                  ∙ ap (λ (x : SeatState V). (l.seen x.view.client).ran) u.1.walks.2
-                  ∙ ap (λ (c : V). (l.seen c).ran) (client_late mid u.1)
-                  ∙ ap (λ (v : View). v.ran) (l.reads old.view.client counted)
-                  ∙ starts_as (object_in new.view s)
-                  (life ∙ ap (λ (o : Object). o.life) now)
-                  (payload ∙ ap (λ (o : Object). o.payload) now),
-            )
-          where
-            starts_as : (o : Object) → life_in (own_of old.view) s ≡ o.life
-                → payload_in (own_of old.view) s ≡ o.payload
-                → starts_at (own_of old.view) s ∷ (l.seen old.view.client).ran
-                ≡ record {
-                  slot = s;
-                  life = o.life;
-                  before = o.payload ∷ [];
-                  now = s;
-                  now_life = o.life;
-                } ∷ (l.seen old.view.client).ran
-            starts_as o lives words = λ i. record {
-              slot = s;
-              life = lives i;
-              before = words i ∷ [];
-              now = s;
-              now_life = lives i;
-            } ∷ (l.seen old.view.client).ran
-
-    pub raised_ended : (r ≡ Err no_raise.Ended → FindsEnded fits d next allows s old mid)
-        → r ≡ Err no_raise.Ended
-        → In (note s (object_in old.view s).life) (l.seen new.view.client).ended
-    raised_ended finds is =
-        subst (λ (c : V). In (note s (object_in old.view s).life) (l.seen c).ended) (sym client)
-        (ended mid (finds is))
-
-    pub raised_learns : (r ≡ Err no_raise.Spent → mid ≡ old)
-        → (r ≡ Err no_raise.Ended → FindsEnded fits d next allows s old mid)
-        → LearnsBy l (raised_by intern r) old.view.client new.view.client
-    raised_learns spent' finds =
-        subst (λ v. LearnsBy l (raised_by intern r) old.view.client v) (sym client)
-        (go r refl upgraded)
-      where
-        go : (o : Result Handle UpgradeError) → r ≡ o
-            → IfOk o (λ strong. (strong.slot ≡ s) × GainsStrong fits d next allows s old mid)
-            → LearnsBy l (raised_by intern o) old.view.client mid.view.client
-        go (Ok h) is u = live_learns mid u.1
-        go (Err no_raise.Spent) is u =
-            subst (λ (x : SeatState V). LearnsBy l 0 old.view.client x.view.client)
-            (sym (spent' is)) (part_none l old.view.client)
-        go (Err no_raise.Ended) is u = ended_learns mid (finds is)
-
-    -- what the seat has afterwards
-    weakly_then : (os : List SlotId) → Leaves os old.view.core.weaks old mid
-        → mid.view.core.weaks ≡ old.view.core.weaks
-        → ((x : SlotId) → times x old.view.core.owned ≤ times x os)
-        → Leaves os (without s old.view.core.weaks) old new
-    weakly_then os first weaks more =
-        leaves_as os (without s old.view.core.weaks) old new
-        (leaves_then old mid new first
-        (leaves_less mid new (without_weak s mid.view.core) _ drops.1.core refl
-        (λ x is. still x (holds_has (without_weak s mid.view.core) x is)))
-        (λ x was is. let o = first.owns x in let m = first.weakly x in let p = more x in
-        holds_by x old.view.core mid.view.core (sym first.same) (omega arith) was))
-        first.owns
-        (λ x. ap (λ ws. times x (without s ws)) weaks)
-
-    pub raised_leaves : (r ≡ Err no_raise.Spent → mid ≡ old)
-        → (r ≡ Err no_raise.Ended → FindsEnded fits d next allows s old mid)
-        → Leaves (with_found (handle_by r) old.view.core.owned)
-        (without s old.view.core.weaks) old new
-    raised_leaves spent' finds = go r refl upgraded
-      where
-        go : (o : Result Handle UpgradeError) → r ≡ o
-            → IfOk o (λ strong. (strong.slot ≡ s) × GainsStrong fits d next allows s old mid)
-            → Leaves (with_found (handle_by o) old.view.core.owned)
-            (without s old.view.core.weaks) old new
-        go (Ok h) is u =
-            subst (λ x. Leaves (old.view.core.owned ++ x ∷ [])
-            (without s old.view.core.weaks) old new) (sym u.0)
-            (weakly_then (old.view.core.owned ++ s ∷ [])
-            (leaves_core old mid (with_strong s old.view.core) _ u.1.core refl knows)
-            (ap (λ (v : CoreView). v.weaks) u.1.core)
-            (λ x. let p = times_push x s old.view.core.owned in omega arith))
-        go (Err no_raise.Spent) is u =
-            weakly_then old.view.core.owned
-            (subst (λ (x : SeatState V). Leaves old.view.core.owned old.view.core.weaks old x)
-            (sym (spent' is)) (leaves_none old))
-            (ap (λ (x : SeatState V). x.view.core.weaks) (spent' is))
-            (λ x. omega arith)
-        go (Err no_raise.Ended) is u =
-            let e = finds is in
-            weakly_then old.view.core.owned
-            (leaves_core old mid (with_add old.view.core) _ e.becomes.core refl knows)
-            (ap (λ (v : CoreView). v.weaks) e.becomes.core)
-            (λ x. omega arith)
-
-    pub raised_makes : (r ≡ Err no_raise.Spent → mid ≡ old)
-        → (r ≡ Err no_raise.Ended → FindsEnded fits d next allows s old mid)
-        → new.view.core.makes ≡ old.view.core.makes
-    raised_makes spent' finds = ap (λ (v : CoreView). v.makes) drops.1.core ∙ go r refl upgraded
-      where
-        go : (o : Result Handle UpgradeError) → r ≡ o
-            → IfOk o (λ strong. (strong.slot ≡ s) × GainsStrong fits d next allows s old mid)
-            → mid.view.core.makes ≡ old.view.core.makes
-        go (Ok h) is u = ap (λ (v : CoreView). v.makes) u.1.core
-        go (Err no_raise.Spent) is u = ap (λ (x : SeatState V). x.view.core.makes) (spent' is)
-        go (Err no_raise.Ended) is u = ap (λ (v : CoreView). v.makes) (finds is).becomes.core

@@ -4,7 +4,7 @@ use Rattle.std.specs.Prelude.{◌↔◌, Bool, true}
 use Rattle.std.specs.Cmp.{unsigned_Decides}
 use Rattle.std.proofs.lemmas.Slice.Eq.{slice_eq-Decides}
 use Rattle.std.specs.Str.{bytes_eq}
-use Rattle.directory_law.specs.Payloads.{IsHead, IsText, Text, size}
+use Rattle.directory_law.specs.Payloads.{IsHead, IsText, Text}
 use Rattle.directory_law.specs.Bytes.{AreBytes, IsTextOf, text_bytes}
 use Rattle.directory_law.specs.Walks.{NotPrefix}
 use Rattle.directory_law.proofs.Bytes.{one_text, text_tells}

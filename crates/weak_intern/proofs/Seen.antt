@@ -1,35 +1,39 @@
 -- What a load of a cell with the deed SeeHead asks, and what it leaves of a seat.
-use Rattle.std.proofs.Common.{◌≡◌, inl, inr, ℕ, ◌+◌, ◌-◌, ◌<◌, List, [], ◌∷◌, ◌++◌, refl, sym, ap, subst, ◌∙◌, arith, append_assoc, Option, Some, None}
+use Rattle.std.proofs.Common.{◌≡◌, inl, inr, ℕ, suc, ◌+◌, ◌-◌, ◌<◌, List, length, refl, sym, ap, subst, ◌∙◌, arith, Option, Some, None}
 use Rattle.std.specs.Prelude.{if◌then◌else◌}
 use Rattle.plain_state.specs.declared.act.EventPlace.TheVariants.{WeakCell}
 use Rattle.plain_state.specs.declared.act.PlainAct.{PlainAct}
 use Rattle.plain_state.specs.declared.act.PlainAct.TheVariants as plain
+use Rattle.plain_state.specs.declared.slot.Kind.TheVariants.{Weak}
 use Rattle.plain_state.specs.declared.slot.SlotId.{SlotId}
 use Rattle.plain_state.specs.Places.{content}
+use Rattle.plain_state.specs.Steps.{word_of}
 use Rattle.plain_protocol.specs.Acts.{Owned}
-use Rattle.plain_protocol.specs.Owns.{OwnPart}
+use Rattle.plain_protocol.specs.Owns.{HasSlot, OwnPart}
 use Rattle.protocol_pairs.specs.Parts.{Accepts, Frees}
 use Rattle.protocol_pairs.specs.Spared.{IsWithin}
 use Rattle.core_events.specs.declared.act.Act.TheVariants as act
 use Rattle.core_events.specs.declared.outcome.Outcome.TheVariants as outcome
 use Rattle.core_events.specs.declared.view.CoreView.{CoreView}
-use Rattle.core_events.specs.declared.view.Move.{Move}
+use Rattle.core_events.specs.declared.view.Note.TheVariants as stands
 use Rattle.core_events.specs.Runs.{after}
-use Rattle.core_events.specs.Shows.{shows}
-use Rattle.domain_rule.specs.Views.{object_in, own_of}
-use Rattle.acquire_retire.specs.Calls.{IsSameView, same_view}
-use Rattle.acquire_retire.specs.Domains.{DomainState}
-use Rattle.acquire_retire.specs.Seats.{SeatState}
-use Rattle.control_word.specs.Moves.{KnowsStill}
-use Rattle.control_word.specs.Resting.{IsAtRest, IsSettled}
-use Rattle.control_word.proofs.Becoming.{walks_table}
+use Rattle.core_events.specs.Shows.{show_seat, shows}
 use Rattle.core_events.specs.Views.{note_of}
-use Rattle.protected_loads.specs.Retries.{IsReadyToRetry, Loses, Lost, LoadsAtLast, lost_by}
-use Rattle.acquire_retire.specs.Collecting.{move}
-use Rattle.control_word.specs.Calls.{with_weak}
-use Rattle.protected_loads.specs.Loads.{FindsNull, announced_by}
-use Rattle.protected_loads.specs.References.{Refers, loaded_by}
-use Rattle.protected_loads.proofs.Learning.{checked, client_found, client_moved, client_null, has_found, known_found}
+use Rattle.core_events.specs.Words.{slot_in}
+use Rattle.core_law.proofs.ShownPlaces.{word_slot}
+use Rattle.domain_rule.specs.Views.{object_in, own_of}
+use Rattle.acquire_retire.specs.Calls.{Steps}
+use Rattle.acquire_retire.specs.Domains.{DomainState}
+use Rattle.acquire_retire.specs.Notes.{least_free}
+use Rattle.acquire_retire.specs.Seats.{SeatState}
+use Rattle.control_word.specs.Resting.{IsAtRest}
+use Rattle.protected_loads.specs.Loads.{FindsNull, Protects, protected_by, with_snapshot}
+use Rattle.protected_loads.specs.Retries.{AcquiresAtLast, IsReadyToReacquire}
+use Rattle.protected_loads.proofs.Checking.{valid_word}
+use Rattle.protected_loads.proofs.Learning.{client_null}
+use Rattle.protected_loads.proofs.Noting.{written}
+use Rattle.protected_loads.proofs.Protecting.{holds_snapshot}
+use Rattle.protected_loads.proofs.Telling.{four_notes, holds_has}
 use Rattle.directory_law.specs.declared.view.View.{View}
 use Rattle.directory_law.specs.Views.{In}
 use Rattle.directory_law.specs.Cells.{Area, cell, on}
@@ -37,28 +41,29 @@ use Rattle.directory_law.specs.Law.{NoneBound}
 use Rattle.directory_law.specs.Lessons.{SeeReady, SeeTells, see_next, sees}
 use Rattle.directory_law.specs.Steps.{LooksAt}
 use Rattle.directory_protocol.specs.Keeping.{MindsNone}
-use Rattle.weak_intern.specs.Seeing.{EndsAt, HasSeenAt, Sees, seen_in}
-use Rattle.directory_calls.specs.Steps.{AtStep, GoesOn, Leaves, with_found}
-use Rattle.directory_calls.proofs.Going.{at_step, from_earlier, leaves_core}
+use Rattle.weak_intern.specs.declared.seeing.Sighted.{Sighted}
+use Rattle.weak_intern.specs.Seeing.{EndsAt, HasSeenAt, seen_in}
+use Rattle.snapshot_ptr.proofs.Under.{IsFreeWord}
+use Rattle.weak_intern.specs.Sighting.{IsSighted, Sights, SightsBy, seen_by}
+use Rattle.directory_calls.specs.Steps.{AtStep}
+use Rattle.directory_calls.proofs.Going.{at_step, from_earlier}
 use Rattle.directory_calls.proofs.Learnt.{learns_keeps, learns_none, see_learns, sees_learns, walked_still}
-use Rattle.directory_calls.proofs.Parts.{LearnsBy, Place, lift_learns, lift_ready, lifts, part_none, part_then, tells}
-
-abbrev looked : ℕ → List Move
-looked i = move (act.Look (WeakCell i)) (outcome.Found None) ∷ []
+use Rattle.weak_intern.proofs.Tries.{goes_mid, idle_mid, learns_mid, rest_mid, sights_so}
+use Rattle.directory_calls.proofs.Parts.{LearnsBy, Place, lift_learns, lift_ready, lifts, part_then, tells}
 
 module _ {P V : Type 0} (fits : List ℕ → Type 0) (d : DomainState P) (l : Place V) (z : Area)
-    (i c : ℕ) (is : i ≡ z.first + c) (old : SeatState V) where
+    (i c : ℕ) (is : i ≡ z.first + c) (j : ℕ) (old : SeatState V) where
   -- THE DEED is ready
   pub ready : (owned : Owned) (free : OwnPart → PlainAct → Type 0) (suits : V → View → Type 0)
       → Frees owned free → MindsNone suits l.seen → c < z.cells
-      → IsReadyToRetry fits d (WeakCell i) (lifts l (see_next z)) (tells l (SeeTells z))
+      → IsReadyToReacquire fits d (WeakCell i) (lifts l (see_next z)) (tells l (SeeTells z)) j
       (λ own v a. SeeReady z own (l.seen v) a × free own a × Accepts suits (see_next z) l.seen own v a)
       old
   ready owned free suits frees minds inside lost mid loses = record {
     look = λ w. one (own_of mid.view) mid.view.client (plain.Look (WeakCell i))
-        (inl (ap (λ j. plain.Look (WeakCell j)) is)) tt;
+        (inl (ap (λ k. plain.Look (WeakCell k)) is)) tt;
     check = λ s late announces w. one (own_of late.view) late.view.client
-        (plain.Check 0 (WeakCell i)) (inr (0, ap (λ j. plain.Check 0 (WeakCell j)) is)) tt;
+        (plain.Check j (WeakCell i)) (inr (j, ap (λ k. plain.Check j (WeakCell k)) is)) tt;
   }
     where
       one : (own : OwnPart) (v : V) (a : PlainAct) → LooksAt (WeakCell (z.first + c)) a
@@ -70,72 +75,22 @@ module _ {P V : Type 0} (fits : List ℕ → Type 0) (d : DomainState P) (l : Pl
           (λ after w. learns_keeps 0 (l.seen v) (see_next z own after (l.seen v) a w)
           (see_learns z own after (l.seen v) a w))
 
-  -- LOST TRIES
-  lost_learns : (ts : List Lost) (mid : SeatState V)
-      → Loses fits d (WeakCell i) (lifts l (see_next z)) (tells l (SeeTells z)) 0 ts old mid
-      → LearnsBy l 0 old.view.client mid.view.client
-  lost_learns [] mid same =
-      subst (λ (x : SeatState V). LearnsBy l 0 old.view.client x.view.client) (sym same)
-      (part_none l old.view.client)
-  lost_learns (t ∷ ts) new loses =
-      let mid = loses.0 in
-      let m = loses.2 in
-      let own = own_of m.mid.view in
-      let late = own_of m.checks.walks.0.view in
-      let v = m.mid.view.client in
-      let a = plain.Check 0 (WeakCell i) in
-      let w = m.checks.walks.1.word in
-      let more = lift_learns l 0 v (see_next z own late (l.seen v) a w)
-      (see_learns z own late (l.seen v) a w) in
-      part_then l 0 0 old.view.client mid.view.client new.view.client
-      (lost_learns ts mid loses.1)
-      (subst (λ v. LearnsBy l 0 mid.view.client v)
-      (sym (client_moved d (WeakCell i) mid new (Some t.slot) t.now m))
-      (subst (λ u. LearnsBy l 0 u (lifts l (see_next z) own late v a w)) m.announces.client more))
-
-  lost_table : (ts : List Lost) (mid : SeatState V)
-      → Loses fits d (WeakCell i) (lifts l (see_next z)) (tells l (SeeTells z)) 0 ts old mid
-      → mid.table ≡ old.table
-  lost_table [] mid same = ap (λ (x : SeatState V). x.table) same
-  lost_table (t ∷ ts) new loses =
-      let mid = loses.0 in
-      let m = loses.2 in
-      walks_table fits d same_view IsSameView
-      (move (act.Release 0) outcome.Plain ∷ []) m.late new m.releases.walks
-      ∙ walks_table fits d (lifts l (see_next z)) (tells l (SeeTells z))
-      (move (act.Check 0 (WeakCell i)) (outcome.Moved t.now) ∷ []) m.mid m.late m.checks.walks
-      ∙ walks_table fits d same_view IsSameView (announced_by 0 (WeakCell i) m.slot) mid m.mid
-      m.announces.becomes.walks
-      ∙ lost_table ts mid loses.1
-
   -- WHAT IT LEAVES
-  module _ (rest : IsAtRest d old) (new : SeatState V) (found : Option SlotId)
-      (last : LoadsAtLast fits d (WeakCell i) (lifts l (see_next z)) (tells l (SeeTells z))
+  module _ (rest : IsAtRest d old) (word : IsFreeWord j old.view.core) (new : SeatState V)
+      (found : Option SlotId)
+      (last : AcquiresAtLast fits d (WeakCell i) (lifts l (see_next z)) (tells l (SeeTells z)) j
       found old new) where
     abbrev mid : SeatState V
     mid = last.mid
 
-    rest_mid : IsAtRest d mid
-    rest_mid = record {
-      of_domain = (
-        lost_table last.lost mid last.loses ∙ rest.of_domain.0,
-        ap (λ (v : CoreView). v.shape) last.core ∙ rest.of_domain.1,
-      );
-      idle = (
-        ap (λ (v : CoreView). v.phase) last.core ∙ rest.idle.0,
-        ap (λ (v : CoreView). v.left) last.core ∙ rest.idle.1,
-      );
-      owes_nothing = ap (λ (v : CoreView). v.owed) last.core ∙ rest.owes_nothing;
-      first = ap (λ (v : CoreView). note_of v 0) last.core ∙ rest.first;
-      others = λ j. subst IsSettled (sym (ap (λ (v : CoreView). note_of v j) last.core))
-          (rest.others j);
-    }
+    resting : IsAtRest d mid
+    resting = rest_mid fits d l z i j old rest word new found last
 
-    learns_mid : LearnsBy l 0 old.view.client mid.view.client
-    learns_mid = lost_learns last.lost mid last.loses
+    free : note_of mid.view.core j ≡ stands.Idle
+    free = idle_mid fits d l z i j old rest word new found last
 
-    goes_mid : GoesOn old.view.core mid.view.core
-    goes_mid = (_, ap (λ (v : CoreView). v.trail) last.core)
+    learnt : LearnsBy l 0 old.view.client mid.view.client
+    learnt = learns_mid fits d l z i j old rest word new found last
 
     -- the cell was null
     module _ (null : FindsNull fits d (WeakCell i) (lifts l (see_next z))
@@ -151,57 +106,84 @@ module _ {P V : Type 0} (fits : List ℕ → Type 0) (d : DomainState P) (l : Pl
           (l.seen late.view.client) =
           step.told.happened.fact.2 in
           let empty : cell z p (on z text m) ≡ None =
-          ap (λ k. cell z p k) at ∙ ap (λ j. content p (WeakCell j)) (sym is) ∙ null.null in
+          ap (λ k. cell z p k) at ∙ ap (λ k. content p (WeakCell k)) (sym is) ∙ null.null in
           let none : NoneBound z p text =
           told.1 text m
           (walked_still 0 z (l.seen old.view.client) (l.seen mid.view.client) text m
-          learns_mid.part walked)
+          learnt.part walked)
           (inl empty) in
           from_earlier d (λ x. NoneBound z x text) old mid new
-          (ap (λ (v : CoreView). v.seat) last.core) goes_mid
+          (ap (λ (v : CoreView). v.seat) last.core) (goes_mid fits d l z i j old rest word new found last)
           (subst (λ (x : SeatState V). AtStep d (λ y. NoneBound z y text) mid x)
           (sym null.becomes.walks.2)
           (at_step d (λ x. NoneBound z x text) step none))
 
       pub null_learns : LearnsBy l 0 old.view.client new.view.client
       null_learns =
-          part_then l 0 0 old.view.client mid.view.client new.view.client learns_mid
+          part_then l 0 0 old.view.client mid.view.client new.view.client learnt
           (subst (λ v. LearnsBy l 0 mid.view.client v) (sym (client_null d (WeakCell i) mid new null))
           (lift_learns l 0 mid.view.client (l.seen mid.view.client)
           (learns_none (l.seen mid.view.client))))
 
-      pub null_leaves : KnowsStill old.view.core old new
-          → Leaves old.view.core.owned old.view.core.weaks old new
-      null_leaves knows = leaves_core old new old.view.core _
-          (null.becomes.core
-          ∙ ap (λ (v : CoreView). record v { trail = v.trail ++ looked i }) last.core
-          ∙ ap (λ t. record old.view.core { trail = t })
-          (append_assoc old.view.core.trail (lost_by 0 (WeakCell i) last.lost) (looked i)))
-          refl knows
+      pub null_sights : (k : ℕ) × Sights i k None old.view.core new.view.core
+      null_sights = (
+        j,
+        record {
+          lost = last.lost;
+          core = sights_so fits d l z i j old rest word new found last (λ v. v) (seen_by i None)
+              (λ u t. refl) null.becomes.core;
+        },
+      )
 
     -- it held s
-    module _ (s : SlotId) (r : Refers fits d (WeakCell i) (lifts l (see_next z))
+    module _ (s : SlotId) (r : Protects fits d j (WeakCell i) (lifts l (see_next z))
         (tells l (SeeTells z)) s mid new) where
-      abbrev before : V
-      before = r.protects.mid.view.client
+      abbrev it : Sighted
+      it = record { slot = s; word = j }
 
-      abbrev seat_checked : SeatState V
-      seat_checked = checked d (WeakCell i) mid new s rest_mid r
+      abbrev before : V
+      before = r.mid.view.client
+
+      abbrev checked : SeatState V
+      checked = r.checks.walks.0
+
+      step : Steps fits d (lifts l (see_next z)) (tells l (SeeTells z)) (act.Check j (WeakCell i))
+          r.mid checked outcome.Valid
+      step = r.checks.walks.1
+
+      there : j < length mid.view.core.notes
+      there = let four = four_notes r.announces.becomes.walks.1.told in omega (arith, four, word.1)
+
+      valid : slot_in step.word ≡ Some s
+      valid = valid_word d (WeakCell i) j word.1 s mid r.mid resting free r.announces checked
+          step
+
+      suc_word : step.word ≡ suc s.0
+      suc_word = let e : s.0 + 1 ≡ step.word = ap word_of (sym valid) ∙ word_slot step.word in
+          omega (arith, e)
+
+      has_found : HasSlot (show_seat checked.view.core) s
+      has_found = subst (λ (x : SeatState V). HasSlot (show_seat x.view.core) s) r.checks.walks.2
+          (holds_has new.view.core s
+          (holds_snapshot (WeakCell i) j s mid.view.core there free new _ r.core))
 
       number : i - z.first ≡ c
       number = omega (arith, is)
 
       abbrev now_seen : View
-      now_seen = sees (i - z.first) s (Some (object_in seat_checked.view s)) (l.seen before)
+      now_seen = sees (i - z.first) s (Some (object_in checked.view s)) (l.seen before)
 
       client : new.view.client ≡ l.with_seen before now_seen
-      client = client_found d (WeakCell i) mid new s rest_mid r
+      client =
+          ap (λ (x : SeatState V). x.view.client) r.checks.walks.2
+          ∙ (step.told.client
+          ∙ (ap (λ (w : ℕ). lifts l (see_next z) (own_of r.mid.view) (own_of checked.view) before
+          (plain.Check j (WeakCell i)) w) suc_word
           ∙ ap (λ b. l.with_seen before (sees (i - z.first) s
-          (if b then Some (object_in seat_checked.view s) else None) (l.seen before)))
-          (has_found d (WeakCell i) mid new s rest_mid r)
+          (if b then Some (object_in checked.view s) else None) (l.seen before))) has_found))
 
-      known : object_in new.view s ≡ object_in seat_checked.view s
-      known = known_found d (WeakCell i) mid new s rest_mid r
+      known : object_in new.view s ≡ object_in checked.view s
+      known = ap (λ (x : SeatState V). object_in x.view s) r.checks.walks.2
 
       pub found_seen : HasSeenAt l.seen c s new
       found_seen =
@@ -216,56 +198,62 @@ module _ {P V : Type 0} (fits : List ℕ → Type 0) (d : DomainState P) (l : Pl
 
       pub found_learns : LearnsBy l 0 old.view.client new.view.client
       found_learns =
-          part_then l 0 0 old.view.client mid.view.client new.view.client learns_mid
-          (subst (λ v. LearnsBy l 0 v new.view.client) r.protects.announces.client
+          part_then l 0 0 old.view.client mid.view.client new.view.client learnt
+          (subst (λ v. LearnsBy l 0 v new.view.client) r.announces.client
           (subst (λ v. LearnsBy l 0 before v) (sym client)
           (lift_learns l 0 before now_seen
-          (sees_learns (i - z.first) s (Some (object_in seat_checked.view s)) (l.seen before)))))
+          (sees_learns (i - z.first) s (Some (object_in checked.view s)) (l.seen before)))))
 
-      pub found_leaves : KnowsStill old.view.core old new
-          → Leaves old.view.core.owned (old.view.core.weaks ++ s ∷ []) old new
-      found_leaves knows = leaves_core old new (with_weak s old.view.core) _
-          (r.core
-          ∙ ap (λ (v : CoreView).
-          record (with_weak s v) { trail = v.trail ++ loaded_by (WeakCell i) s }) last.core
-          ∙ ap (λ t. record (with_weak s old.view.core) { trail = t })
-          (append_assoc old.view.core.trail (lost_by 0 (WeakCell i) last.lost)
-          (loaded_by (WeakCell i) s)))
-          refl knows
+      pub found_sights : Sights i j (Some it) old.view.core new.view.core
+      found_sights = record {
+        lost = last.lost;
+        core = sights_so fits d l z i j old rest word new found last
+            (λ v. with_snapshot j (WeakCell i) s v) (protected_by j (WeakCell i) s)
+            (λ u t. refl) r.core;
+      }
+
+      pub found_sighted : IsSighted it new.view.core
+      found_sighted = (
+        word.0,
+        word.1,
+        ap (λ (v : CoreView). note_of v j) r.core
+            ∙ written mid.view.core j there (stands.Valid Weak s),
+      )
 
   -- whatever was found
-  pub after_load : (rest : IsAtRest d old) (new : SeatState V) (found here : Option SlotId)
-      → found ≡ here
-      → LoadsAtLast fits d (WeakCell i) (lifts l (see_next z)) (tells l (SeeTells z))
-      found old new
-      → KnowsStill old.view.core old new
-      → Sees l.seen d z c here old new
-      × Leaves old.view.core.owned (with_found here old.view.core.weaks) old new
-      × LearnsBy l 0 old.view.client new.view.client
-      × (new.view.core.makes ≡ old.view.core.makes)
-  after_load rest new found here same loaded knows =
-      go here
-      (subst (λ f. LoadsAtLast fits d (WeakCell i) (lifts l (see_next z))
-      (tells l (SeeTells z)) f old new) same loaded)
-    where
-      go : (o : Option SlotId)
-          → LoadsAtLast fits d (WeakCell i) (lifts l (see_next z)) (tells l (SeeTells z))
-          o old new
-          → Sees l.seen d z c o old new
-          × Leaves old.view.core.owned (with_found o old.view.core.weaks) old new
-          × LearnsBy l 0 old.view.client new.view.client
-          × (new.view.core.makes ≡ old.view.core.makes)
-      go None last = (
-        null_ends rest new None last last.goes,
-        null_leaves rest new None last last.goes knows,
-        null_learns rest new None last last.goes,
-        ap (λ (v : CoreView). v.makes) last.goes.becomes.core
-            ∙ ap (λ (v : CoreView). v.makes) last.core,
-      )
-      go (Some s) last = (
-        found_seen rest new (Some s) last s last.goes,
-        found_leaves rest new (Some s) last s last.goes knows,
-        found_learns rest new (Some s) last s last.goes,
-        ap (λ (v : CoreView). v.makes) last.goes.core
-            ∙ ap (λ (v : CoreView). v.makes) last.core,
-      )
+  module _ (rest : IsAtRest d old) (word : IsFreeWord j old.view.core) where
+    pub after_null : (new : SeatState V) (found : Option SlotId) → found ≡ None
+        → AcquiresAtLast fits d (WeakCell i) (lifts l (see_next z)) (tells l (SeeTells z)) j
+        found old new
+        → EndsAt l.seen d z c old new
+        × SightsBy (z.first + c) None old.view.core new.view.core
+        × LearnsBy l 0 old.view.client new.view.client
+    after_null new found null acquired =
+        let last = subst (λ f. AcquiresAtLast fits d (WeakCell i) (lifts l (see_next z))
+        (tells l (SeeTells z)) j f old new) null acquired in (
+          null_ends rest word new None last last.goes,
+          subst (λ n. SightsBy n None old.view.core new.view.core) is
+              (null_sights rest word new None last last.goes),
+          null_learns rest word new None last last.goes,
+        )
+
+    pub after_found : least_free old.view.core ≡ Some j → (new : SeatState V)
+        (found : Option SlotId) (s : SlotId) → found ≡ Some s
+        → AcquiresAtLast fits d (WeakCell i) (lifts l (see_next z)) (tells l (SeeTells z)) j
+        found old new
+        → HasSeenAt l.seen c s new
+        × SightsBy (z.first + c) (Some (record { slot = s; word = j })) old.view.core
+        new.view.core
+        × LearnsBy l 0 old.view.client new.view.client
+    after_found least new found s same acquired =
+        let last = subst (λ f. AcquiresAtLast fits d (WeakCell i) (lifts l (see_next z))
+        (tells l (SeeTells z)) j f old new) same acquired in (
+          found_seen rest word new (Some s) last s last.goes,
+          (
+            least,
+            found_sighted rest word new (Some s) last s last.goes,
+            subst (λ n. Sights n j (Some (record { slot = s; word = j })) old.view.core
+                new.view.core) is (found_sights rest word new (Some s) last s last.goes),
+          ),
+          found_learns rest word new (Some s) last s last.goes,
+        )

@@ -4,7 +4,6 @@ use Rattle.std.specs.Prelude.{Bool, Option}
 use Rattle.plain_state.specs.declared.slot.SlotId.{SlotId}
 use Rattle.plain_state.specs.Lists.{times}
 use Rattle.plain_protocol.specs.Owns.{Object}
-use Rattle.core_events.specs.Counts.{one}
 use Rattle.core_events.specs.Views.{without}
 use Rattle.core_law.proofs.Kit.{one_same, times_push, times_without}
 use Rattle.domain_rule.specs.Views.{object_in}
@@ -16,7 +15,7 @@ use Rattle.directory_law.specs.Payloads.{Text}
 use Rattle.directory_law.specs.Views.{In}
 use Rattle.directory_calls.specs.Directories.{CanCount}
 use Rattle.directory_calls.specs.Steps.{GoesOn, Leaves, aside, with_found}
-use Rattle.directory_calls.proofs.Going.{from_earlier, holds_by, leaves_as, leaves_then, seat_same}
+use Rattle.directory_calls.proofs.Going.{from_earlier, holds_by, leaves_as, leaves_then}
 use Rattle.directory_calls.proofs.Learnt.{walked_still}
 use Rattle.directory_calls.proofs.Parts.{LearnsBy, Place}
 use Rattle.text_reading.specs.Reading.{HasTwoFree}
@@ -29,6 +28,27 @@ use Rattle.weak_intern.specs.Walking.{Meets, MeetsIn}
 pub free_still : {V : Type 0} (a b : SeatState V) → aside b.view.core ≡ aside a.view.core
     → HasTwoFree a.view.core → HasTwoFree b.view.core
 free_still a b same free = subst (λ v. HasTwoFree v) (sym same) free
+
+-- what was gained after a call that left what was owned
+pub more_leaves : {V : Type 0} (a b c : SeatState V) (o : Option SlotId)
+    → Leaves a.view.core.owned a.view.core.weaks a b
+    → Leaves (with_found o b.view.core.owned) b.view.core.weaks b c
+    → Leaves (with_found o a.view.core.owned) a.view.core.weaks a c
+more_leaves a b c o first second =
+    leaves_as (with_found o a.view.core.owned) a.view.core.weaks a c
+    (leaves_then a b c first second
+    (λ x was is. let p = first.owns x in let m = first.weakly x in
+    holds_by x a.view.core b.view.core (sym first.same) (omega arith) was))
+    (λ x. found_as o x)
+    first.weakly
+  where
+    found_as : (f : Option SlotId) (x : SlotId)
+        → times x (with_found f b.view.core.owned) ≡ times x (with_found f a.view.core.owned)
+    found_as None x = first.owns x
+    found_as (Some y) x =
+        let p = first.owns x in let q = times_push x y a.view.core.owned in
+        let r = times_push x y b.view.core.owned in
+        omega arith
 
 module _ {P V : Type 0} (d : DomainState P) (l : Place V) (z : Area) (a b c : SeatState V)
     (seat : b.view.core.seat ≡ a.view.core.seat) (goes : GoesOn a.view.core b.view.core)
@@ -43,26 +63,12 @@ module _ {P V : Type 0} (d : DomainState P) (l : Place V) (z : Area) (a b c : Se
   meets_from n text (sight.Record strong) meets =
       (from_earlier d (λ p. IsBound z p text strong.slot) a b c seat goes meets.0, meets.1)
 
--- A HEAD w RAISED, of which the seat then owns a reference, s
-module _ {P V : Type 0} (d : DomainState P) (l : Place V) (z : Area) (w s : SlotId) (same : s ≡ w)
-    (a b : SeatState V) (has : 0 < times w a.view.core.weaks)
-    (first : Leaves (a.view.core.owned ++ s ∷ []) (without w a.view.core.weaks) a b)
+-- A HEAD w RAISED to s, or compared, of which the seat then knows what it knew
+module _ {V : Type 0} (l : Place V) (w s : SlotId) (same : s ≡ w)
+    (a b : SeatState V) (known : object_in b.view w ≡ object_in a.view w)
     (learns : LearnsBy l 0 a.view.client b.view.client) where
-  one_as : (x : SlotId) → one x s ≡ one x w
-  one_as x = ap (λ y. one x y) same
-
-  pub raised_owned : 0 < times s b.view.core.owned
-  raised_owned =
-      let o = first.owns s in let p = times_push s s a.view.core.owned in
-      let i = one_same s s refl in
-      omega arith
-
-  owned_w : 0 < times w b.view.core.owned
-  owned_w = subst (λ (x : SlotId). 0 < times x b.view.core.owned) same raised_owned
-
-  known : object_in b.view s ≡ object_in a.view w
-  known = subst (λ (x : SlotId). object_in b.view x ≡ object_in a.view w) (sym same)
-      (first.knows w (omega (arith, has)) (let o = owned_w in omega (arith, o)))
+  known_as : object_in b.view s ≡ object_in a.view w
+  known_as = subst (λ (x : SlotId). object_in b.view x ≡ object_in a.view w) (sym same) known
 
   saw_at : (k : ℕ) → HasSeenAt l.seen k w a → HasSeenAt l.seen k s b
   saw_at k saw =
@@ -71,7 +77,7 @@ module _ {P V : Type 0} (d : DomainState P) (l : Place V) (z : Area) (w s : Slot
         slot = s;
         life = o.life;
         head = o.payload;
-      }) (l.seen b.view.client).seen) (sym known)
+      }) (l.seen b.view.client).seen) (sym known_as)
       (subst (λ (x : SlotId). In (record {
         cell = k;
         slot = x;
@@ -80,49 +86,56 @@ module _ {P V : Type 0} (d : DomainState P) (l : Place V) (z : Area) (w s : Slot
       }) (l.seen b.view.client).seen) (sym same)
       (learns.part.seen (seen_in k w a) saw))
 
-  pub raised_saw : HasSeenIn l.seen w a → HasSeenIn l.seen s b
-  raised_saw saw = (saw.0, saw_at saw.0 saw.1)
+  pub saw_still : HasSeenIn l.seen w a → HasSeenIn l.seen s b
+  saw_still saw = (saw.0, saw_at saw.0 saw.1)
 
-  pub raised_head : (head : List ℕ) → (object_in a.view w).payload ≡ head
+  pub head_still : (head : List ℕ) → (object_in a.view w).payload ≡ head
       → (object_in b.view s).payload ≡ head
-  raised_head head is = ap (λ (o : Object). o.payload) known ∙ is
+  head_still head is = ap (λ (o : Object). o.payload) known_as ∙ is
 
-  pub raised_can : (intern : Bool) → CanCount intern (l.seen a.view.client)
+  pub can_still : (intern : Bool) → CanCount intern (l.seen a.view.client)
       → CanCount intern (l.seen b.view.client)
-  raised_can intern can =
+  can_still intern can =
       let u = learns.part.used in let q = learns.part.quota in omega (arith, u, q, can)
 
-  module _ (c : SeatState V) (found : Sight) where
-    pub whole_leaves : (o : Option SlotId)
-        → Leaves (with_found o (without s b.view.core.owned)) b.view.core.weaks b c
-        → Leaves (with_found o a.view.core.owned) (without w a.view.core.weaks) a c
-    whole_leaves o second =
-        leaves_as (with_found o a.view.core.owned) (without w a.view.core.weaks) a c
-        (leaves_then a b c first second
-        (λ x was is. let p = first.owns x in let m = first.weakly x in
-        let q = times_push x s a.view.core.owned in let i = one_as x in
-        let e = times_without x w a.view.core.weaks has in
-        holds_by x a.view.core b.view.core (sym first.same) (omega arith) was))
-        (λ x. owns_as o x)
-        first.weakly
-      where
-        less : (x : SlotId) → times x (without s b.view.core.owned) ≡ times x a.view.core.owned
-        less x =
-            let p = first.owns x in let q = times_push x s a.view.core.owned in
-            let e = times_without x s b.view.core.owned raised_owned in
-            omega arith
+  pub met_still : {P : Type 0} (d : DomainState P) (z : Area) (c : SeatState V) (text : Text)
+      (found : Sight) → b.view.core.seat ≡ a.view.core.seat → GoesOn a.view.core b.view.core
+      → MeetsIn l.seen d z s text found b c → MeetsIn l.seen d z w text found a c
+  met_still d z c text found seat goes meets = λ k saw.
+      meets_from d l z a b c seat goes learns k text found (meets k (saw_at k saw))
 
-        owns_as : (f : Option SlotId) (x : SlotId)
-            → times x (with_found f (without s b.view.core.owned))
-            ≡ times x (with_found f a.view.core.owned)
-        owns_as None x = less x
-        owns_as (Some y) x =
-            let n = less x in let q = times_push x y a.view.core.owned in
-            let r = times_push x y (without s b.view.core.owned) in
-            omega arith
+-- and the seat owns it more, until it is given up or answered
+module _ {V : Type 0} (s : SlotId) (a b : SeatState V)
+    (first : Leaves (a.view.core.owned ++ s ∷ []) a.view.core.weaks a b) where
+  pub raised_owned : 0 < times s b.view.core.owned
+  raised_owned =
+      let o = first.owns s in let p = times_push s s a.view.core.owned in
+      let i = one_same s s refl in
+      omega arith
 
-    pub whole_met : (text : Text) → MeetsIn l.seen d z s text found b c
-        → MeetsIn l.seen d z w text found a c
-    whole_met text meets = λ k saw.
-        meets_from d l z a b c (seat_same a b first.same) first.goes learns k text found
-        (meets k (saw_at k saw))
+  pub whole_leaves : (c : SeatState V) (o : Option SlotId)
+      → Leaves (with_found o (without s b.view.core.owned)) b.view.core.weaks b c
+      → Leaves (with_found o a.view.core.owned) a.view.core.weaks a c
+  whole_leaves c o second =
+      leaves_as (with_found o a.view.core.owned) a.view.core.weaks a c
+      (leaves_then a b c first second
+      (λ x was is. let p = first.owns x in let m = first.weakly x in
+      let q = times_push x s a.view.core.owned in
+      holds_by x a.view.core b.view.core (sym first.same) (omega arith) was))
+      (λ x. owns_as o x)
+      first.weakly
+    where
+      less : (x : SlotId) → times x (without s b.view.core.owned) ≡ times x a.view.core.owned
+      less x =
+          let p = first.owns x in let q = times_push x s a.view.core.owned in
+          let e = times_without x s b.view.core.owned raised_owned in
+          omega arith
+
+      owns_as : (f : Option SlotId) (x : SlotId)
+          → times x (with_found f (without s b.view.core.owned))
+          ≡ times x (with_found f a.view.core.owned)
+      owns_as None x = less x
+      owns_as (Some y) x =
+          let n = less x in let q = times_push x y a.view.core.owned in
+          let r = times_push x y (without s b.view.core.owned) in
+          omega arith

@@ -1,6 +1,7 @@
 -- What a walk meets, and what a find answers.
-use Rattle.std.specs.Prelude.{Bool, ℕ, ◌<◌, List, Option, Some, None, Result, Ok, Err}
+use Rattle.std.specs.Prelude.{Bool, false, true, ℕ, ◌≡◌, ◌⊎◌, ◌<◌, List, Option, Some, None, Result, Ok, Err}
 use Rattle.plain_state.specs.declared.slot.SlotId.{SlotId}
+use Rattle.core_events.specs.declared.view.CoreView.{CoreView}
 use Rattle.counted_handles.specs.Handles.{Handle}
 use Rattle.acquire_retire.specs.Domains.{DomainState}
 use Rattle.acquire_retire.specs.Seats.{SeatState}
@@ -18,6 +19,9 @@ use Rattle.weak_intern.specs.declared.walking.Walk.TheVariants as walk
 use Rattle.directory_calls.specs.Directories.{HasNoRecord, IsRecord}
 use Rattle.weak_intern.specs.Knowing.{Knows}
 use Rattle.weak_intern.specs.Seeing.{EndsAt, HasSeenAt}
+use Rattle.weak_intern.specs.declared.seeing.Sighted.{Sighted}
+use Rattle.weak_intern.specs.Costs.{TakesBy}
+use Rattle.weak_intern.specs.Sighting.{Ends, Raises, Sights, Visits}
 use Rattle.directory_calls.specs.Steps.{AtStep}
 
 -- the record that a walk met, if it met one
@@ -47,6 +51,32 @@ taken intern (sight.Record strong) = spent intern
 abbrev pub taken_by : {E : Type 0} → Bool → Result Sight E → ℕ
 taken_by intern (Ok found) = taken intern found
 taken_by intern (Err error) = 0
+
+-- THE MOVES, of which a seat met this where it looked for a short text: in weak cell i
+abbrev pub FoundBy : ℕ → Sight → CoreView → CoreView → Type 0
+FoundBy i sight.Null v w = (j : ℕ) × Sights i j None v w
+FoundBy i sight.Other v w =
+    (s : SlotId) × (Visits i s None v w ⊎ Visits i s (Some false) v w)
+FoundBy i (sight.Record strong) v w = Visits i strong.slot (Some true) v w
+
+-- or it was refused, in a head that it let go
+abbrev pub LooksBy : {E : Type 0} → ℕ → Result Sight E → CoreView → CoreView → Type 0
+LooksBy i (Ok found) v w = FoundBy i found v w
+LooksBy i (Err error) v w = (s : SlotId) × Visits i s None v w
+
+-- in a head that it saw
+abbrev pub EndsBy : {E : Type 0} → Sighted → Result Sight E → CoreView → CoreView → Type 0
+EndsBy it (Ok sight.Null) v w = ⊥
+EndsBy it (Ok sight.Other) v w = Ends it None v w ⊎ Ends it (Some false) v w
+EndsBy it (Ok (sight.Record strong)) v w = (strong.slot ≡ it.slot) × Ends it (Some true) v w
+EndsBy it (Err error) v w = Ends it None v w
+
+-- and in one that it had compared
+abbrev pub RaisesBy : {E : Type 0} → Sighted → Result Sight E → CoreView → CoreView → Type 0
+RaisesBy it (Ok sight.Null) v w = ⊥
+RaisesBy it (Ok sight.Other) v w = Raises it (Some false) v w
+RaisesBy it (Ok (sight.Record strong)) v w = (strong.slot ≡ it.slot) × Raises it (Some true) v w
+RaisesBy it (Err error) v w = Raises it None v w
 
 -- of a view, `seen` is what it has of the directory
 module _ {P V : Type 0} (seen : V → View) (d : DomainState P) (z : Area) where
@@ -83,6 +113,11 @@ abbrev pub used_by : {E : Type 0} → Bool → Result Walk E → ℕ
 used_by intern (Ok (walk.Record strong)) = spent intern
 used_by intern (Ok (walk.Absent passed)) = 0
 used_by intern (Err error) = 0
+
+-- what a walk for a short text cost that came to a record
+abbrev pub CostsBy : Walk → CoreView → CoreView → Type 0
+CostsBy (walk.Record strong) v w = TakesBy strong.slot v w
+CostsBy (walk.Absent passed) v w = Unit {0}
 
 -- At a step of the walk its text had this live record; or it had none, and the walk has passed so
 -- many cells, fewer than all.

@@ -2,9 +2,11 @@
 ghost use Rattle.std.specs.Prelude.{◌≡◌, ◌↔◌, length, true};
 ghost use Rattle.core_events.specs.Steps.{HasRoom};
 ghost use Rattle.core_events.specs.Views.{Holds};
+ghost use Rattle.control_word.specs.Moves.{KnowsStill};
 ghost use Rattle.control_word.specs.Resting.{IsAtRest};
 ghost use Rattle.domain_rule.specs.Views.{object_in};
 ghost use Rattle.directory_calls.specs.Steps.{Leaves};
+ghost use Rattle.weak_intern.specs.Sighting.{Compares};
 
 use acquire_retire::{Domain, Seat, SlotId};
 use plain_protocol::Protocol;
@@ -21,6 +23,8 @@ pub fn is_payload<P: Protocol>(
     requires room { HasRoom seat.old.view.core }
     requires holds { Holds seat.old.view.core slot }
     ensures same { (result ≡ true) ↔ ((object_in seat.old.view slot).payload ≡ payload.now) }
+    ensures compares { Compares slot seat.old.view.core seat.new.view.core }
+    ensures objects { KnowsStill seat.old.view.core seat.old seat.new }
     ensures leaves { Leaves seat.old.view.core.owned seat.old.view.core.weaks seat.old seat.new }
     ensures client { seat.new.view.client ≡ seat.old.view.client }
     ensures makes { seat.new.view.core.makes ≡ seat.old.view.core.makes }

@@ -7,6 +7,7 @@ ghost use Rattle.directory_calls.specs.Directories.{HasQuota, IsOver, area_of};
 ghost use Rattle.directory_calls.specs.Learning.{LearnsIn};
 ghost use Rattle.directory_calls.specs.Steps.{Leaves, with_found};
 ghost use Rattle.text_reading.specs.Reading.{HasTwoFree};
+ghost use Rattle.weak_intern.specs.Costs.{TakesBy};
 ghost use Rattle.weak_intern.specs.Knowing.{KnowsRecord};
 ghost use Rattle.weak_intern.specs.Sought.{HasPieces};
 ghost use Rattle.weak_intern.specs.Walking.{Finds, found_by};
@@ -21,10 +22,11 @@ use record_making::{hash_of, head_of};
 use std::sync::Wait;
 
 /// A strong reference to the live record of a text of 1 to 4,096 bytes, or None where it had none
-/// at a step of the call. `Spent` where the seat has no add left that a look at a cell needs. It
-/// looks at each cell at most once, and at one of them a last time: at most five steps for each try
-/// to load, 20 more for each cell, and one; of a long text some 700 more for each cell whose head
-/// is the text's.
+/// at a step of the call. `Spent` where the seat has no add left, and comes to a head that has the
+/// payload of the text's. It looks at each cell at most once, and at one of them a last time: at
+/// most four steps for each try to load, 18 more for each cell, and one; of a long text some 700
+/// more for each cell whose head is the text's. A text of at most 120 bytes is found for one add,
+/// and one more for each record with its payload that had ended.
 pub fn find<R: Wait, S, P: HasDirectory<S>>(
     rt: &R,
     domain: &Domain<P>,
@@ -43,8 +45,9 @@ pub fn find<R: Wait, S, P: HasDirectory<S>>(
         text.now (named found) seat.old seat.new) }
     ensures knows { IfOk result (λ found. IfSome found (λ strong.
         KnowsRecord P.seen text.now strong.slot seat.new)) }
+    ensures takes { length text.now ≤ 120 → IfOk result (λ found. IfSome found (λ strong.
+        TakesBy strong.slot seat.old.view.core seat.new.view.core)) }
     ensures spent { IsErr result → IsSpent seat.new.view.core }
-    ensures refused { IsSpent seat.old.view.core → IsErr result }
     ensures leaves { Leaves (with_found (found_by result) seat.old.view.core.owned)
         seat.old.view.core.weaks seat.old seat.new }
     ensures learns { LearnsIn P.seen P.with_seen 0 seat.old.view.client seat.new.view.client }

@@ -3,12 +3,13 @@
 //!
 //! The rule that it keeps is the law of `directory_law`, by the deeds of `directory_protocol`. The
 //! walk of a text begins at a cell that its bytes tell, and goes on around the end. At each cell a
-//! seat loads a weak reference to the head that stands there, compares its payload with that of the
-//! text, and takes a strong reference where they are the same. Of a text of more than 120 bytes it
-//! reads the rest under that reference, by `text_reading`, and gives it up where the bytes differ.
-//! What it learns it notes in its view, as the law asks, so what the walk found stays true. An
-//! intern goes on where the walk comes to null: it makes a record, by `record_making`, and puts it
-//! there by a compare and exchange.
+//! seat announces the head that stands there, checks that it stands there still, and compares its
+//! payload with that of the text under the announcement. Only where they are the same does it take
+//! a strong reference, so no walk counts a weak one, and a text of at most 120 bytes is found for
+//! one add. Of a longer text it reads the rest under that reference, by `text_reading`, and gives it
+//! up where the bytes differ. What it learns it notes in its view, as the law asks, so what the walk
+//! found stays true. An intern goes on where the walk comes to null: it makes a record, by
+//! `record_making`, and puts it there by a compare and exchange.
 //!
 //! All calls are over each protocol that has a directory as a part, and change nothing else of the
 //! seat's view.
@@ -33,6 +34,7 @@ mod drawing;
 mod finding;
 mod interning;
 mod looking;
+mod raising;
 mod seeing;
 mod sought;
 #[cfg(test)]
@@ -44,5 +46,6 @@ pub use directory_calls::Directory;
 pub use drawing::draw;
 pub use finding::find;
 pub use interning::intern;
+pub use raising::raise;
 pub use record_making::{MakeError, cell_on, hash_of, head_of};
-pub use seeing::{raise, see};
+pub use seeing::{Sighted, let_go, see};

@@ -1,26 +1,26 @@
 //! What the walk of a text meets in one cell.
-ghost use Rattle.std.specs.Prelude.{◌≡◌, ◌<◌, ◌≤◌, IfOk, IsErr, length};
-ghost use Rattle.plain_state.specs.Lists.{times};
+ghost use Rattle.std.specs.Prelude.{◌≡◌, ◌+◌, ◌<◌, ◌≤◌, IfOk, IsErr, length};
 ghost use Rattle.core_events.specs.Steps.{HasRoom};
-ghost use Rattle.core_events.specs.Views.{without};
 ghost use Rattle.control_word.specs.Resting.{IsAtRest, IsSpent};
 ghost use Rattle.domain_rule.specs.Views.{object_in};
 ghost use Rattle.directory_calls.specs.Directories.{CanCount, IsOver, area_of};
 ghost use Rattle.directory_calls.specs.Learning.{LearnsIn};
 ghost use Rattle.record_making.specs.Texts.{text_of};
 ghost use Rattle.weak_intern.specs.Seeing.{HasSeenIn};
+ghost use Rattle.weak_intern.specs.Sighting.{IsSighted, let_go_of, seat_without};
 ghost use Rattle.text_reading.specs.Reading.{HasTwoFree};
 ghost use Rattle.weak_intern.specs.Sought.{HasPieces, IsSought};
 ghost use Rattle.directory_calls.specs.Steps.{Leaves, with_found};
-ghost use Rattle.weak_intern.specs.Walking.{Meets, MeetsIn, met_by, taken_by};
+ghost use Rattle.weak_intern.specs.Walking.{EndsBy, LooksBy, Meets, MeetsIn, RaisesBy, met_by, taken_by};
 
 use crate::comparing::is_payload;
 use crate::confirming::confirm;
-use crate::seeing::{raise, see};
+use crate::raising::raise;
+use crate::seeing::{Sighted, let_go, see};
 use crate::sought::Sought;
 use acquire_retire::{Domain, Seat};
-use control_word::{UpgradeError, drop_weak};
-use counted_handles::{Spent, Strong, Weak};
+use control_word::UpgradeError;
+use counted_handles::{Spent, Strong};
 use directory_calls::Directory;
 use directory_protocol::HasDirectory;
 use std::sync::Wait;
@@ -36,9 +36,10 @@ pub enum Sight {
     Record(Strong),
 }
 
-/// Looks at a cell for a text. Where it meets the live record, an intern of the seat
-/// is used if that is asked. At most five steps for each try to load, and 19 more, or some 720
-/// where the head is that of a long text.
+/// Looks at a cell for a text. Where it meets the live record, an intern of the seat is used if
+/// that is asked. A head is compared under an announcement, and one add is made where its payload is
+/// that of the text. At most four steps for each try to load, and 18 more, or some 720 where the
+/// head is that of a long text.
 pub(crate) fn look<R: Wait, S, P: HasDirectory<S>>(
     rt: &R,
     domain: &Domain<P>,
@@ -60,7 +61,9 @@ pub(crate) fn look<R: Wait, S, P: HasDirectory<S>>(
         (area_of (P.part domain.now.protocol)) cell (text_of sought.now.text.now) sight
         seat.old seat.new) }
     ensures spent { IsErr result → IsSpent seat.new.view.core }
-    ensures refused { IsSpent seat.old.view.core → IsErr result }
+    ensures looks { length sought.now.text.now ≤ 120
+        → LooksBy ((P.part domain.now.protocol).first + cell) result
+        seat.old.view.core seat.new.view.core }
     ensures leaves { Leaves (with_found (met_by result) seat.old.view.core.owned)
         seat.old.view.core.weaks seat.old seat.new }
     ensures learns { LearnsIn P.seen P.with_seen (taken_by intern result)
@@ -69,79 +72,82 @@ pub(crate) fn look<R: Wait, S, P: HasDirectory<S>>(
     ensures room { HasRoom seat.new.view.core }
     ensures rest { IsAtRest domain.now seat.new }
 {
-    match see::<R, S, P>(rt, domain, seat, directory, cell)? {
-        Some(weak) => meet::<S, P>(domain, seat, weak, sought, intern),
+    match see::<R, S, P>(rt, domain, seat, directory, cell) {
+        Some(sighted) => meet::<S, P>(domain, seat, sighted, sought, intern),
         None => Ok(Sight::Null),
     }
 }
 
-/// What a seat meets in a head that it saw in a cell. The weak reference is given up.
+/// What a seat meets in a head that it saw in a cell. The head is let go.
 fn meet<S, P: HasDirectory<S>>(
     domain: &Domain<P>,
     seat: &mut Seat<P>,
-    weak: Weak,
+    sighted: Sighted,
     sought: &Sought<'_>,
     intern: bool,
 ) -> Result<Sight, Spent>
     requires rest { IsAtRest domain.now seat.old }
     requires room { HasRoom seat.old.view.core }
-    requires owned { 0 < times weak.slot seat.old.view.core.weaks }
-    requires saw { HasSeenIn P.seen weak.slot seat.old }
+    requires sighted { IsSighted sighted seat.old.view.core }
+    requires saw { HasSeenIn P.seen sighted.slot seat.old }
     requires quota { CanCount intern (P.seen seat.old.view.client) }
     requires sought { IsSought sought.now.text.now sought.now.head sought.now.hash }
-    requires free { HasTwoFree seat.old.view.core }
+    requires free { HasTwoFree (let_go_of sighted seat.old.view.core) }
     requires pieces { HasPieces P.Kind.fits }
     ensures meets { IfOk result (λ sight. MeetsIn P.seen domain.now
-        (area_of (P.part domain.now.protocol)) weak.slot (text_of sought.now.text.now) sight
+        (area_of (P.part domain.now.protocol)) sighted.slot (text_of sought.now.text.now) sight
         seat.old seat.new) }
     ensures spent { IsErr result → IsSpent seat.new.view.core }
+    ensures ends { length sought.now.text.now ≤ 120
+        → EndsBy sighted result seat.old.view.core seat.new.view.core }
     ensures leaves { Leaves (with_found (met_by result) seat.old.view.core.owned)
-        (without weak.slot seat.old.view.core.weaks) seat.old seat.new }
+        seat.old.view.core.weaks (seat_without sighted seat.old) seat.new }
     ensures learns { LearnsIn P.seen P.with_seen (taken_by intern result)
         seat.old.view.client seat.new.view.client }
     ensures makes { seat.new.view.core.makes ≡ seat.old.view.core.makes }
     ensures room { HasRoom seat.new.view.core }
     ensures rest { IsAtRest domain.now seat.new }
 {
-    if !is_payload(domain, seat, weak.slot(), &sought.head) {
-        drop_weak(domain, seat, weak);
+    if !is_payload(domain, seat, sighted.slot, &sought.head) {
+        let_go(domain, seat, sighted);
         return Ok(Sight::Other);
     }
     if sought.text.len() <= 120 {
-        return meet_short::<S, P>(domain, seat, weak, sought, intern);
+        return meet_short::<S, P>(domain, seat, sighted, sought, intern);
     }
-    meet_long::<S, P>(domain, seat, weak, sought, intern)
+    meet_long::<S, P>(domain, seat, sighted, sought, intern)
 }
 
 /// The same where the head has the payload that is sought, and this is the whole text.
 fn meet_short<S, P: HasDirectory<S>>(
     domain: &Domain<P>,
     seat: &mut Seat<P>,
-    weak: Weak,
+    sighted: Sighted,
     sought: &Sought<'_>,
     intern: bool,
 ) -> Result<Sight, Spent>
     requires rest { IsAtRest domain.now seat.old }
     requires room { HasRoom seat.old.view.core }
-    requires owned { 0 < times weak.slot seat.old.view.core.weaks }
-    requires saw { HasSeenIn P.seen weak.slot seat.old }
+    requires sighted { IsSighted sighted seat.old.view.core }
+    requires saw { HasSeenIn P.seen sighted.slot seat.old }
     requires quota { CanCount intern (P.seen seat.old.view.client) }
     requires sought { IsSought sought.now.text.now sought.now.head sought.now.hash }
-    requires head { (object_in seat.old.view weak.slot).payload ≡ sought.now.head }
+    requires head { (object_in seat.old.view sighted.slot).payload ≡ sought.now.head }
     requires short { length sought.now.text.now ≤ 120 }
     ensures meets { IfOk result (λ sight. MeetsIn P.seen domain.now
-        (area_of (P.part domain.now.protocol)) weak.slot (text_of sought.now.text.now) sight
+        (area_of (P.part domain.now.protocol)) sighted.slot (text_of sought.now.text.now) sight
         seat.old seat.new) }
     ensures spent { IsErr result → IsSpent seat.new.view.core }
+    ensures raises { RaisesBy sighted result seat.old.view.core seat.new.view.core }
     ensures leaves { Leaves (with_found (met_by result) seat.old.view.core.owned)
-        (without weak.slot seat.old.view.core.weaks) seat.old seat.new }
+        seat.old.view.core.weaks (seat_without sighted seat.old) seat.new }
     ensures learns { LearnsIn P.seen P.with_seen (taken_by intern result)
         seat.old.view.client seat.new.view.client }
     ensures makes { seat.new.view.core.makes ≡ seat.old.view.core.makes }
     ensures room { HasRoom seat.new.view.core }
     ensures rest { IsAtRest domain.now seat.new }
 {
-    match raise::<S, P>(domain, seat, weak, intern) {
+    match raise::<S, P>(domain, seat, sighted, intern) {
         Ok(strong) => Ok(Sight::Record(strong)),
         Err(UpgradeError::Ended) => Ok(Sight::Other),
         Err(UpgradeError::Spent) => Err(Spent),
@@ -153,32 +159,32 @@ fn meet_short<S, P: HasDirectory<S>>(
 fn meet_long<S, P: HasDirectory<S>>(
     domain: &Domain<P>,
     seat: &mut Seat<P>,
-    weak: Weak,
+    sighted: Sighted,
     sought: &Sought<'_>,
     intern: bool,
 ) -> Result<Sight, Spent>
     requires rest { IsAtRest domain.now seat.old }
     requires room { HasRoom seat.old.view.core }
-    requires owned { 0 < times weak.slot seat.old.view.core.weaks }
-    requires saw { HasSeenIn P.seen weak.slot seat.old }
+    requires sighted { IsSighted sighted seat.old.view.core }
+    requires saw { HasSeenIn P.seen sighted.slot seat.old }
     requires quota { CanCount intern (P.seen seat.old.view.client) }
     requires sought { IsSought sought.now.text.now sought.now.head sought.now.hash }
-    requires head { (object_in seat.old.view weak.slot).payload ≡ sought.now.head }
-    requires free { HasTwoFree seat.old.view.core }
+    requires head { (object_in seat.old.view sighted.slot).payload ≡ sought.now.head }
+    requires free { HasTwoFree (let_go_of sighted seat.old.view.core) }
     requires pieces { HasPieces P.Kind.fits }
     ensures meets { IfOk result (λ sight. MeetsIn P.seen domain.now
-        (area_of (P.part domain.now.protocol)) weak.slot (text_of sought.now.text.now) sight
+        (area_of (P.part domain.now.protocol)) sighted.slot (text_of sought.now.text.now) sight
         seat.old seat.new) }
     ensures spent { IsErr result → IsSpent seat.new.view.core }
     ensures leaves { Leaves (with_found (met_by result) seat.old.view.core.owned)
-        (without weak.slot seat.old.view.core.weaks) seat.old seat.new }
+        seat.old.view.core.weaks (seat_without sighted seat.old) seat.new }
     ensures learns { LearnsIn P.seen P.with_seen (taken_by intern result)
         seat.old.view.client seat.new.view.client }
     ensures makes { seat.new.view.core.makes ≡ seat.old.view.core.makes }
     ensures room { HasRoom seat.new.view.core }
     ensures rest { IsAtRest domain.now seat.new }
 {
-    match raise::<S, P>(domain, seat, weak, false) {
+    match raise::<S, P>(domain, seat, sighted, false) {
         Ok(strong) => Ok(confirm::<S, P>(domain, seat, strong, sought, intern)),
         Err(UpgradeError::Ended) => Ok(Sight::Other),
         Err(UpgradeError::Spent) => Err(Spent),

@@ -8,7 +8,7 @@ ghost use Rattle.record_making.specs.Texts.{text_of};
 ghost use Rattle.text_reading.specs.Reading.{HasTwoFree};
 ghost use Rattle.weak_intern.specs.Sought.{HasPieces, IsSought};
 ghost use Rattle.directory_calls.specs.Steps.{Leaves, with_found};
-ghost use Rattle.weak_intern.specs.Walking.{ComesTo, EndsAround, used_by, walked_by};
+ghost use Rattle.weak_intern.specs.Walking.{ComesTo, CostsBy, EndsAround, used_by, walked_by};
 
 use crate::looking::{Sight, look};
 use crate::seeing::number;
@@ -50,8 +50,9 @@ pub(crate) fn seek<R: Wait, S, P: HasDirectory<S>>(
     ensures comes { IfOk result (λ walk. ComesTo P.seen domain.now
         (area_of (P.part domain.now.protocol)) (text_of sought.now.text.now) walk
         seat.old seat.new) }
+    ensures costs { length sought.now.text.now ≤ 120
+        → IfOk result (λ walk. CostsBy walk seat.old.view.core seat.new.view.core) }
     ensures spent { IsErr result → IsSpent seat.new.view.core }
-    ensures refused { IsSpent seat.old.view.core → IsErr result }
     ensures leaves { Leaves (with_found (walked_by result) seat.old.view.core.owned)
         seat.old.view.core.weaks seat.old seat.new }
     ensures learns { LearnsIn P.seen P.with_seen (used_by intern result)

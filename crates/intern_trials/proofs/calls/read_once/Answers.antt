@@ -1,26 +1,36 @@
-use Rattle.std.proofs.Common.{◌≡◌, ◌<◌, arith, subst, sym}
+use Rattle.std.proofs.Common.{◌≡◌, ◌<◌, ◌+◌, ap, arith, subst, sym, ◌∙◌}
+use Rattle.std.specs.Prelude.{slice_index_or}
+use Rattle.core_events.specs.declared.view.Note.TheVariants as note
 use Rattle.plain_state.specs.declared.slot.SlotId.{SlotId}
 use Rattle.plain_state.specs.Lists.{times}
 use Rattle.directory_calls.specs.Directories.{area_of}
 use Rattle.directory_calls.specs.Steps.{handle_by, with_found}
 use Rattle.record_making.proofs.Dropped.{dropped}
-use Rattle.weak_intern.proofs.Meeting.{held_there, saw_there}
+use Rattle.text_reading.proofs.LetGo.{least_there}
+use Rattle.weak_intern.specs.Sighting.{seat_without}
+use Rattle.weak_intern.proofs.Looked.{look_free, look_saw, look_sighted}
 use Rattle.weak_intern.proofs.Sights.{free_still}
 use Rattle.intern_trials.proofs.Returned.{back_again, has_one, one_after, two_free}
+use Rattle.intern_trials.proofs.Seen.{owned_seen, under_after}
 use Rattle.intern_trials.proofs.calls.read_once.Goals as goal
 
-pub raise-requires-clause-owned : goal.raise-requires-clause-owned
-raise-requires-clause-owned g c =
-    has_one c.args.seat.now.view.core.weaks c.see.new.seat.view.core.weaks c.in-Ok-Some.head.slot
-    (held_there c.args.seat.now c.see.new.seat c.in-Ok-Some.field-0 c.in-Ok-Some.head
-    c.in-Ok-Some.field-0-is (c.in-Ok-Some.ensures {u = tt}).leaves).weakly
+pub see-requires-clause-free : goal.see-requires-clause-free
+see-requires-clause-free g c =
+    least_there c.args.seat.now.view.core 1
+    (omega arith, omega arith, c.requires.ready.none 1)
+
+pub raise-requires-clause-sighted : goal.raise-requires-clause-sighted
+raise-requires-clause-sighted g c =
+    look_sighted (c.args.domain.now.protocol.first + c.args.cell) c.args.seat.now c.see.new.seat
+    c.see.result c.see.ensures.sights c.see.ensures.objects c.in-Some.head c.in-Some.is
 
 pub raise-requires-clause-saw : goal.raise-requires-clause-saw
 raise-requires-clause-saw g c = (
   c.args.cell,
-  saw_there (λ v. v) c.args.domain.now (area_of c.args.domain.now.protocol) c.args.cell
-      c.args.seat.now c.see.new.seat c.in-Ok-Some.field-0 c.in-Ok-Some.head c.in-Ok-Some.field-0-is
-      (c.in-Ok-Some.ensures {u = tt}).sees,
+  look_saw (c.args.domain.now.protocol.first + c.args.cell) c.args.seat.now c.see.new.seat
+      c.see.result c.see.ensures.sights c.see.ensures.objects c.in-Some.head c.in-Some.is
+      (λ v. v) c.args.domain.now (area_of c.args.domain.now.protocol) c.args.cell
+      c.see.ensures.sees,
 )
 
 pub read_text-size-requires-clause-held : goal.read_text-size-requires-clause-held
@@ -33,10 +43,10 @@ read_text-size-requires-clause-held g c =
 
 pub read_text-size-requires-clause-free : goal.read_text-size-requires-clause-free
 read_text-size-requires-clause-free g c =
-    free_still c.see.new.seat c.raise.new.seat c.raise.ensures.leaves.same
-    (free_still c.args.seat.now c.see.new.seat
-    (held_there c.args.seat.now c.see.new.seat c.in-Ok-Some.field-0 c.in-Ok-Some.head
-    c.in-Ok-Some.field-0-is (c.in-Ok-Some.ensures {u = tt}).leaves).same
+    free_still (seat_without c.in-Some.head c.see.new.seat) c.raise.new.seat
+    c.raise.ensures.leaves.same
+    (look_free (c.args.domain.now.protocol.first + c.args.cell) c.args.seat.now c.see.new.seat
+    c.see.result c.see.ensures.sights c.see.ensures.objects c.in-Some.head c.in-Some.is
     (two_free c.args.seat.now.view.core c.requires.ready.none))
 
 pub drop_strong-requires-clause-owned : goal.drop_strong-requires-clause-owned
@@ -56,8 +66,9 @@ returns-clause-owns g c =
     (λ x.
     let more = one_after c.args.seat.now.view.core.owned c.see.new.seat.view.core.owned
     c.raise.new.seat.view.core.owned c.in-Ok.record.slot
-    (held_there c.args.seat.now c.see.new.seat c.in-Ok-Some.field-0 c.in-Ok-Some.head
-    c.in-Ok-Some.field-0-is (c.in-Ok-Some.ensures {u = tt}).leaves).owns
+    (owned_seen (c.args.domain.now.protocol.first + c.args.cell) c.args.seat.now c.see.new.seat
+    c.see.result c.see.ensures.sights c.see.ensures.objects c.in-Some.head c.in-Some.is
+    c.see.new.seat)
     (subst (λ r. (x : SlotId) → times x c.raise.new.seat.view.core.owned
     ≡ times x (with_found (handle_by r) c.see.new.seat.view.core.owned)) c.in-Ok.is
     c.raise.ensures.leaves.owns) x in
@@ -65,3 +76,15 @@ returns-clause-owns g c =
     omega (arith, more, same))
     (dropped c.read_text-size.new.seat c.drop_strong.new.seat c.in-Ok.record.slot _
     c.args.domain.now c.drop_strong.ensures.dropped c.drop_strong.ensures.objects).owns
+
+pub returns-clause-ready : goal.returns-clause-ready
+returns-clause-ready g c = record {
+  rest = c.drop_strong.ensures.rest;
+  none = λ j. ap (λ ns. slice_index_or ns j note.Idle) c.drop_strong.ensures.notes
+      ∙ under_after (c.args.domain.now.protocol.first + c.args.cell) c.args.seat.now c.see.new.seat
+      c.see.result c.see.ensures.sights c.see.ensures.objects c.in-Some.head c.in-Some.is
+      c.read_text-size.new.seat
+      (c.read_text-size.ensures.leaves.same ∙ c.raise.ensures.leaves.same)
+      c.requires.ready.none j;
+  room = c.drop_strong.ensures.room c.read_text-size.ensures.room;
+}

@@ -10,7 +10,7 @@ use Rattle.record_making.specs.Texts.{text_of}
 use Rattle.record_making.proofs.Dropped.{dropped, makes_still}
 use Rattle.text_reading.specs.Reading.{HasRead}
 use Rattle.weak_intern.proofs.Meeting.{is_not}
-use Rattle.weak_intern.proofs.Whole.{answered_leaves, answered_learns, answered_met, dropped_learns, dropped_leaves, dropped_met, owns_read, quota_read, saw_read}
+use Rattle.weak_intern.proofs.Whole.{answered_leaves, answered_learns, answered_met, dropped_learns, dropped_leaves, dropped_met, saw_read}
 use Rattle.weak_intern.proofs.confirming.confirm.Goals as goal
 
 pub answer-requires-clause-saw : goal.answer-requires-clause-saw

@@ -1,7 +1,8 @@
-use Rattle.std.proofs.Common.{arith}
+use Rattle.std.proofs.Common.{arith, subst}
 use Rattle.directory_calls.specs.Directories.{area_of}
 use Rattle.record_making.specs.Texts.{text_of}
 use Rattle.record_making.proofs.Packed.{is_text_of}
+use Rattle.weak_intern.specs.Walking.{CostsBy}
 use Rattle.weak_intern.proofs.Heads.{sought_is}
 use Rattle.weak_intern.proofs.Answered.{came_to_none, came_to_record}
 use Rattle.weak_intern.proofs.finding.find.Goals as goal
@@ -38,3 +39,8 @@ returns-in-Record-clause-knows g c =
     (is_text_of c.args.text.now c.requires.text.0 (omega (arith, c.requires.text.1)))
     c.args.seat.now c.seek.new.seat g.P.Part.seen c.in_ok-strong.field-0 c.in-Record.strong
     c.in-Record.is c.in_ok-strong.ensures.comes).1
+
+pub returns-in-Record-clause-takes : goal.returns-in-Record-clause-takes
+returns-in-Record-clause-takes g c =
+    λ short. subst (λ w. CostsBy w c.args.seat.now.view.core c.seek.new.seat.view.core)
+    c.in-Record.is (c.in_ok-strong.ensures.costs short)

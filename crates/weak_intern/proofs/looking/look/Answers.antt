@@ -1,51 +1,64 @@
-use Rattle.weak_intern.proofs.Sights.{free_still}
-use Rattle.std.proofs.Common.{◌∙◌}
+use Rattle.std.proofs.Common.{arith, ◌∙◌, ◌+◌}
 use Rattle.directory_calls.specs.Directories.{area_of}
-use Rattle.weak_intern.specs.Walking.{met_by, taken_by}
 use Rattle.directory_calls.proofs.Parts.{place_of, zero_then}
 use Rattle.record_making.specs.Texts.{text_of}
-use Rattle.weak_intern.proofs.Meeting.{held_there, look_leaves, look_met, saw_owned, saw_there}
+use Rattle.text_reading.proofs.LetGo.{least_there}
+use Rattle.weak_intern.specs.Walking.{met_by, taken_by}
+use Rattle.weak_intern.proofs.Looked.{look_by, look_free, look_leaves, look_makes, look_met, look_saw, look_sighted, null_by, null_leaves, null_makes}
 use Rattle.weak_intern.proofs.looking.look.Goals as goal
 
-pub meet-requires-clause-owned : goal.meet-requires-clause-owned
-meet-requires-clause-owned g c =
-    saw_owned c.args.seat.now c.see.new.seat c.see.new.seat c.args.domain.now
-    (place_of g.P.Part.seen g.P.Part.with_seen g.P.Part.reads g.P.Part.puts_back
-    g.P.Part.puts_over)
-    (area_of (g.P.Part.part c.args.domain.now.protocol)) c.in-Some.weak.slot
-    (held_there c.args.seat.now c.see.new.seat c.in_ok-weak.field-0 c.in-Some.weak c.in-Some.is
-    c.in_ok-weak.ensures.leaves)
+pub see-requires-clause-free : goal.see-requires-clause-free
+see-requires-clause-free g c =
+    let two = c.requires.free in
+    least_there c.args.seat.now.view.core two.0
+    (two.2, omega (arith, two.3, two.4), two.5)
+
+pub meet-requires-clause-sighted : goal.meet-requires-clause-sighted
+meet-requires-clause-sighted g c =
+    look_sighted ((g.P.Part.part c.args.domain.now.protocol).first + c.args.cell)
+    c.args.seat.now c.see.new.seat c.see.result c.see.ensures.sights c.see.ensures.objects
+    c.in-Some.sighted c.in-Some.is
 
 pub meet-requires-clause-saw : goal.meet-requires-clause-saw
 meet-requires-clause-saw g c = (
   c.args.cell,
-  saw_there g.P.Part.seen c.args.domain.now (area_of (g.P.Part.part c.args.domain.now.protocol))
-      c.args.cell c.args.seat.now c.see.new.seat c.in_ok-weak.field-0 c.in-Some.weak c.in-Some.is
-      c.in_ok-weak.ensures.sees,
+  look_saw ((g.P.Part.part c.args.domain.now.protocol).first + c.args.cell)
+      c.args.seat.now c.see.new.seat c.see.result c.see.ensures.sights c.see.ensures.objects
+      c.in-Some.sighted c.in-Some.is
+      g.P.Part.seen c.args.domain.now (area_of (g.P.Part.part c.args.domain.now.protocol))
+      c.args.cell c.see.ensures.sees,
 )
+
+pub meet-requires-clause-free : goal.meet-requires-clause-free
+meet-requires-clause-free g c =
+    look_free ((g.P.Part.part c.args.domain.now.protocol).first + c.args.cell)
+    c.args.seat.now c.see.new.seat c.see.result c.see.ensures.sights c.see.ensures.objects
+    c.in-Some.sighted c.in-Some.is c.requires.free
 
 pub returns-in-Some-clause-meets : goal.returns-in-Some-clause-meets
 returns-in-Some-clause-meets g c =
-    look_met c.args.seat.now c.see.new.seat c.meet.new.seat c.args.domain.now
+    look_met ((g.P.Part.part c.args.domain.now.protocol).first + c.args.cell)
+    c.args.seat.now c.see.new.seat c.see.result c.see.ensures.sights c.see.ensures.objects
+    c.in-Some.sighted c.in-Some.is c.meet.new.seat
+    c.args.domain.now
     (place_of g.P.Part.seen g.P.Part.with_seen g.P.Part.reads g.P.Part.puts_back
     g.P.Part.puts_over)
-    (area_of (g.P.Part.part c.args.domain.now.protocol)) c.in-Some.weak.slot
-    (held_there c.args.seat.now c.see.new.seat c.in_ok-weak.field-0 c.in-Some.weak c.in-Some.is
-    c.in_ok-weak.ensures.leaves)
-    c.args.cell (text_of c.args.sought.now.text.now) c.meet.result
-    (saw_there g.P.Part.seen c.args.domain.now (area_of (g.P.Part.part c.args.domain.now.protocol))
-    c.args.cell c.args.seat.now c.see.new.seat c.in_ok-weak.field-0 c.in-Some.weak c.in-Some.is
-    c.in_ok-weak.ensures.sees)
-    c.see.ensures.learns c.meet.ensures.meets
+    (area_of (g.P.Part.part c.args.domain.now.protocol)) c.args.cell
+    (text_of c.args.sought.now.text.now) c.meet.result c.see.ensures.sees c.see.ensures.learns
+    c.meet.ensures.meets
+
+pub returns-in-Some-clause-looks : goal.returns-in-Some-clause-looks
+returns-in-Some-clause-looks g c =
+    λ short. look_by ((g.P.Part.part c.args.domain.now.protocol).first + c.args.cell)
+    c.args.seat.now c.see.new.seat c.see.result c.see.ensures.sights c.see.ensures.objects
+    c.in-Some.sighted c.in-Some.is c.meet.new.seat
+    c.meet.result (c.meet.ensures.ends short)
 
 pub returns-in-Some-clause-leaves : goal.returns-in-Some-clause-leaves
 returns-in-Some-clause-leaves g c =
-    look_leaves c.args.seat.now c.see.new.seat c.meet.new.seat c.args.domain.now
-    (place_of g.P.Part.seen g.P.Part.with_seen g.P.Part.reads g.P.Part.puts_back
-    g.P.Part.puts_over)
-    (area_of (g.P.Part.part c.args.domain.now.protocol)) c.in-Some.weak.slot
-    (held_there c.args.seat.now c.see.new.seat c.in_ok-weak.field-0 c.in-Some.weak c.in-Some.is
-    c.in_ok-weak.ensures.leaves)
+    look_leaves ((g.P.Part.part c.args.domain.now.protocol).first + c.args.cell)
+    c.args.seat.now c.see.new.seat c.see.result c.see.ensures.sights c.see.ensures.objects
+    c.in-Some.sighted c.in-Some.is c.meet.new.seat
     (met_by c.meet.result) c.meet.ensures.leaves
 
 pub returns-in-Some-clause-learns : goal.returns-in-Some-clause-learns
@@ -57,8 +70,22 @@ returns-in-Some-clause-learns g c =
 
 pub returns-in-Some-clause-makes : goal.returns-in-Some-clause-makes
 returns-in-Some-clause-makes g c =
-    c.meet.ensures.makes ∙ c.see.ensures.makes
+    c.meet.ensures.makes
+    ∙ look_makes ((g.P.Part.part c.args.domain.now.protocol).first + c.args.cell)
+    c.args.seat.now c.see.new.seat c.see.result c.see.ensures.sights c.see.ensures.objects
+    c.in-Some.sighted c.in-Some.is
 
-pub meet-requires-clause-free : goal.meet-requires-clause-free
-meet-requires-clause-free g c =
-    free_still c.args.seat.now c.see.new.seat c.in_ok-weak.ensures.leaves.same c.requires.free
+pub returns-in-None-clause-looks : goal.returns-in-None-clause-looks
+returns-in-None-clause-looks g c =
+    λ short. null_by ((g.P.Part.part c.args.domain.now.protocol).first + c.args.cell)
+    c.args.seat.now c.see.new.seat c.see.result c.see.ensures.sights c.see.ensures.objects c.in-None.is
+
+pub returns-in-None-clause-leaves : goal.returns-in-None-clause-leaves
+returns-in-None-clause-leaves g c =
+    null_leaves ((g.P.Part.part c.args.domain.now.protocol).first + c.args.cell)
+    c.args.seat.now c.see.new.seat c.see.result c.see.ensures.sights c.see.ensures.objects c.in-None.is
+
+pub returns-in-None-clause-makes : goal.returns-in-None-clause-makes
+returns-in-None-clause-makes g c =
+    null_makes ((g.P.Part.part c.args.domain.now.protocol).first + c.args.cell)
+    c.args.seat.now c.see.new.seat c.see.result c.see.ensures.sights c.see.ensures.objects c.in-None.is

@@ -1,153 +1,155 @@
-use Rattle.std.proofs.Common.{ap, arith, sym, ◌∙◌, Some, None}
-use Rattle.std.specs.Prelude.{Err}
-use Rattle.core_events.specs.declared.view.CoreView.{CoreView}
-use Rattle.domain_rule.specs.Views.{object_in}
+use Rattle.std.proofs.Common.{ap, inl, ◌∙◌, None}
 use Rattle.directory_calls.specs.Directories.{area_of}
 use Rattle.directory_calls.proofs.Parts.{place_of}
-use Rattle.directory_law.proofs.Bytes.{text_is}
 use Rattle.record_making.specs.Texts.{text_of}
-use Rattle.weak_intern.proofs.Meeting.{head_still, is_not, met_leaves, met_then, other_leaves, other_met, seen_still}
-use Rattle.weak_intern.proofs.Sights.{free_still}
+use Rattle.core_events.specs.declared.view.CoreView.{CoreView}
 use Rattle.weak_intern.specs.Walking.{met_by}
+use Rattle.weak_intern.proofs.LetGo.{sighted_held}
+use Rattle.weak_intern.proofs.Meeting.{is_not, other_met}
+use Rattle.weak_intern.proofs.Moves.{ends_by, ends_then, free_then, head_then, leaves_then, met_then, raised_leaves, saw_then, sighted_then}
 use Rattle.weak_intern.proofs.looking.meet.Goals as goal
+
+pub is_payload-requires-clause-holds : goal.is_payload-requires-clause-holds
+is_payload-requires-clause-holds g c =
+    sighted_held c.args.sighted c.args.seat.now.view.core c.requires.sighted
+
+pub let_go-requires-clause-sighted : goal.let_go-requires-clause-sighted
+let_go-requires-clause-sighted g c =
+    sighted_then (place_of g.P.Part.seen g.P.Part.with_seen g.P.Part.reads g.P.Part.puts_back
+    g.P.Part.puts_over)
+    c.args.sighted c.args.seat.now c.is_payload.new.seat c.requires.sighted
+    c.is_payload.ensures.compares c.is_payload.ensures.objects c.is_payload.ensures.client
 
 pub returns-then-not-is_payload-clause-meets : goal.returns-then-not-is_payload-clause-meets
 returns-then-not-is_payload-clause-meets g c =
     other_met c.args.domain.now
     (place_of g.P.Part.seen g.P.Part.with_seen g.P.Part.reads g.P.Part.puts_back
     g.P.Part.puts_over)
-    (area_of (g.P.Part.part c.args.domain.now.protocol)) c.args.weak.slot (text_of
+    (area_of (g.P.Part.part c.args.domain.now.protocol)) c.args.sighted.slot (text_of
     c.args.sought.now.text.now)
-    c.args.sought.now.head c.requires.sought.begins
-    c.args.seat.now c.drop_weak.new.seat
-    (λ same. is_not c.is_payload.result c.if-not-is_payload.true
-    (c.is_payload.ensures.same.1
-    (ap (λ x. (object_in c.args.seat.now.view x).payload) c.slot.ensures ∙ same)))
-    (c.drop_weak.ensures.client ∙ c.is_payload.ensures.client)
+    c.args.sought.now.head c.requires.sought.begins c.args.seat.now c.let_go.new.seat
+    (λ same. is_not c.is_payload.result c.if-not-is_payload.true (c.is_payload.ensures.same.1 same))
+    (c.let_go.ensures.client ∙ c.is_payload.ensures.client)
+
+pub returns-then-not-is_payload-clause-ends : goal.returns-then-not-is_payload-clause-ends
+returns-then-not-is_payload-clause-ends g c =
+    λ short. inl (ends_then (place_of g.P.Part.seen g.P.Part.with_seen g.P.Part.reads g.P.Part.puts_back
+    g.P.Part.puts_over)
+    c.args.sighted c.args.seat.now c.is_payload.new.seat c.requires.sighted
+    c.is_payload.ensures.compares c.is_payload.ensures.objects c.is_payload.ensures.client
+    c.let_go.new.seat None c.let_go.ensures.core)
 
 pub returns-then-not-is_payload-clause-leaves : goal.returns-then-not-is_payload-clause-leaves
 returns-then-not-is_payload-clause-leaves g c =
-    other_leaves c.args.domain.now
-    (place_of g.P.Part.seen g.P.Part.with_seen g.P.Part.reads g.P.Part.puts_back
+    leaves_then (place_of g.P.Part.seen g.P.Part.with_seen g.P.Part.reads g.P.Part.puts_back
     g.P.Part.puts_over)
-    (area_of (g.P.Part.part c.args.domain.now.protocol)) c.args.weak.slot (text_of
-    c.args.sought.now.text.now)
-    c.args.sought.now.head c.requires.sought.begins
-    g.P.Kind.PayloadKind.fits c.args.seat.now c.is_payload.new.seat c.drop_weak.new.seat
-    c.requires.owned c.is_payload.ensures.leaves c.drop_weak.ensures.dropped
-    c.drop_weak.ensures.objects
+    c.args.sighted c.args.seat.now c.is_payload.new.seat c.requires.sighted
+    c.is_payload.ensures.compares c.is_payload.ensures.objects c.is_payload.ensures.client
+    c.let_go.new.seat None
+    (raised_leaves c.args.sighted c.is_payload.new.seat c.let_go.new.seat None
+    c.let_go.ensures.core c.let_go.ensures.objects)
 
 pub returns-then-not-is_payload-clause-makes : goal.returns-then-not-is_payload-clause-makes
 returns-then-not-is_payload-clause-makes g c =
-    ap (λ (v : CoreView). v.makes) c.drop_weak.ensures.dropped.1.core ∙ c.is_payload.ensures.makes
+    ap (λ (v : CoreView). v.makes) c.let_go.ensures.core ∙ c.is_payload.ensures.makes
+
+pub meet_short-requires-clause-sighted : goal.meet_short-requires-clause-sighted
+meet_short-requires-clause-sighted g c =
+    sighted_then (place_of g.P.Part.seen g.P.Part.with_seen g.P.Part.reads g.P.Part.puts_back
+    g.P.Part.puts_over)
+    c.args.sighted c.args.seat.now c.is_payload.new.seat c.requires.sighted
+    c.is_payload.ensures.compares c.is_payload.ensures.objects c.is_payload.ensures.client
 
 pub meet_short-requires-clause-saw : goal.meet_short-requires-clause-saw
 meet_short-requires-clause-saw g c =
-    seen_still c.args.domain.now
-    (place_of g.P.Part.seen g.P.Part.with_seen g.P.Part.reads g.P.Part.puts_back
+    saw_then (place_of g.P.Part.seen g.P.Part.with_seen g.P.Part.reads g.P.Part.puts_back
     g.P.Part.puts_over)
-    (area_of (g.P.Part.part c.args.domain.now.protocol)) c.args.weak.slot (text_of
-    c.args.sought.now.text.now)
-    c.args.sought.now.head c.requires.sought.begins
-    c.args.seat.now c.is_payload.new.seat c.is_payload.new.seat c.is_payload.ensures.leaves
-    c.requires.owned
-    c.requires.saw c.is_payload.ensures.client
+    c.args.sighted c.args.seat.now c.is_payload.new.seat c.requires.sighted
+    c.is_payload.ensures.compares c.is_payload.ensures.objects c.is_payload.ensures.client c.requires.saw
 
 pub meet_short-requires-clause-head : goal.meet_short-requires-clause-head
 meet_short-requires-clause-head g c =
-    head_still c.args.domain.now
-    (place_of g.P.Part.seen g.P.Part.with_seen g.P.Part.reads g.P.Part.puts_back
+    head_then (place_of g.P.Part.seen g.P.Part.with_seen g.P.Part.reads g.P.Part.puts_back
     g.P.Part.puts_over)
-    (area_of (g.P.Part.part c.args.domain.now.protocol)) c.args.weak.slot (text_of
-    c.args.sought.now.text.now)
-    c.args.sought.now.head c.requires.sought.begins
-    c.args.seat.now c.is_payload.new.seat c.is_payload.new.seat c.is_payload.ensures.leaves
-    c.requires.owned
-    (ap (λ x. (object_in c.args.seat.now.view x).payload) (sym c.slot.ensures)
-    ∙ c.is_payload.ensures.same.0 c.if-not-is_payload.false)
+    c.args.sighted c.args.seat.now c.is_payload.new.seat c.requires.sighted
+    c.is_payload.ensures.compares c.is_payload.ensures.objects c.is_payload.ensures.client
+    c.args.sought.now.head (c.is_payload.ensures.same.0 c.if-not-is_payload.false)
 
 pub returns-then-sought-le120-clause-meets : goal.returns-then-sought-le120-clause-meets
 returns-then-sought-le120-clause-meets g c =
-    met_then c.args.domain.now
-    (place_of g.P.Part.seen g.P.Part.with_seen g.P.Part.reads g.P.Part.puts_back
+    met_then (place_of g.P.Part.seen g.P.Part.with_seen g.P.Part.reads g.P.Part.puts_back
     g.P.Part.puts_over)
-    (area_of (g.P.Part.part c.args.domain.now.protocol)) c.args.weak.slot (text_of
-    c.args.sought.now.text.now)
-    c.args.sought.now.head c.requires.sought.begins
-    c.args.seat.now c.is_payload.new.seat c.meet_short.new.seat c.is_payload.ensures.leaves
-    c.requires.owned
-    c.is_payload.ensures.client c.meet_short.result c.meet_short.ensures.meets
+    c.args.sighted c.args.seat.now c.is_payload.new.seat c.requires.sighted
+    c.is_payload.ensures.compares c.is_payload.ensures.objects c.is_payload.ensures.client
+    c.args.domain.now (area_of (g.P.Part.part c.args.domain.now.protocol)) c.meet_short.new.seat
+    (text_of c.args.sought.now.text.now) c.meet_short.result c.meet_short.ensures.meets
+
+pub returns-then-sought-le120-clause-ends : goal.returns-then-sought-le120-clause-ends
+returns-then-sought-le120-clause-ends g c =
+    λ short. ends_by (place_of g.P.Part.seen g.P.Part.with_seen g.P.Part.reads g.P.Part.puts_back
+    g.P.Part.puts_over)
+    c.args.sighted c.args.seat.now c.is_payload.new.seat c.requires.sighted
+    c.is_payload.ensures.compares c.is_payload.ensures.objects c.is_payload.ensures.client
+    c.meet_short.new.seat c.meet_short.result c.meet_short.ensures.raises
 
 pub returns-then-sought-le120-clause-leaves : goal.returns-then-sought-le120-clause-leaves
 returns-then-sought-le120-clause-leaves g c =
-    met_leaves c.args.domain.now
-    (place_of g.P.Part.seen g.P.Part.with_seen g.P.Part.reads g.P.Part.puts_back
+    leaves_then (place_of g.P.Part.seen g.P.Part.with_seen g.P.Part.reads g.P.Part.puts_back
     g.P.Part.puts_over)
-    (area_of (g.P.Part.part c.args.domain.now.protocol)) c.args.weak.slot (text_of
-    c.args.sought.now.text.now)
-    c.args.sought.now.head c.requires.sought.begins
-    c.args.seat.now c.is_payload.new.seat c.meet_short.new.seat c.is_payload.ensures.leaves
-    c.requires.owned
-    (met_by c.meet_short.result) c.meet_short.ensures.leaves
+    c.args.sighted c.args.seat.now c.is_payload.new.seat c.requires.sighted
+    c.is_payload.ensures.compares c.is_payload.ensures.objects c.is_payload.ensures.client
+    c.meet_short.new.seat (met_by c.meet_short.result) c.meet_short.ensures.leaves
 
 pub returns-then-sought-le120-clause-makes : goal.returns-then-sought-le120-clause-makes
 returns-then-sought-le120-clause-makes g c =
     c.meet_short.ensures.makes ∙ c.is_payload.ensures.makes
 
+pub meet_long-requires-clause-sighted : goal.meet_long-requires-clause-sighted
+meet_long-requires-clause-sighted g c =
+    sighted_then (place_of g.P.Part.seen g.P.Part.with_seen g.P.Part.reads g.P.Part.puts_back
+    g.P.Part.puts_over)
+    c.args.sighted c.args.seat.now c.is_payload.new.seat c.requires.sighted
+    c.is_payload.ensures.compares c.is_payload.ensures.objects c.is_payload.ensures.client
+
 pub meet_long-requires-clause-saw : goal.meet_long-requires-clause-saw
 meet_long-requires-clause-saw g c =
-    seen_still c.args.domain.now
-    (place_of g.P.Part.seen g.P.Part.with_seen g.P.Part.reads g.P.Part.puts_back
+    saw_then (place_of g.P.Part.seen g.P.Part.with_seen g.P.Part.reads g.P.Part.puts_back
     g.P.Part.puts_over)
-    (area_of (g.P.Part.part c.args.domain.now.protocol)) c.args.weak.slot (text_of
-    c.args.sought.now.text.now)
-    c.args.sought.now.head c.requires.sought.begins
-    c.args.seat.now c.is_payload.new.seat c.is_payload.new.seat c.is_payload.ensures.leaves
-    c.requires.owned
-    c.requires.saw c.is_payload.ensures.client
+    c.args.sighted c.args.seat.now c.is_payload.new.seat c.requires.sighted
+    c.is_payload.ensures.compares c.is_payload.ensures.objects c.is_payload.ensures.client c.requires.saw
 
 pub meet_long-requires-clause-head : goal.meet_long-requires-clause-head
 meet_long-requires-clause-head g c =
-    head_still c.args.domain.now
-    (place_of g.P.Part.seen g.P.Part.with_seen g.P.Part.reads g.P.Part.puts_back
+    head_then (place_of g.P.Part.seen g.P.Part.with_seen g.P.Part.reads g.P.Part.puts_back
     g.P.Part.puts_over)
-    (area_of (g.P.Part.part c.args.domain.now.protocol)) c.args.weak.slot (text_of
-    c.args.sought.now.text.now)
-    c.args.sought.now.head c.requires.sought.begins
-    c.args.seat.now c.is_payload.new.seat c.is_payload.new.seat c.is_payload.ensures.leaves
-    c.requires.owned
-    (ap (λ x. (object_in c.args.seat.now.view x).payload) (sym c.slot.ensures)
-    ∙ c.is_payload.ensures.same.0 c.if-not-is_payload.false)
+    c.args.sighted c.args.seat.now c.is_payload.new.seat c.requires.sighted
+    c.is_payload.ensures.compares c.is_payload.ensures.objects c.is_payload.ensures.client
+    c.args.sought.now.head (c.is_payload.ensures.same.0 c.if-not-is_payload.false)
+
+pub meet_long-requires-clause-free : goal.meet_long-requires-clause-free
+meet_long-requires-clause-free g c =
+    free_then (place_of g.P.Part.seen g.P.Part.with_seen g.P.Part.reads g.P.Part.puts_back
+    g.P.Part.puts_over)
+    c.args.sighted c.args.seat.now c.is_payload.new.seat c.requires.sighted
+    c.is_payload.ensures.compares c.is_payload.ensures.objects c.is_payload.ensures.client c.requires.free
 
 pub returns-clause-meets : goal.returns-clause-meets
 returns-clause-meets g c =
-    met_then c.args.domain.now
-    (place_of g.P.Part.seen g.P.Part.with_seen g.P.Part.reads g.P.Part.puts_back
+    met_then (place_of g.P.Part.seen g.P.Part.with_seen g.P.Part.reads g.P.Part.puts_back
     g.P.Part.puts_over)
-    (area_of (g.P.Part.part c.args.domain.now.protocol)) c.args.weak.slot (text_of
-    c.args.sought.now.text.now)
-    c.args.sought.now.head c.requires.sought.begins
-    c.args.seat.now c.is_payload.new.seat c.meet_long.new.seat c.is_payload.ensures.leaves
-    c.requires.owned
-    c.is_payload.ensures.client c.meet_long.result c.meet_long.ensures.meets
+    c.args.sighted c.args.seat.now c.is_payload.new.seat c.requires.sighted
+    c.is_payload.ensures.compares c.is_payload.ensures.objects c.is_payload.ensures.client
+    c.args.domain.now (area_of (g.P.Part.part c.args.domain.now.protocol)) c.meet_long.new.seat
+    (text_of c.args.sought.now.text.now) c.meet_long.result c.meet_long.ensures.meets
 
 pub returns-clause-leaves : goal.returns-clause-leaves
 returns-clause-leaves g c =
-    met_leaves c.args.domain.now
-    (place_of g.P.Part.seen g.P.Part.with_seen g.P.Part.reads g.P.Part.puts_back
+    leaves_then (place_of g.P.Part.seen g.P.Part.with_seen g.P.Part.reads g.P.Part.puts_back
     g.P.Part.puts_over)
-    (area_of (g.P.Part.part c.args.domain.now.protocol)) c.args.weak.slot (text_of
-    c.args.sought.now.text.now)
-    c.args.sought.now.head c.requires.sought.begins
-    c.args.seat.now c.is_payload.new.seat c.meet_long.new.seat c.is_payload.ensures.leaves
-    c.requires.owned
-    (met_by c.meet_long.result) c.meet_long.ensures.leaves
+    c.args.sighted c.args.seat.now c.is_payload.new.seat c.requires.sighted
+    c.is_payload.ensures.compares c.is_payload.ensures.objects c.is_payload.ensures.client
+    c.meet_long.new.seat (met_by c.meet_long.result) c.meet_long.ensures.leaves
 
 pub returns-clause-makes : goal.returns-clause-makes
 returns-clause-makes g c =
     c.meet_long.ensures.makes ∙ c.is_payload.ensures.makes
-
-pub meet_long-requires-clause-free : goal.meet_long-requires-clause-free
-meet_long-requires-clause-free g c =
-    free_still c.args.seat.now c.is_payload.new.seat c.is_payload.ensures.leaves.same
-    c.requires.free

@@ -1,9 +1,9 @@
 use Rattle.weak_intern.proofs.Sights.{free_still}
-use Rattle.std.proofs.Common.{arith, ◌∙◌, None}
+use Rattle.std.proofs.Common.{arith, ◌∙◌, ◌+◌, ◌≤◌, length, None}
 use Rattle.std.proofs.lemmas.Result.{err_from_is_err_and}
 use Rattle.directory_calls.specs.Directories.{area_of}
 use Rattle.record_making.specs.Texts.{text_of}
-use Rattle.weak_intern.proofs.Found.{around_found, at_cell, null_found, null_leaves, other_passed, record_found, record_leaves, refused_learns, refused_leaves, walk_leaves}
+use Rattle.weak_intern.proofs.Found.{around_found, at_cell, null_found, null_leaves, other_passed, record_costs, record_found, record_leaves, refused_learns, refused_leaves, walk_leaves, walks_none}
 use Rattle.directory_calls.proofs.Parts.{place_of}
 use Rattle.weak_intern.proofs.walking.seek.Goals as goal
 
@@ -14,7 +14,7 @@ returns-in_err-look-clause-learns g c =
     (place_of g.P.Part.seen g.P.Part.with_seen g.P.Part.reads g.P.Part.puts_back
     g.P.Part.puts_over)
     (area_of (g.P.Part.part c.args.domain.now.protocol)) (text_of c.args.sought.now.text.now)
-    c.args.seat.now
+    (length c.args.sought.now.text.now ≤ 120) c.args.seat.now
     c.loop-passed.passed c.loop-passed.seat
     c.look.new.seat c.loop-passed.invariant c.args.intern c.from_residual.result p.0 p.1
     c.in_err-look.ensures.learns
@@ -25,7 +25,7 @@ returns-in-Null-clause-comes g c =
     (place_of g.P.Part.seen g.P.Part.with_seen g.P.Part.reads g.P.Part.puts_back
     g.P.Part.puts_over)
     (area_of (g.P.Part.part c.args.domain.now.protocol)) (text_of c.args.sought.now.text.now)
-    c.args.seat.now
+    (length c.args.sought.now.text.now ≤ 120) c.args.seat.now
     c.loop-passed.passed c.loop-passed.seat
     c.look.new.seat c.loop-passed.invariant c.args.intern c.cell_on-cell.result
     c.in_ok-look.field-0 c.in-Null.is
@@ -42,7 +42,7 @@ returns-in-Null-clause-leaves g c =
     (place_of g.P.Part.seen g.P.Part.with_seen g.P.Part.reads g.P.Part.puts_back
     g.P.Part.puts_over)
     (area_of (g.P.Part.part c.args.domain.now.protocol)) (text_of c.args.sought.now.text.now)
-    c.args.seat.now
+    (length c.args.sought.now.text.now ≤ 120) c.args.seat.now
     c.loop-passed.passed c.loop-passed.seat
     c.look.new.seat c.loop-passed.invariant c.in_ok-look.field-0 c.in-Null.is
     c.in_ok-look.ensures.leaves
@@ -53,7 +53,7 @@ returns-in-Null-clause-learns g c =
     (place_of g.P.Part.seen g.P.Part.with_seen g.P.Part.reads g.P.Part.puts_back
     g.P.Part.puts_over)
     (area_of (g.P.Part.part c.args.domain.now.protocol)) (text_of c.args.sought.now.text.now)
-    c.args.seat.now
+    (length c.args.sought.now.text.now ≤ 120) c.args.seat.now
     c.loop-passed.passed c.loop-passed.seat
     c.look.new.seat c.loop-passed.invariant c.args.intern c.cell_on-cell.result
     c.in_ok-look.field-0 c.in-Null.is
@@ -70,7 +70,7 @@ returns-in-Record-clause-comes g c =
     (place_of g.P.Part.seen g.P.Part.with_seen g.P.Part.reads g.P.Part.puts_back
     g.P.Part.puts_over)
     (area_of (g.P.Part.part c.args.domain.now.protocol)) (text_of c.args.sought.now.text.now)
-    c.args.seat.now
+    (length c.args.sought.now.text.now ≤ 120) c.args.seat.now
     c.loop-passed.passed c.loop-passed.seat
     c.look.new.seat c.loop-passed.invariant c.args.intern c.cell_on-cell.result
     c.in_ok-look.field-0 c.in-Record.strong c.in-Record.is c.in_ok-look.ensures.meets
@@ -82,7 +82,7 @@ returns-in-Record-clause-leaves g c =
     (place_of g.P.Part.seen g.P.Part.with_seen g.P.Part.reads g.P.Part.puts_back
     g.P.Part.puts_over)
     (area_of (g.P.Part.part c.args.domain.now.protocol)) (text_of c.args.sought.now.text.now)
-    c.args.seat.now
+    (length c.args.sought.now.text.now ≤ 120) c.args.seat.now
     c.loop-passed.passed c.loop-passed.seat
     c.look.new.seat c.loop-passed.invariant c.in_ok-look.field-0 c.in-Record.strong c.in-Record.is
     c.in_ok-look.ensures.leaves
@@ -93,7 +93,7 @@ returns-in-Record-clause-learns g c =
     (place_of g.P.Part.seen g.P.Part.with_seen g.P.Part.reads g.P.Part.puts_back
     g.P.Part.puts_over)
     (area_of (g.P.Part.part c.args.domain.now.protocol)) (text_of c.args.sought.now.text.now)
-    c.args.seat.now
+    (length c.args.sought.now.text.now ≤ 120) c.args.seat.now
     c.loop-passed.passed c.loop-passed.seat
     c.look.new.seat c.loop-passed.invariant c.args.intern c.cell_on-cell.result
     c.in_ok-look.field-0 c.in-Record.strong c.in-Record.is c.in_ok-look.ensures.meets
@@ -105,7 +105,7 @@ loop-passed-preserved g c =
     (place_of g.P.Part.seen g.P.Part.with_seen g.P.Part.reads g.P.Part.puts_back
     g.P.Part.puts_over)
     (area_of (g.P.Part.part c.args.domain.now.protocol)) (text_of c.args.sought.now.text.now)
-    c.args.seat.now
+    (length c.args.sought.now.text.now ≤ 120) c.args.seat.now
     c.loop-passed.passed c.loop-passed.seat
     c.look.new.seat c.loop-passed.invariant c.args.intern c.cell_on-cell.result
     c.in_ok-look.field-0 c.in-Other.is
@@ -114,7 +114,8 @@ loop-passed-preserved g c =
     c.args.sought.now.hash c.loop-passed.passed c.args.directory.now.cells c.cell_on-cell.result
     c.requires.sought.place c.requires.over.cells c.cell_on-cell.ensures.cell)
     c.in_ok-look.ensures.meets c.in_ok-look.ensures.leaves c.in_ok-look.ensures.learns
-    c.in_ok-look.ensures.refused c.look.ensures.room c.look.ensures.rest c.look.ensures.makes
+    c.look.ensures.room c.look.ensures.rest c.look.ensures.makes
+    ((g.P.Part.part c.args.domain.now.protocol).first + c.cell_on-cell.result) c.in_ok-look.ensures.looks
 
 pub returns-clause-comes : goal.returns-clause-comes
 returns-clause-comes g c =
@@ -122,7 +123,7 @@ returns-clause-comes g c =
     (place_of g.P.Part.seen g.P.Part.with_seen g.P.Part.reads g.P.Part.puts_back
     g.P.Part.puts_over)
     (area_of (g.P.Part.part c.args.domain.now.protocol)) (text_of c.args.sought.now.text.now)
-    c.args.seat.now
+    (length c.args.sought.now.text.now ≤ 120) c.args.seat.now
     c.loop-passed.passed c.loop-passed.seat
     c.come_around.new.seat c.loop-passed.invariant
     (omega (arith, c.loop-passed-test.false, c.requires.over.cells))
@@ -156,7 +157,7 @@ returns-in_err-look-clause-leaves g c =
     (place_of g.P.Part.seen g.P.Part.with_seen g.P.Part.reads g.P.Part.puts_back
     g.P.Part.puts_over)
     (area_of (g.P.Part.part c.args.domain.now.protocol)) (text_of c.args.sought.now.text.now)
-    c.args.seat.now
+    (length c.args.sought.now.text.now ≤ 120) c.args.seat.now
     c.loop-passed.passed c.loop-passed.seat
     c.look.new.seat c.loop-passed.invariant c.from_residual.result p.0 p.1
     c.in_err-look.ensures.leaves
@@ -167,6 +168,26 @@ returns-clause-leaves g c =
     (place_of g.P.Part.seen g.P.Part.with_seen g.P.Part.reads g.P.Part.puts_back
     g.P.Part.puts_over)
     (area_of (g.P.Part.part c.args.domain.now.protocol)) (text_of c.args.sought.now.text.now)
-    c.args.seat.now
+    (length c.args.sought.now.text.now ≤ 120) c.args.seat.now
     c.loop-passed.passed c.loop-passed.seat
     c.come_around.new.seat c.loop-passed.invariant None c.come_around.ensures.leaves
+
+pub returns-in-Record-clause-costs : goal.returns-in-Record-clause-costs
+returns-in-Record-clause-costs g c =
+    record_costs c.args.domain.now
+    (place_of g.P.Part.seen g.P.Part.with_seen g.P.Part.reads g.P.Part.puts_back
+    g.P.Part.puts_over)
+    (area_of (g.P.Part.part c.args.domain.now.protocol)) (text_of c.args.sought.now.text.now)
+    (length c.args.sought.now.text.now ≤ 120) c.args.seat.now
+    c.loop-passed.passed c.loop-passed.seat
+    c.look.new.seat c.loop-passed.invariant
+    ((g.P.Part.part c.args.domain.now.protocol).first + c.cell_on-cell.result)
+    c.in_ok-look.field-0 c.in-Record.strong c.in-Record.is c.in_ok-look.ensures.looks
+
+pub loop-passed-init : goal.loop-passed-init
+loop-passed-init g c =
+    walks_none c.args.domain.now
+    (place_of g.P.Part.seen g.P.Part.with_seen g.P.Part.reads g.P.Part.puts_back
+    g.P.Part.puts_over)
+    (area_of (g.P.Part.part c.args.domain.now.protocol)) (text_of c.args.sought.now.text.now)
+    (length c.args.sought.now.text.now ≤ 120) c.args.seat.now c.requires.rest c.requires.room

@@ -1,0 +1,42 @@
+-- What the walk of a short text costs.
+use Rattle.std.specs.Prelude.{ℕ, ◌≡◌, ◌≢◌, ◌+◌, ◌≤◌, Bool, true, false, List, [], ◌∷◌, ◌++◌, length, Option, Some, None}
+use Rattle.plain_state.specs.declared.slot.SlotId.{SlotId}
+use Rattle.core_events.specs.declared.view.CoreView.{CoreView}
+use Rattle.core_events.specs.declared.view.Move.{Move}
+use Rattle.directory_law.specs.Views.{Each}
+use Rattle.weak_intern.specs.Sighting.{Visit, Visits, visited_by}
+
+-- the adds of a visit that found the zero flag
+abbrev pub dead_by : Option Bool → ℕ
+dead_by None = 0
+dead_by (Some true) = 0
+dead_by (Some false) = 1
+
+-- of these visits, the newest first
+abbrev pub ended_in : List Visit → ℕ
+ended_in [] = 0
+ended_in (x ∷ xs) = ended_in xs + dead_by x.how
+
+abbrev pub moves_of : List Visit → List Move
+moves_of [] = []
+moves_of (x ∷ xs) = moves_of xs ++ visited_by x
+
+-- a visit by which a walk passes a head: it reads at most 16 words of it, and counts nothing
+abbrev pub IsPassing : Visit → Type 0
+IsPassing x = (length x.words ≤ 16) × (x.how ≢ Some true)
+
+-- A seat has passed some heads, each by one visit, and has done nothing else. It has used an add for
+-- each one that had ended and that it asked for a reference.
+pub record PassesBy (v w : CoreView) : Type 0 where
+  pub visits : List Visit
+  pub passing : Each IsPassing visits
+  pub core :
+      w
+      ≡ record v {
+        adds = v.adds + ended_in visits;
+        trail = v.trail ++ moves_of visits;
+      }
+
+-- It has passed some, and then taken a reference to s, by one visit and for one add.
+abbrev pub TakesBy : SlotId → CoreView → CoreView → Type 0
+TakesBy s v w = (mid : CoreView) × PassesBy v mid × (i : ℕ) × Visits i s (Some true) mid w
