@@ -9,6 +9,7 @@ ghost use Rattle.handle_trials.specs.Free.{IsFree};
 
 use crate::Records;
 use crate::strong_turns::store_once;
+use crate::turns::reap_one;
 use acquire_retire::{Domain, OpenError, Quota, Seat, Shape, open_domain};
 use atomic_shared::{Lost, Place, store, try_replace};
 use control_word::{copy_strong, strong_count};
@@ -152,7 +153,7 @@ fn a_fourth_snapshot_takes_an_add(rt: HostRuntime) -> Result<(), Fail> {
     Ok(())
 }
 
-/// Stores so many objects, and tells the most entries that the seat had deferred after one of them.
+/// Stores so many objects, destroys what has ended, and tells the most entries that the seat had deferred after a store.
 fn store_all(domain: &Domain<Records>, seat: &mut Seat<Records>, stores: u32) -> u32
     requires free { IsFree domain.now seat.old }
     requires cells { 0 < domain.now.shape.cells }
@@ -161,32 +162,33 @@ fn store_all(domain: &Domain<Records>, seat: &mut Seat<Records>, stores: u32) ->
     let mut most = 0;
     for _store in 0..stores {
         store_once(domain, seat, 0);
-        let deferred = domain.deferred(seat);
-        if deferred > most {
-            most = deferred;
+        most = domain.deferred(seat).max(most);
+        // A reap that finds nothing ripe would scan, and so the seat would never have as many entries as it may.
+        if domain.next_ripe(seat).is_some() {
+            reap_one(domain, seat);
         }
     }
     most
 }
 
-/// A domain of three seats with one cell, and these seats. They scan at 24 deferred entries: one for each of the 12
-/// announcement words, and a batch of 12.
-fn open_three(rt: &HostRuntime) -> Result<(Domain<Records>, Vec<Seat<Records>>), OpenError>
+/// A domain of 32 seats with one cell, and these seats. They scan at 129 deferred entries: one for each of the 128
+/// announcement words, and a batch of one.
+fn open_most(rt: &HostRuntime) -> Result<(Domain<Records>, Vec<Seat<Records>>), OpenError>
     ensures free { IfOk result (λ opened. All (IsFree opened.0) opened.1.items) }
     ensures cells { IfOk result (λ opened. opened.0.shape.cells ≡ 1) }
 {
     let shape = Shape {
-        seats: 3,
+        seats: 32,
         slots: 1024,
         cells: 1,
         weak_cells: 0,
-        batch: 12,
+        batch: 1,
     };
     let quota = Quota {
-        makes: 1024,
-        adds: 1024,
+        makes: 200_000,
+        adds: 200_000,
     };
-    let opened = open_domain(rt.alloc(), shape, &[quota; 3], Records::new())?;
+    let opened = open_domain(rt.alloc(), shape, &[quota; 32], Records::new())?;
     Ok(opened)
 }
 
@@ -199,32 +201,69 @@ fn take_last(domain: &Domain<Records>, seats: &mut Vec<Seat<Records>>) -> Option
     seats.pop()
 }
 
-/// Takes three snapshots of what the cell holds, which last. Whether it got them without a count.
-fn look_thrice(domain: &Domain<Records>, seat: &mut Seat<Records>) -> bool
+/// Takes three snapshots of what the cell holds, each of another object, and all of them last. How many got no count.
+fn look_thrice(domain: &Domain<Records>, root: &mut Seat<Records>, seat: &mut Seat<Records>) -> u32
+    requires root { IsFree domain.now root.old }
     requires free { IsFree domain.now seat.old }
     requires cells { 0 < domain.now.shape.cells }
+    ensures { IsFree domain.now root.new }
 {
     let mut uncounted: u32 = 0;
     for _look in 0..3 {
+        store_once(domain, root, 0);
         if let Some(seen) = look_on(domain, seat) {
             if !counted(&seen) {
                 uncounted = uncounted.saturating_add(1);
             }
         }
     }
-    uncounted == 3
+    uncounted
 }
 
-/// Two seats hold three snapshots each, and never end them, while a third one stores 1,000 times.
+/// The last seat takes three snapshots that last. How many got no count.
+fn look_last(
+    domain: &Domain<Records>,
+    root: &mut Seat<Records>,
+    seats: &mut Vec<Seat<Records>>,
+) -> u32
+    requires root { IsFree domain.now root.old }
+    requires seats { All (IsFree domain.now) seats.old.items }
+    requires cells { 0 < domain.now.shape.cells }
+    ensures root { IsFree domain.now root.new }
+    ensures seats { All (IsFree domain.now) seats.new.items }
+{
+    match take_last(domain, seats) {
+        Some(mut seat) => look_thrice(domain, root, &mut seat),
+        None => 0,
+    }
+}
+
+/// Each of these seats takes three snapshots that last. How many got no count.
+fn look_all(
+    domain: &Domain<Records>,
+    root: &mut Seat<Records>,
+    seats: &mut Vec<Seat<Records>>,
+) -> u32
+    requires root { IsFree domain.now root.old }
+    requires seats { All (IsFree domain.now) seats.old.items }
+    requires cells { 0 < domain.now.shape.cells }
+    ensures { IsFree domain.now root.new }
+{
+    let mut uncounted: u32 = 0;
+    for _seat in 0..31 {
+        uncounted = uncounted.saturating_add(look_last(domain, root, seats));
+    }
+    uncounted
+}
+
+/// 31 seats hold three snapshots each, and never end them, while one seat stores 100,000 times: it defers the 93 objects
+/// that they hold, and never more than 129 entries. The others store nothing.
 #[test]
 fn snapshots_that_last_let_a_seat_defer_no_more(rt: HostRuntime) -> Result<(), Fail> {
-    let (domain, mut seats) = open_three(&rt)?;
-    let mut first = take_last(&domain, &mut seats).expect(&rt, "seat 2");
-    let mut second = take_last(&domain, &mut seats).expect(&rt, "seat 1");
-    let mut root = take_last(&domain, &mut seats).expect(&rt, "seat 0");
-    store_once(&domain, &mut root, 0);
-    assert!(rt; look_thrice(&domain, &mut first));
-    assert!(rt; look_thrice(&domain, &mut second));
-    assert!(rt; store_all(&domain, &mut root, 1000) <= 24);
+    let (domain, mut seats) = open_most(&rt)?;
+    let mut root = take_last(&domain, &mut seats).expect(&rt, "a seat");
+    assert_eq!(rt; look_all(&domain, &mut root, &mut seats), 93);
+    let most = store_all(&domain, &mut root, 100_000);
+    assert!(rt; most <= 129 && domain.deferred(&root) >= 93);
     Ok(())
 }

@@ -66,7 +66,7 @@ fn make_turn<R: Wait>(
 }
 
 /// Destroys one object that the seat has ended, if there is one.
-fn reap_one(domain: &Domain<Records>, seat: &mut Seat<Records>)
+pub(crate) fn reap_one(domain: &Domain<Records>, seat: &mut Seat<Records>)
     requires free { IsFree domain.now seat.old }
     ensures { IsFree domain.now seat.new }
 {
