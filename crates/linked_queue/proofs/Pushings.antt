@@ -122,4 +122,4 @@ pub never_pushed : (fits : List ℕ → Type 0) (d : DomainState QueueLaw) (n : 
     → (error ≡ refused.AddsSpent → IsSpent new.view.core) → IsWhyNeverPushed fits d error old new
 never_pushed fits d n refused.MakesSpent old new why spent = why
 never_pushed fits d n refused.AddsSpent old new why spent = spent refl
-never_pushed fits d n refused.Full old new why spent = (new, why)
+never_pushed fits d n refused.Full old new why spent = why

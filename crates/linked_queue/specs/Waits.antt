@@ -6,7 +6,7 @@ use Rattle.slot_store.specs.declared.making.MakeError.TheVariants as refused
 use Rattle.control_word.specs.Calls.{DropsStrong}
 use Rattle.control_word.specs.Resting.{IsSpent}
 use Rattle.slot_store.specs.Calls.{HasNoMake}
-use Rattle.slot_store.specs.Searching.{Misses}
+use Rattle.slot_store.specs.Searching.{Misses as MissesSlots}
 use Rattle.std.specs.Prelude.{ℕ, ◌≡◌, true, List, Option, None}
 use Rattle.plain_state.specs.declared.slot.SlotId.{SlotId}
 use Rattle.acquire_retire.specs.Domains.{DomainState}
@@ -64,8 +64,9 @@ module _ (fits : List ℕ → Type 0) (d : DomainState QueueLaw) where
     pub pushes : PushesNodeAtLast node loaded pushed
     pub drops : DropsStrong fits d item pushed new
 
-  -- why it pushed nothing: no make was left, or no slot was free, or the seat has no add left by now
+  -- why it pushed nothing: no make was left, or the seat has no add left by now, or no slot was free. Where it found
+  -- every slot taken, its tries are all events of the call
   abbrev pub IsWhyNeverPushed : MakeError → SeatState View → SeatState View → Type 0
   IsWhyNeverPushed refused.MakesSpent old new = HasNoMake old.view.core
   IsWhyNeverPushed refused.AddsSpent old new = IsSpent new.view.core
-  IsWhyNeverPushed refused.Full old new = (mid : SeatState View) × Misses fits d old mid
+  IsWhyNeverPushed refused.Full old new = MissesSlots fits d old new
