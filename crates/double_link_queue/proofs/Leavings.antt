@@ -21,12 +21,14 @@ use Rattle.control_word.specs.Resting.{IsSpent}
 use Rattle.control_word.specs.Moves.{KnowsStill}
 use Rattle.protected_loads.proofs.Telling.{holds_has}
 use Rattle.retiring_stores.specs.Exchanging.{Exchanges}
+use Rattle.linked_queue.proofs.Trails.{exchange_trail, trail_same}
 use Rattle.double_link_queue.specs.Leaving.{LeavesBoth, apart}
 use Rattle.double_link_queue.proofs.Owning.{holds_both}
 
 module _ {V : Type 0} (old new : SeatState V) where
   -- the seat has come to have v, but for its trail, and knows what it knew by `kept`
-  pub both_as : (v kept : CoreView) (ms : List Move) → new.view.core ≡ record v { trail = ms }
+  pub both_as : (v kept : CoreView) (ms : List Move)
+      → new.view.core ≡ record v { trail = old.view.core.trail ++ ms }
       → apart v ≡ apart old.view.core → old.view.core.adds ≤ v.adds → KnowsStill kept old new
       → ((x : SlotId) → Holds old.view.core x → Holds v x → Holds kept x)
       → LeavesBoth v.owned v.weaks old new
@@ -35,6 +37,7 @@ module _ {V : Type 0} (old new : SeatState V) where
     weakly = λ x. ap (λ (u : CoreView). times x u.weaks) core;
     same = ap apart core ∙ same;
     adds = (let is = ap (λ (u : CoreView). u.adds) core in omega arith);
+    trail = (ms, ap (λ (u : CoreView). u.trail) core);
     knows = λ x was is.
         knows x (holds_has kept x (holds x was (subst (λ (u : CoreView). Holds u x) core is)));
   }
@@ -48,6 +51,7 @@ module _ {V : Type 0} (old new : SeatState V) where
         weakly = λ x. refl;
         same = refl;
         adds = omega arith;
+        trail = trail_same old old refl;
         knows = λ x was is. refl;
       })
 
@@ -94,6 +98,7 @@ module _ {P V : Type 0} {fits : List ℕ → Type 0} {d : DomainState P}
         weakly = λ x. ap (λ (u : CoreView). times x u.weaks) rest;
         same = same;
         adds = omega arith;
+        trail = exchange_trail place m (Some s) held old new puts;
         knows = λ x was is.
             let strong = ap (λ (u : CoreView). times x u.owned) rest in
             let weak = ap (λ (u : CoreView). times x u.weaks) rest in

@@ -9,6 +9,7 @@ use Rattle.core_law.proofs.Kit.{one_other, one_same, slot_cases, times_none, tim
 use Rattle.acquire_retire.specs.Seats.{SeatState}
 use Rattle.linked_queue.specs.Leaving.{Leaves, with_found}
 use Rattle.linked_queue.proofs.Owning.{found_more}
+use Rattle.linked_queue.proofs.Trails.{trail_then}
 use Rattle.double_link_queue.specs.Leaving.{LeavesBoth, apart}
 
 -- what a seat holds beside what it owns is told by what stays
@@ -34,6 +35,7 @@ module _ {V : Type 0} where
     weakly = λ x. ap (λ (u : CoreView). times x u.weaks) l.same;
     same = ap (λ (u : CoreView). record u { weaks = [] }) l.same;
     adds = l.adds;
+    trail = l.trail;
     knows = l.knows;
   }
 
@@ -63,6 +65,7 @@ module _ {V : Type 0} where
     weakly = λ x. second.weakly x ∙ weak x;
     same = second.same ∙ first.same;
     adds = (let late = second.adds in let early = first.adds in omega arith);
+    trail = trail_then a b c first.trail second.trail;
     knows = λ x was is. second.knows x (mid x was is) is ∙ first.knows x was (mid x was is);
   }
 

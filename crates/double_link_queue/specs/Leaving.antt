@@ -6,20 +6,21 @@ use Rattle.core_events.specs.declared.view.CoreView.{CoreView}
 use Rattle.core_events.specs.Views.{Holds}
 use Rattle.domain_rule.specs.Views.{object_in}
 use Rattle.acquire_retire.specs.Seats.{SeatState}
-use Rattle.linked_queue.specs.Leaving.{aside}
+use Rattle.linked_queue.specs.Leaving.{TrailGoesOn, aside}
 
 -- what a seat has beside the references that it owns, strongly or weakly, and beside what `aside` leaves out
 abbrev pub apart : CoreView → CoreView
 apart v = record (aside v) { weaks = [] }
 
--- The seat owns these references strongly and these weakly, each in some order, and takes no add back. What it has
--- beside is as it was, and so is what it knows of the objects that it held and still holds.
+-- The seat owns these references strongly and these weakly, each in some order, takes no add back, and its trail goes
+-- on. What it has beside is as it was, and so is what it knows of the objects that it held and still holds.
 pub record LeavesBoth {V : Type 0} (owned weaks : List SlotId) (old new : SeatState V) : Type 0
   where
     pub owns : (x : SlotId) → times x new.view.core.owned ≡ times x owned
     pub weakly : (x : SlotId) → times x new.view.core.weaks ≡ times x weaks
     pub same : apart new.view.core ≡ apart old.view.core
     pub adds : old.view.core.adds ≤ new.view.core.adds
+    pub trail : TrailGoesOn old new
     pub knows :
         (x : SlotId) → Holds old.view.core x → Holds new.view.core x
         → object_in new.view x ≡ object_in old.view x

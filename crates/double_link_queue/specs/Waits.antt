@@ -9,7 +9,7 @@ use Rattle.queue_protocol.specs.declared.law.QueueLaw.{QueueLaw}
 use Rattle.linked_queue.specs.Pushes.{LoadsNode}
 use Rattle.double_link_queue.specs.Leaving.{LeavesBoth}
 use Rattle.double_link_queue.specs.Pushes.{beside_back}
-use Rattle.double_link_queue.specs.Steps.{Lands, TakesLast}
+use Rattle.double_link_queue.specs.Steps.{Lands, LosesLast, TakesLast}
 
 -- A try pushed nothing: the seat has what it had, and of its view all is as it was but what it sees, and where its own
 -- node leads back.
@@ -18,6 +18,10 @@ pub record TriesNothing (old new : SeatState View) : Type 0 where
   pub beside : beside_back new.view.client ≡ beside_back old.view.client
 
 module _ (fits : List ℕ → Type 0) (d : DomainState QueueLaw) where
+  -- a try to push some node was lost
+  abbrev pub LosesAnyNode : ℕ → ℕ → SeatState View → SeatState View → Type 0
+  LosesAnyNode seen now old new = (node : SlotId) × LosesLast fits d node seen now old new
+
   -- Its tries pushed nothing, and at the last one it took the tail cell.
   pub record TakesAtLast (last node : SlotId) (old new : SeatState View) : Type 0 where
     pub before : SeatState View

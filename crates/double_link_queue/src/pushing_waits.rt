@@ -4,6 +4,7 @@ ghost use Rattle.plain_state.specs.Lists.{times};
 ghost use Rattle.core_events.specs.Steps.{HasRoom};
 ghost use Rattle.core_events.specs.Views.{without};
 ghost use Rattle.control_word.specs.Resting.{IsAtRest, IsSpent};
+ghost use Rattle.slot_store.specs.declared.making.MakeError.TheVariants as unmade;
 ghost use Rattle.queue_law.specs.declared.view.Form.TheVariants.{Double};
 ghost use Rattle.queue_law.specs.Pushes.{carried_item};
 ghost use Rattle.queue_law.specs.Views.{first_view};
@@ -15,8 +16,8 @@ ghost use Rattle.linked_queue.specs.Queues.{IsAttached, deeds_in};
 ghost use Rattle.double_link_queue.specs.Leaving.{LeavesBoth};
 ghost use Rattle.double_link_queue.specs.Pushes.{IsInFlight, Pushes, PushesNothing, beside_back, landed_in};
 ghost use Rattle.double_link_queue.specs.Queues.{IsDoubleOf};
-ghost use Rattle.double_link_queue.specs.Waits.{PushesAtLast, PushesNodeAtLast, TakesAtLast};
-ghost use Rattle.linked_queue.specs.Waits.{IsWhyNeverPushed};
+ghost use Rattle.double_link_queue.specs.Waits.{LosesAnyNode, PushesAtLast, PushesNodeAtLast, TakesAtLast};
+ghost use Rattle.linked_queue.specs.Waits.{IsWhyNeverPushed, IsWhyShort};
 
 use crate::chaining::take_last;
 use crate::exchanging::land;
@@ -35,9 +36,9 @@ use std::sync::Wait;
 impl DoubleQueue {
     /// Appends an item to the queue, and gives the seat's reference to it. It tries again as long as another seat is
     /// quicker, with the node that it made first, so it may wait for other threads. It is refused with the causes of
-    /// `make`; `AddsSpent` may come of a later increment of the call, and no add is left then. Where it is refused
-    /// nothing is pushed, and the item is handed back. One make at most, and none where `make` has refused for the
-    /// makes or the slots.
+    /// `make`; `AddsSpent` may come of a later increment of the call, and no add is left then: at most seven were left
+    /// at the entry, or a try was lost. Where it is refused nothing is pushed, and the item is handed back. One make at
+    /// most, and none where `make` has refused for the makes or the slots.
     pub fn push<S, P: HasQueue<S>, R: Wait>(
         &self,
         rt: &R,
@@ -63,6 +64,9 @@ impl DoubleQueue {
         ensures why { IfErr result (λ refused. IsWhyNeverPushed P.Kind.fits
             (as_part P.part domain.now) refused.why (seen_by P.seen seat.old)
             (seen_by P.seen seat.new)) }
+        ensures short { IfErr result (λ refused. refused.why ≡ unmade.AddsSpent
+            → IsWhyShort 7 (LosesAnyNode P.Kind.fits (as_part P.part domain.now))
+            (seen_by P.seen seat.old) (seen_by P.seen seat.new)) }
         ensures makes_kept { seat.old.view.core.makes ≤ seat.new.view.core.makes }
         ensures unmade { IfErr result
             (λ refused. UsesNone (Some refused.why) seat.old.view.core seat.new.view.core) }
@@ -116,6 +120,9 @@ fn push_at_last<S, P: HasQueue<S>, R: Wait>(
     ensures leaves { LeavesBoth (without node.slot seat.old.view.core.owned)
         seat.old.view.core.weaks (seen_by P.seen seat.old) (seen_by P.seen seat.new) }
     ensures why { OnErr result (IsSpent seat.new.view.core) }
+    ensures short { OnErr result (IsWhyShort 5
+        (LosesAnyNode P.Kind.fits (as_part P.part domain.now)) (seen_by P.seen seat.old)
+        (seen_by P.seen seat.new)) }
     ensures beside_part { HasBeside P.with_seen first_view seat.old seat.new }
     ensures room { HasRoom seat.new.view.core }
     ensures rest { IsAtRest domain.now seat.new }
@@ -162,6 +169,9 @@ fn take_at_last<S, P: HasQueue<S>, R: Wait>(
     ensures leaves { LeavesBoth (with_found (handle_by result) seat.old.view.core.owned)
         seat.old.view.core.weaks (seen_by P.seen seat.old) (seen_by P.seen seat.new) }
     ensures why { OnErr result (IsSpent seat.new.view.core) }
+    ensures short { OnErr result (IsWhyShort 5
+        (LosesAnyNode P.Kind.fits (as_part P.part domain.now)) (seen_by P.seen seat.old)
+        (seen_by P.seen seat.new)) }
     ensures beside_part { HasBeside P.with_seen first_view seat.old seat.new }
     ensures room { HasRoom seat.new.view.core }
     ensures rest { IsAtRest domain.now seat.new }

@@ -1,4 +1,4 @@
--- What a push leaves, on a queue of either form, and why nothing was pushed.
+-- What a push does and leaves, on a queue of either form, and why nothing was pushed.
 use Rattle.std.specs.Prelude.{ℕ, ◌≡◌, List}
 use Rattle.plain_state.specs.declared.slot.SlotId.{SlotId}
 use Rattle.core_events.specs.Views.{without}
@@ -13,11 +13,13 @@ use Rattle.linked_queue.specs.declared.queue.PushError.{PushError}
 use Rattle.linked_queue.specs.declared.queue.PushError.TheVariants as unpushed
 use Rattle.linked_queue.specs.Pops.{item_in}
 use Rattle.linked_queue.specs.PushLosses.{LosesPush}
-use Rattle.linked_queue.specs.Pushes.{IsWhyRefused, pushed_too}
+use Rattle.linked_queue.specs.Pushes.{IsWhyRefused, PushesBy, pushed_too}
 use Rattle.linked_queue.specs.Queues.{deeds_in}
+use Rattle.linked_queue.specs.Waits.{LosesAnyNode, PushesAtLast}
 use Rattle.double_link_queue.specs.Leaving.{LeavesBoth}
 use Rattle.double_link_queue.specs.Pushes.{landed_in}
 use Rattle.double_link_queue.specs.Steps as double
+use Rattle.double_link_queue.specs.Waits as double_waits
 
 -- all of a view but its notes on single nodes, those of a push in flight too: what the seat pushed and popped, who it
 -- is, and how far it has laid the queue
@@ -38,10 +40,25 @@ most_adds Linked = 5
 most_adds Double = 7
 
 module _ (fits : List ℕ → Type 0) (d : DomainState QueueLaw) where
+  -- all events of a push that answered, on a queue of this form
+  abbrev pub PushesIn : Form → SlotId → SeatState View → SeatState View → Type 0
+  PushesIn Linked item old new = PushesBy fits d item old new
+  PushesIn Double item old new = double.PushesBy fits d item old new
+
+  -- of one that tries again: its tries pushed nothing, and the last one did
+  abbrev pub PushesAtLastIn : Form → SlotId → SeatState View → SeatState View → Type 0
+  PushesAtLastIn Linked item old new = PushesAtLast fits d item old new
+  PushesAtLastIn Double item old new = double_waits.PushesAtLast fits d item old new
+
   -- all events of a push that was lost, on a queue of this form: a place showed `seen` and then `now` to two of them
   abbrev pub DiffersIn : Form → SlotId → ℕ → ℕ → SeatState View → SeatState View → Type 0
   DiffersIn Linked item seen now old new = LosesPush fits d item seen now old new
   DiffersIn Double item seen now old new = double.LosesPush fits d item seen now old new
+
+  -- a try to push some node was lost
+  abbrev pub LosesNodeIn : Form → ℕ → ℕ → SeatState View → SeatState View → Type 0
+  LosesNodeIn Linked = LosesAnyNode fits d
+  LosesNodeIn Double = double_waits.LosesAnyNode fits d
 
   -- why nothing was pushed: another seat was quicker, or `make` has refused, or the adds that were left were too few
   abbrev pub IsWhyUnpushed : SlotId → PushError → SeatState View → SeatState View → Type 0

@@ -6,20 +6,20 @@ ghost use Rattle.domain_rule.specs.Views.{IsAlone};
 ghost use Rattle.acquire_retire.specs.Domains.{DomainState};
 ghost use Rattle.atomic_shared.specs.Places.{named};
 ghost use Rattle.control_word.specs.Resting.{IsAtRest, IsSpent};
-ghost use Rattle.slot_store.specs.declared.making.MakeError.TheVariants as refused;
+ghost use Rattle.slot_store.specs.declared.making.MakeError.TheVariants as unmade;
 ghost use Rattle.part_calls.specs.Parts.{StaysBeside, as_part, seen_by};
 ghost use Rattle.queue_protocol.specs.declared.law.QueueLaw.{QueueLaw};
 ghost use Rattle.linked_queue.specs.declared.queue.PopError.TheVariants as unpopped;
 ghost use Rattle.linked_queue.specs.Attaching.{LooksAtHead, attached_in, is_slot};
 ghost use Rattle.linked_queue.specs.Leaving.{Leaves, found_by};
-ghost use Rattle.linked_queue.specs.Losses.{IsWhyUnpopped};
+ghost use Rattle.linked_queue.specs.Losses.{IsWhyUnpopped, LosesAtHead};
 ghost use Rattle.linked_queue.specs.Pops.{OwnsBoth, Pops, PopsAtHead, PopsAtHeadWith, PopsWith, both_by, item_in, named_both};
 ghost use Rattle.linked_queue.specs.Pushes.{UsesNone, back_of, cause_of};
 ghost use Rattle.linked_queue.specs.Queues.{IsAttached, ends_of};
 ghost use Rattle.linked_queue.specs.Shuts.{CanShut, Shuts, shut_in};
-ghost use Rattle.linked_queue.specs.Waits.{AttachesAtLast, IsWhyNeverPushed, PopsAtLast};
+ghost use Rattle.linked_queue.specs.Waits.{AttachesAtLast, IsWhyNeverPushed, IsWhyShort, PopsAtLast};
 ghost use Rattle.double_link_queue.specs.Pushes.{PushesNothing};
-ghost use Rattle.hand_queues.specs.Pushes.{IsWhyUnpushed, Pushes};
+ghost use Rattle.hand_queues.specs.Pushes.{IsWhyUnpushed, LosesNodeIn, Pushes, PushesAtLastIn, PushesIn, most_adds};
 
 use acquire_retire::{Domain, Seat};
 use counted_handles::{Spent, Strong};
@@ -86,6 +86,9 @@ pub trait HandQueue {
         requires item { 0 < times item.slot seat.old.view.core.owned }
         requires may { P.may_push domain.now.protocol seat.old.view.client
             (item_in (seen_by P.seen seat.old) item.slot) }
+        ensures events { IfOk result (λ done. PushesIn P.Kind.fits (as_part P.part domain.now)
+            (P.part domain.now.protocol).form item.slot (seen_by P.seen seat.old)
+            (seen_by P.seen seat.new)) }
         ensures pushed { IfOk result
             (λ done. Pushes item.slot (seen_by P.seen seat.old) (seen_by P.seen seat.new)) }
         ensures refused { OnErr result
@@ -96,7 +99,7 @@ pub trait HandQueue {
         ensures why { IfErr result
             (λ error. IsWhyUnpushed P.Kind.fits (as_part P.part domain.now) item.slot error
             (seen_by P.seen seat.old) (seen_by P.seen seat.new)) }
-        ensures spent { IfErr result (λ error. cause_of error ≡ Some refused.AddsSpent
+        ensures spent { IfErr result (λ error. cause_of error ≡ Some unmade.AddsSpent
             → IsSpent seat.new.view.core) }
         ensures makes { seat.new.view.core.makes ≤ seat.old.view.core.makes + 1 }
         ensures makes_kept { seat.old.view.core.makes ≤ seat.new.view.core.makes }
@@ -109,9 +112,9 @@ pub trait HandQueue {
 
     /// Appends an item to the queue, and gives the seat's reference to it. It tries again as long as another seat is
     /// quicker, with the node that it made first, so it may wait for other threads. It is refused with the causes of
-    /// `make`; `AddsSpent` may come of a later increment of the call, and no add is left then. Where it is refused
-    /// nothing is pushed, and the item is handed back. One make at most, and none where `make` has refused for the
-    /// makes or the slots.
+    /// `make`; `AddsSpent` may come of a later increment of the call, and no add is left then: at most five were left at
+    /// the entry, or seven on a doubly linked queue, or a try was lost. Where it is refused nothing is pushed, and the
+    /// item is handed back. One make at most, and none where `make` has refused for the makes or the slots.
     fn push<S, P: HasQueue<S>, R: Wait>(
         &self,
         rt: &R,
@@ -126,6 +129,9 @@ pub trait HandQueue {
         requires item { 0 < times item.slot seat.old.view.core.owned }
         requires may { P.may_push domain.now.protocol seat.old.view.client
             (item_in (seen_by P.seen seat.old) item.slot) }
+        ensures events { IfOk result (λ done. PushesAtLastIn P.Kind.fits
+            (as_part P.part domain.now) (P.part domain.now.protocol).form item.slot
+            (seen_by P.seen seat.old) (seen_by P.seen seat.new)) }
         ensures pushed { IfOk result (λ done. Pushes item.slot (seen_by P.seen seat.old)
             (seen_by P.seen seat.new)) }
         ensures refused { OnErr result (PushesNothing (seen_by P.seen seat.old)
@@ -135,6 +141,11 @@ pub trait HandQueue {
             0 < times refused.back.slot seat.new.view.core.owned) }
         ensures why { IfErr result (λ refused. IsWhyNeverPushed P.Kind.fits
             (as_part P.part domain.now) refused.why (seen_by P.seen seat.old)
+            (seen_by P.seen seat.new)) }
+        ensures short { IfErr result (λ refused. refused.why ≡ unmade.AddsSpent
+            → IsWhyShort (most_adds (P.part domain.now.protocol).form)
+            (LosesNodeIn P.Kind.fits (as_part P.part domain.now)
+            (P.part domain.now.protocol).form) (seen_by P.seen seat.old)
             (seen_by P.seen seat.new)) }
         ensures makes { seat.new.view.core.makes ≤ seat.old.view.core.makes + 1 }
         ensures makes_kept { seat.old.view.core.makes ≤ seat.new.view.core.makes }
@@ -213,8 +224,9 @@ pub trait HandQueue {
 
     /// Takes the first item off the queue, and answers a reference to it. It tries again as long as another seat is
     /// quicker, so it may wait for other threads. `None` only where nothing was linked behind the head's node at a step
-    /// of this call, and `Spent` only where no add is left: an increment of the last try found none. Then nothing is
-    /// taken, and the seat owns what it owned. No make. At most 29 steps and two collects for each try.
+    /// of this call. `Spent` only where no add is left: an increment of the last try found none, and at most three were
+    /// left at the entry, or another try was lost before. Then nothing is taken, and the seat owns what it owned. No
+    /// make. At most 29 steps and two collects for each try.
     fn pop<S, P: HasQueue<S>, R: Wait>(
         &self,
         rt: &R,
@@ -232,6 +244,9 @@ pub trait HandQueue {
         ensures owned { IfOk result (λ found. IfSome found (λ item.
             0 < times item.slot seat.new.view.core.owned)) }
         ensures why { OnErr result (IsSpent seat.new.view.core) }
+        ensures short { OnErr result (IsWhyShort 3
+            (LosesAtHead P.Kind.fits (as_part P.part domain.now) None) (seen_by P.seen seat.old)
+            (seen_by P.seen seat.new)) }
         ensures makes { seat.new.view.core.makes ≡ seat.old.view.core.makes }
         ensures attached { IsAttached (P.seen seat.new.view.client) }
         ensures beside { StaysBeside P.seen P.with_seen seat.old seat.new }

@@ -9,6 +9,7 @@ use Rattle.acquire_retire.specs.Seats.{SeatState}
 use Rattle.linked_queue.specs.Leaving.{Leaves, with_found}
 use Rattle.linked_queue.specs.Pops.{with_both}
 use Rattle.linked_queue.proofs.Owning.{found_more, holds_more}
+use Rattle.linked_queue.proofs.Trails.{trail_then}
 
 and_none : (a b : ℕ) → b ≡ 0 → a ≡ a + b
 and_none a b none = omega arith
@@ -87,6 +88,7 @@ module _ {V : Type 0} (n : SlotId) (found : Option (SlotId × Option SlotId)) (a
         goes.owns x;
     same = gives.same ∙ goes.same ∙ gains.same;
     adds = (let x = gains.adds in let y = goes.adds in let z = gives.adds in omega arith);
+    trail = trail_then a b e gains.trail (trail_then b c e goes.trail gives.trail);
     knows = λ x was is.
         gives.knows x (held_late x is) is
         ∙ goes.knows x (held_mid x was) (held_late x is)

@@ -23,6 +23,7 @@ use Rattle.protected_loads.proofs.Telling.{holds_has}
 use Rattle.retiring_stores.specs.Exchanging.{Exchanges}
 use Rattle.linked_queue.specs.Leaving.{Leaves, aside}
 use Rattle.linked_queue.proofs.Owning.{holds_more}
+use Rattle.linked_queue.proofs.Trails.{exchange_trail, trail_same}
 
 -- what follows for what two clauses say of each value follows for that of a result
 pub then_ok_both : {T E : Type 0} (P Q R : T → Type 0) (r : Result T E)
@@ -46,26 +47,35 @@ spent_still {V = V} why (Err e) old new same spent = λ is.
 
 module _ {V : Type 0} (old new : SeatState V) where
   -- the seat has come to have v, but for its trail, and knows what it knew by `kept`
-  pub leaves_as : (v kept : CoreView) (ms : List Move) → new.view.core ≡ record v { trail = ms }
+  pub leaves_as : (v kept : CoreView) (ms : List Move)
+      → new.view.core ≡ record v { trail = old.view.core.trail ++ ms }
       → aside v ≡ aside old.view.core → old.view.core.adds ≤ v.adds → KnowsStill kept old new
       → ((x : SlotId) → Holds old.view.core x → Holds v x → Holds kept x) → Leaves v.owned old new
   leaves_as v kept ms core same adds knows holds = record {
     owns = λ x. ap (λ (u : CoreView). times x u.owned) core;
     same = ap aside core ∙ same;
     adds = (let is = ap (λ (u : CoreView). u.adds) core in omega arith);
+    trail = (ms, ap (λ (u : CoreView). u.trail) core);
     knows = λ x was is.
         knows x (holds_has kept x (holds x was (subst (λ (u : CoreView). Holds u x) core is)));
   }
 
   -- only its trail has grown
-  pub leaves_all : (ms : List Move) → new.view.core ≡ record old.view.core { trail = ms }
+  pub leaves_all : (ms : List Move)
+      → new.view.core ≡ record old.view.core { trail = old.view.core.trail ++ ms }
       → KnowsStill old.view.core old new → Leaves old.view.core.owned old new
   leaves_all ms core knows =
       leaves_as old.view.core old.view.core ms core refl (omega arith) knows (λ x was is. was)
 
   pub leaves_same : new ≡ old → Leaves old.view.core.owned old new
   leaves_same is = subst (λ (z : SeatState V). Leaves old.view.core.owned old z) (sym is)
-      (record { owns = λ x. refl; same = refl; adds = omega arith; knows = λ x was is. refl })
+      (record {
+        owns = λ x. refl;
+        same = refl;
+        adds = omega arith;
+        trail = trail_same old old refl;
+        knows = λ x was is. refl;
+      })
 
 ended_same : (b : Bool) (s : SlotId) (v : CoreView)
     → ((with_ended b s v).owned ≡ v.owned) × (aside (with_ended b s v) ≡ aside v)
@@ -110,6 +120,7 @@ module _ {P V : Type 0} {fits : List ℕ → Type 0} {d : DomainState P} (s : Sl
         owns = λ x. ap (λ (u : CoreView). times x u.owned) drops.1.core ∙ ap (times x) ended.0;
         same = ap aside drops.1.core ∙ ended.1;
         adds = (let is = drop_adds drops in omega arith);
+        trail = (_, ap (λ (u : CoreView). u.trail) drops.1.core);
         knows = λ x was is.
             let owned = ap (λ (u : CoreView). times x u.owned) drops.1.core ∙ ap (times x) ended.0 in
             knows x (holds_has v x (holds_more x new.view.core v
@@ -136,6 +147,7 @@ module _ {P V : Type 0} {fits : List ℕ → Type 0} {d : DomainState P}
         same = same ∙ given_aside given old.view.core;
         adds = (let is = ap (λ (u : CoreView). u.adds) rest ∙ given_adds given old.view.core in
             omega arith);
+        trail = exchange_trail place m given held old new puts;
         knows = λ x was is.
             let owned = ap (λ (u : CoreView). times x u.owned) rest in
             knows x (holds_has v x (holds_more x new.view.core v same (omega arith) is));

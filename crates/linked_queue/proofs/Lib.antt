@@ -1,3 +1,4 @@
+pub mod Trails
 pub mod Owning
 pub mod Leavings
 pub mod Looks
@@ -17,6 +18,7 @@ pub mod Poppings
 pub mod Carryings
 pub mod Linkings
 pub mod Pushings
+pub mod Shortages
 pub mod Attached
 pub mod HandedBack
 pub mod Accepting

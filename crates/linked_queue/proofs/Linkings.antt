@@ -37,6 +37,7 @@ use Rattle.linked_queue.specs.Seeing.{IsWhyUnread}
 use Rattle.linked_queue.proofs.Leavings.{copy_leaves, drop_leaves, leaves_all, leaves_same}
 use Rattle.linked_queue.proofs.Owning.{has_owned, holds_more, own_life, own_payload, still_owned, through}
 use Rattle.linked_queue.proofs.Takings.{is_done}
+use Rattle.linked_queue.proofs.Trails.{trail_then}
 
 -- an exchange that was lost leaves what the seat has
 pub lost_keeps : (fits : List ℕ → Type 0) (d : DomainState QueueLaw) {next : OwnPart → OwnPart → View → PlainAct → ℕ → View}
@@ -62,6 +63,7 @@ then_gives n a b c some' first more = record {
       let still = times_without x n b.view.core.owned (omega arith) in omega arith;
   same = more.same ∙ first.same;
   adds = (let late = more.adds in let early = first.adds in omega arith);
+  trail = trail_then a b c first.trail more.trail;
   knows = λ x was is.
       let f = first.owns x in
       let mid = holds_more x a.view.core b.view.core (sym first.same) (omega arith) was in

@@ -15,6 +15,7 @@ use Rattle.acquire_retire.specs.Seats.{SeatState}
 use Rattle.protected_loads.proofs.Telling.{holds_has}
 use Rattle.queue_law.specs.Words.{life_in, life_of, payload_in, payload_of}
 use Rattle.linked_queue.specs.Leaving.{Leaves, aside, with_found}
+use Rattle.linked_queue.proofs.Trails.{trail_then}
 
 -- WHAT A SEAT HAS it knows by its own part
 module _ {V : Type 0} (s : SlotId) (seat : SeatState V) where
@@ -123,6 +124,7 @@ module _ {V : Type 0} (n : SlotId) (found : Option SlotId) (a b c e : SeatState 
         goes.owns x;
     same = gives.same ∙ goes.same ∙ gains.same;
     adds = (let x = gains.adds in let y = goes.adds in let z = gives.adds in omega arith);
+    trail = trail_then a b e gains.trail (trail_then b c e goes.trail gives.trail);
     knows = λ x was is.
         gives.knows x (held_late x is) is
         ∙ goes.knows x (held_mid x was) (held_late x is)

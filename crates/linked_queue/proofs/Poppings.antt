@@ -18,6 +18,7 @@ use Rattle.linked_queue.specs.Pops.{Pops, PopsAtHead, PopsAtHeadWith, PopsWith, 
 use Rattle.linked_queue.specs.Queues.{deeds_in}
 use Rattle.linked_queue.proofs.Owning.{found_more, holds_more}
 use Rattle.linked_queue.proofs.Both.{both_found, through_both}
+use Rattle.linked_queue.proofs.Trails.{trail_then}
 
 -- LEVELS
 pub some_found : (s : SlotId) (xs : List SlotId) → 0 < times s (xs ++ s ∷ [])
@@ -62,6 +63,7 @@ leaves_on xs x y z first more = record {
   owns = λ w. more.owns w ∙ first.owns w;
   same = more.same ∙ first.same;
   adds = (let late = more.adds in let early = first.adds in omega arith);
+  trail = trail_then x y z first.trail more.trail;
   knows = λ w was is.
       let at = more.owns w in
       let mid = holds_more w z.view.core y.view.core more.same (omega arith) is in
@@ -85,6 +87,7 @@ module _ (s : SlotId) (content : Option SlotId) (a b c : SeatState View)
         ∙ found_again content x b.view.core.owned (a.view.core.owned ++ s ∷ []) (loads.owns x);
     same = takes.same ∙ loads.same;
     adds = (let late = takes.adds in let early = loads.adds in omega arith);
+    trail = trail_then a b c loads.trail takes.trail;
     knows = λ x was is.
         let first = loads.owns x in
         let push = times_push x s a.view.core.owned in
@@ -150,6 +153,7 @@ leaves_then found a b c none leaves = record {
       ∙ found_again found x b.view.core.owned a.view.core.owned (none.owns x);
   same = leaves.same ∙ none.same;
   adds = (let late = leaves.adds in let early = none.adds in omega arith);
+  trail = trail_then a b c none.trail leaves.trail;
   knows = λ x was is.
       let first = none.owns x in
       let mid = holds_more x a.view.core b.view.core (sym none.same) (omega arith) was in

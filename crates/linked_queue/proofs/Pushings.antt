@@ -1,5 +1,5 @@
 -- What a push leaves of a seat, level by level.
-use Rattle.std.proofs.Common.{◌≡◌, ◌≢◌, ⊎_elim, ◌<◌, ℕ, List, [], ◌∷◌, ◌++◌, refl, ap, sym, ◌∙◌, subst, arith}
+use Rattle.std.proofs.Common.{◌≡◌, ◌≢◌, ⊎_elim, ◌<◌, ◌≤◌, ℕ, List, [], ◌∷◌, ◌++◌, refl, ap, sym, ◌∙◌, subst, arith}
 use Rattle.plain_state.specs.declared.slot.SlotId.{SlotId}
 use Rattle.plain_state.specs.Lists.{times}
 use Rattle.plain_protocol.specs.Owns.{Object}
@@ -15,11 +15,12 @@ use Rattle.queue_protocol.specs.declared.law.QueueLaw.{QueueLaw}
 use Rattle.queue_law.specs.declared.view.Load.{Load}
 use Rattle.queue_law.specs.declared.view.View.{View}
 use Rattle.linked_queue.specs.Leaving.{Leaves}
-use Rattle.linked_queue.specs.Nodes.{HasNode}
+use Rattle.linked_queue.specs.Nodes.{HasFewAdds, HasNode}
 use Rattle.linked_queue.specs.Pushes.{HasLoad, IsWhyRefused}
 use Rattle.linked_queue.specs.Queues.{beside_eyes}
 use Rattle.linked_queue.specs.Waits.{IsWhyNeverPushed}
 use Rattle.linked_queue.proofs.Owning.{holds_more}
+use Rattle.linked_queue.proofs.Trails.{trail_then}
 
 -- A NODE OF THE SEAT'S OWN stays so, while the seat owns it and its view tells it
 pub node_still : (s : SlotId) (old new : SeatState View) → HasNode s old
@@ -101,6 +102,8 @@ module _ (n l : SlotId) (a b c e f : SeatState View) (some_n : 0 < times n a.vie
     same = last.same ∙ gives.same ∙ goes.same ∙ gains.same;
     adds = (let x = gains.adds in let y = goes.adds in let z = gives.adds in let u = last.adds in
         omega arith);
+    trail = trail_then a b f gains.trail
+        (trail_then b c f goes.trail (trail_then c e f gives.trail last.trail));
     knows = λ x was is.
         let p = gains.owns x in
         let q = goes.owns x in
@@ -122,4 +125,12 @@ pub never_pushed : (fits : List ℕ → Type 0) (d : DomainState QueueLaw) (n : 
     → (error ≡ refused.AddsSpent → IsSpent new.view.core) → IsWhyNeverPushed fits d error old new
 never_pushed fits d n refused.MakesSpent old new why spent = why
 never_pushed fits d n refused.AddsSpent old new why spent = spent refl
-never_pushed fits d n refused.Full old new why spent = (new, why)
+never_pushed fits d n refused.Full old new why spent = why
+
+-- where it was for want of adds, few were left
+pub few_made : (fits : List ℕ → Type 0) (d : DomainState QueueLaw) (k n : ℕ) → k ≤ n
+    → (error : MakeError) (old new : SeatState View) → error ≡ refused.AddsSpent
+    → IsWhyRefused fits d k error old new → HasFewAdds n old.view.core
+few_made fits d k n less refused.MakesSpent old new is why = absurd (cc (is))
+few_made fits d k n less refused.AddsSpent old new is why = omega arith
+few_made fits d k n less refused.Full old new is why = absurd (cc (is))

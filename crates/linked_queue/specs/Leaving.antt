@@ -3,6 +3,7 @@ use Rattle.std.specs.Prelude.{◌≡◌, ◌≤◌, List, [], ◌∷◌, ◌++�
 use Rattle.plain_state.specs.declared.slot.SlotId.{SlotId}
 use Rattle.plain_state.specs.Lists.{times}
 use Rattle.core_events.specs.declared.view.CoreView.{CoreView}
+use Rattle.core_events.specs.declared.view.Move.{Move}
 use Rattle.core_events.specs.Views.{Holds, without}
 use Rattle.counted_handles.specs.Handles.{Handle}
 use Rattle.atomic_shared.specs.Places.{named}
@@ -23,12 +24,17 @@ abbrev pub without_found : Option SlotId → List SlotId → List SlotId
 without_found None xs = xs
 without_found (Some s) xs = without s xs
 
--- The seat owns these references, in some order, and takes no add back. What it has beside is as it was, and so is what
--- it knows of the objects that it held and still holds.
+-- the trail of the seat goes on from what it was
+abbrev pub TrailGoesOn : {V : Type 0} → SeatState V → SeatState V → Type 0
+TrailGoesOn old new = (ms : List Move) × (new.view.core.trail ≡ old.view.core.trail ++ ms)
+
+-- The seat owns these references, in some order, takes no add back, and its trail goes on. What it has beside is as it
+-- was, and so is what it knows of the objects that it held and still holds.
 pub record Leaves {V : Type 0} (owned : List SlotId) (old new : SeatState V) : Type 0 where
   pub owns : (x : SlotId) → times x new.view.core.owned ≡ times x owned
   pub same : aside new.view.core ≡ aside old.view.core
   pub adds : old.view.core.adds ≤ new.view.core.adds
+  pub trail : TrailGoesOn old new
   pub knows :
       (x : SlotId) → Holds old.view.core x → Holds new.view.core x
       → object_in new.view x ≡ object_in old.view x

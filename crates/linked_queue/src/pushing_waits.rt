@@ -4,6 +4,7 @@ ghost use Rattle.plain_state.specs.Lists.{times};
 ghost use Rattle.core_events.specs.Steps.{HasRoom};
 ghost use Rattle.core_events.specs.Views.{without};
 ghost use Rattle.control_word.specs.Resting.{IsAtRest, IsSpent};
+ghost use Rattle.slot_store.specs.declared.making.MakeError.TheVariants as unmade;
 ghost use Rattle.queue_law.specs.declared.view.Form.TheVariants.{Linked};
 ghost use Rattle.queue_law.specs.Pushes.{carried_item};
 ghost use Rattle.queue_law.specs.Views.{first_view};
@@ -12,7 +13,7 @@ ghost use Rattle.linked_queue.specs.Leaving.{Leaves, handle_by, with_found};
 ghost use Rattle.linked_queue.specs.Pops.{item_in};
 ghost use Rattle.linked_queue.specs.Pushes.{HasLoad, Pushes, PushesNothing, SeesBehind, UsesNone, pushed_too};
 ghost use Rattle.linked_queue.specs.Queues.{IsAttached, IsQueueOf, beside_eyes, deeds_in};
-ghost use Rattle.linked_queue.specs.Waits.{IsWhyNeverPushed, LinksAtLast, PushesAtLast, PushesNodeAtLast};
+ghost use Rattle.linked_queue.specs.Waits.{IsWhyNeverPushed, IsWhyShort, LinksAtLast, LosesAnyNode, PushesAtLast, PushesNodeAtLast};
 
 use crate::chaining::link_last;
 use crate::linking::advance;
@@ -30,9 +31,9 @@ use std::sync::Wait;
 impl LinkedQueue {
     /// Appends an item to the queue, and gives the seat's reference to it. It tries again as long as another seat is
     /// quicker, with the node that it made first, so it may wait for other threads. It is refused with the causes of
-    /// `make`; `AddsSpent` may come of a later increment of the call, and no add is left then. Where it is refused
-    /// nothing is pushed, and the item is handed back. One make at most, and none where `make` has refused for the
-    /// makes or the slots.
+    /// `make`; `AddsSpent` may come of a later increment of the call, and no add is left then: at most five were left at
+    /// the entry, or a try was lost. Where it is refused nothing is pushed, and the item is handed back. One make at
+    /// most, and none where `make` has refused for the makes or the slots.
     pub fn push<S, P: HasQueue<S>, R: Wait>(
         &self,
         rt: &R,
@@ -57,6 +58,9 @@ impl LinkedQueue {
         ensures why { IfErr result (λ refused. IsWhyNeverPushed P.Kind.fits
             (as_part P.part domain.now) refused.why (seen_by P.seen seat.old)
             (seen_by P.seen seat.new)) }
+        ensures short { IfErr result (λ refused. refused.why ≡ unmade.AddsSpent
+            → IsWhyShort 5 (LosesAnyNode P.Kind.fits (as_part P.part domain.now))
+            (seen_by P.seen seat.old) (seen_by P.seen seat.new)) }
         ensures makes { seat.new.view.core.makes ≤ seat.old.view.core.makes + 1 }
         ensures makes_kept { seat.old.view.core.makes ≤ seat.new.view.core.makes }
         ensures unmade { IfErr result
@@ -112,6 +116,9 @@ fn push_at_last<S, P: HasQueue<S>, R: Wait>(
     ensures leaves { Leaves (without node.slot seat.old.view.core.owned)
         (seen_by P.seen seat.old) (seen_by P.seen seat.new) }
     ensures why { OnErr result (IsSpent seat.new.view.core) }
+    ensures short { OnErr result (IsWhyShort 3
+        (LosesAnyNode P.Kind.fits (as_part P.part domain.now)) (seen_by P.seen seat.old)
+        (seen_by P.seen seat.new)) }
     ensures beside_part { HasBeside P.with_seen first_view seat.old seat.new }
     ensures room { HasRoom seat.new.view.core }
     ensures rest { IsAtRest domain.now seat.new }
@@ -159,6 +166,9 @@ fn link_at_last<S, P: HasQueue<S>, R: Wait>(
     ensures leaves { Leaves (with_found (handle_by result) seat.old.view.core.owned)
         (seen_by P.seen seat.old) (seen_by P.seen seat.new) }
     ensures why { OnErr result (IsSpent seat.new.view.core) }
+    ensures short { OnErr result (IsWhyShort 3
+        (LosesAnyNode P.Kind.fits (as_part P.part domain.now)) (seen_by P.seen seat.old)
+        (seen_by P.seen seat.new)) }
     ensures beside_part { HasBeside P.with_seen first_view seat.old seat.new }
     ensures room { HasRoom seat.new.view.core }
     ensures rest { IsAtRest domain.now seat.new }

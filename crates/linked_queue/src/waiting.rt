@@ -1,5 +1,5 @@
 //! Calls that try again until no other seat is quicker.
-ghost use Rattle.std.specs.Prelude.{◌≡◌, ◌<◌, IfOk, IfSome, OnErr};
+ghost use Rattle.std.specs.Prelude.{◌≡◌, ◌<◌, IfOk, IfSome, OnErr, None};
 ghost use Rattle.plain_state.specs.Lists.{times};
 ghost use Rattle.core_events.specs.Steps.{HasRoom};
 ghost use Rattle.atomic_shared.specs.Places.{named};
@@ -7,9 +7,10 @@ ghost use Rattle.control_word.specs.Resting.{IsAtRest, IsSpent};
 ghost use Rattle.part_calls.specs.Parts.{StaysBeside, as_part, seen_by};
 ghost use Rattle.linked_queue.specs.Attaching.{attached_in};
 ghost use Rattle.linked_queue.specs.Leaving.{Leaves, found_by};
+ghost use Rattle.linked_queue.specs.Losses.{LosesAtHead};
 ghost use Rattle.linked_queue.specs.Pops.{Pops};
 ghost use Rattle.linked_queue.specs.Queues.{IsAttached, IsQueueOf};
-ghost use Rattle.linked_queue.specs.Waits.{AttachesAtLast, PopsAtLast};
+ghost use Rattle.linked_queue.specs.Waits.{AttachesAtLast, IsWhyShort, PopsAtLast};
 
 use crate::queue::{LinkedQueue, PopError};
 use acquire_retire::{Domain, Seat};
@@ -48,8 +49,9 @@ impl LinkedQueue {
 
     /// Takes the first item off the queue, and answers a reference to it. It tries again as long as another seat is
     /// quicker, so it may wait for other threads. `None` only where nothing was linked behind the head's node at a step
-    /// of this call, and `Spent` only where no add is left: an increment of the last try found none. Then nothing is
-    /// taken, and the seat owns what it owned. No make. At most 29 steps and two collects for each try.
+    /// of this call. `Spent` only where no add is left: an increment of the last try found none, and at most three were
+    /// left at the entry, or another try was lost before. Then nothing is taken, and the seat owns what it owned. No
+    /// make. At most 29 steps and two collects for each try.
     pub fn pop<S, P: HasQueue<S>, R: Wait>(
         &self,
         rt: &R,
@@ -67,6 +69,9 @@ impl LinkedQueue {
         ensures owned { IfOk result (λ found. IfSome found (λ item.
             0 < times item.slot seat.new.view.core.owned)) }
         ensures why { OnErr result (IsSpent seat.new.view.core) }
+        ensures short { OnErr result (IsWhyShort 3
+            (LosesAtHead P.Kind.fits (as_part P.part domain.now) None) (seen_by P.seen seat.old)
+            (seen_by P.seen seat.new)) }
         ensures makes { seat.new.view.core.makes ≡ seat.old.view.core.makes }
         ensures attached { IsAttached (P.seen seat.new.view.client) }
         ensures beside { StaysBeside P.seen P.with_seen seat.old seat.new }

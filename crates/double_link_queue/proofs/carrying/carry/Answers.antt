@@ -39,3 +39,9 @@ store-requires-clause-accepted g c =
 pub store-requires-clause-within : goal.store-requires-clause-within
 store-requires-clause-within g c =
     owned_node c.args.node c.args.seat.now c.requires.node.owns c.requires.node.is_node
+
+pub returns-clause-leaves : goal.returns-clause-leaves
+returns-clause-leaves g c =
+    exchange_leaves (Field c.args.node 1) _ (Some c.args.item.slot) _ (seen_by g.P.Part.seen c.args.seat.now)
+    (seen_by g.P.Part.seen c.store.new.seat) refl c.store.ensures.stored.swaps
+    c.store.ensures.objects

@@ -1,6 +1,10 @@
 use Rattle.std.proofs.Common.{refl, inr}
 use Rattle.queue_law.specs.Opening.{lay_tail_next}
 use Rattle.linked_queue.proofs.Accepting.{kept_all}
+use Rattle.part_calls.specs.Parts.{seen_by}
+use Rattle.std.specs.Prelude.{Some}
+use Rattle.plain_state.specs.declared.act.EventPlace.TheVariants.{Cell}
+use Rattle.linked_queue.proofs.Leavings.{exchange_leaves}
 use Rattle.double_link_queue.proofs.laying.lay_tail.Goals as goal
 
 pub store-requires-clause-accepted : goal.store-requires-clause-accepted
@@ -12,3 +16,9 @@ store-requires-clause-accepted g c =
 pub store-requires-clause-within : goal.store-requires-clause-within
 store-requires-clause-within g c =
     inr c.requires.tail
+
+pub returns-clause-leaves : goal.returns-clause-leaves
+returns-clause-leaves g c =
+    exchange_leaves (Cell c.args.tail) _ (Some c.args.dummy.slot) _ (seen_by g.P.Part.seen c.args.seat.now)
+    (seen_by g.P.Part.seen c.store.new.seat) refl c.store.ensures.stored.swaps
+    c.store.ensures.objects

@@ -1,10 +1,11 @@
-use Rattle.double_link_queue.specs.Waits.{TakesAtLast}
+use Rattle.double_link_queue.specs.Waits.{LosesAnyNode, TakesAtLast}
 use Rattle.double_link_queue.specs.Steps.{Lands}
 use Rattle.plain_state.specs.declared.slot.SlotId.{SlotId}
 use Rattle.std.proofs.Common.{subst, ◌∙◌}
 use Rattle.core_events.specs.Views.{without}
 use Rattle.part_calls.specs.Parts.{seen_by, as_part}
 use Rattle.linked_queue.proofs.Leavings.{drop_leaves, drop_spent, drop_makes}
+use Rattle.linked_queue.proofs.Shortages.{short_then}
 use Rattle.double_link_queue.proofs.Owning.{both_of, gives_both, l_there, nothing_gives}
 use Rattle.double_link_queue.proofs.pushing_waits.push_at_last.Goals as goal
 
@@ -71,3 +72,13 @@ returns-in-Ok-clause-makes g c =
     drop_makes c.in-Ok.last.slot (seen_by g.P.Part.seen c.land.new.seat)
     (seen_by g.P.Part.seen c.drop_strong.new.seat) c.drop_strong.ensures.dropped
     ∙ c.land.ensures.makes ∙ c.take_at_last.ensures.makes
+
+pub returns-in-Err-clause-short : goal.returns-in-Err-clause-short
+returns-in-Err-clause-short g c =
+    let mid = seen_by g.P.Part.seen c.take_at_last.new.seat in
+    let new = seen_by g.P.Part.seen c.drop_strong-in-Err.new.seat in
+    short_then
+    (LosesAnyNode g.P.Kind.PayloadKind.fits (as_part g.P.Part.part c.args.domain.now))
+    (seen_by g.P.Part.seen c.args.seat.now) mid new 5 c.in-Err.ensures.short
+    (drop_leaves c.args.node.slot mid new c.drop_strong-in-Err.ensures.dropped
+    c.drop_strong-in-Err.ensures.objects).trail

@@ -1,10 +1,16 @@
-use Rattle.std.proofs.Common.{ap, sym, ◌∙◌}
+use Rattle.std.proofs.Common.{inr, ap, sym, subst, ◌∙◌}
 use Rattle.std.specs.Prelude.{Some, None}
 use Rattle.queue_law.specs.declared.view.View.{View}
 use Rattle.queue_law.specs.Pushes.{carried_item}
-use Rattle.part_calls.specs.Parts.{seen_by}
+use Rattle.core_events.specs.declared.view.CoreView.{CoreView}
+use Rattle.counted_handles.specs.declared.refusal.LoadError.{LoadError}
+use Rattle.part_calls.specs.Parts.{as_part, seen_by}
+use Rattle.linked_queue.specs.Pushes.{IsWhyUnlinked}
+use Rattle.linked_queue.specs.PushLosses.{LosesLast}
+use Rattle.linked_queue.specs.Waits.{LosesAnyNode}
 use Rattle.linked_queue.proofs.Accepting.{may_still}
 use Rattle.linked_queue.proofs.Poppings.{leaves_then}
+use Rattle.linked_queue.proofs.Shortages.{lost_now, short_last}
 use Rattle.linked_queue.proofs.pushing_waits.link_at_last.Goals as goal
 
 pub returns-in-Ok-clause-leaves : goal.returns-in-Ok-clause-leaves
@@ -15,6 +21,11 @@ returns-in-Ok-clause-leaves g c =
 
 pub loop-try-preserved : goal.loop-try-preserved
 loop-try-preserved g c =
+    let d = as_part g.P.Part.part c.args.domain.now in
+    let fits = g.P.Kind.PayloadKind.fits in
+    let before = seen_by g.P.Part.seen c.args.seat.now in
+    let mid = seen_by g.P.Part.seen c.loop-try.seat in
+    let after = seen_by g.P.Part.seen c.link_last.new.seat in
     let was = c.loop-try.invariant in
     let same = c.in-Err-Moved.ensures.refused in (
       c.link_last.ensures.rest,
@@ -38,7 +49,27 @@ loop-try-preserved g c =
       },
       c.link_last.ensures.beside_part ∙ was.6,
       c.link_last.ensures.makes ∙ was.7,
+      inr (lost_now (LosesAnyNode fits d) before mid after was.5.leaves.trail _ _ (
+        c.args.node,
+        subst (λ (e : LoadError). IsWhyUnlinked
+            (λ seen now. LosesLast fits d c.args.node seen now mid after) 3 e mid)
+            c.in-Err-Moved.field-0-is c.in-Err-Moved.ensures.why,
+      )),
     )
 
 pub returns-in-Err-Spent-clause-why : goal.returns-in-Err-Spent-clause-why
 returns-in-Err-Spent-clause-why g c = c.in-Err-Spent.ensures.spent c.in-Err-Spent.field-0-is
+
+pub returns-in-Err-Spent-clause-short : goal.returns-in-Err-Spent-clause-short
+returns-in-Err-Spent-clause-short g c =
+    let d = as_part g.P.Part.part c.args.domain.now in
+    let fits = g.P.Kind.PayloadKind.fits in
+    let mid = seen_by g.P.Part.seen c.loop-try.seat in
+    let after = seen_by g.P.Part.seen c.link_last.new.seat in
+    let was = c.loop-try.invariant in
+    short_last (LosesAnyNode fits d) (seen_by g.P.Part.seen c.args.seat.now) mid after 3 was.8
+    (ap (λ (v : CoreView). v.quota.adds) was.5.leaves.same)
+    (subst (λ (e : LoadError). IsWhyUnlinked
+    (λ seen now. LosesLast fits d c.args.node seen now mid after) 3 e mid)
+    c.in-Err-Spent.field-0-is c.in-Err-Spent.ensures.why)
+    c.link_last.ensures.leaves.trail

@@ -2,10 +2,11 @@ use Rattle.std.proofs.Common.{refl, subst, ◌∙◌}
 use Rattle.plain_state.specs.declared.slot.SlotId.{SlotId}
 use Rattle.part_calls.specs.Parts.{as_part, seen_by}
 use Rattle.linked_queue.specs.Pushes.{Advances}
-use Rattle.linked_queue.specs.Waits.{LinksAtLast}
+use Rattle.linked_queue.specs.Waits.{LinksAtLast, LosesAnyNode}
 use Rattle.linked_queue.proofs.Leavings.{drop_leaves, drop_spent, leaves_same, drop_makes}
 use Rattle.linked_queue.proofs.Linkings.{then_gives}
 use Rattle.linked_queue.proofs.Pushings.{gives_both, l_there}
+use Rattle.linked_queue.proofs.Shortages.{short_then}
 use Rattle.linked_queue.proofs.pushing_waits.push_at_last.Goals as goal
 
 pub drop_strong-requires-clause-owned : goal.drop_strong-requires-clause-owned
@@ -62,3 +63,14 @@ returns-in-Ok-clause-makes g c =
     drop_makes c.in-Ok.last.slot (seen_by g.P.Part.seen c.advance.new.seat)
     (seen_by g.P.Part.seen c.drop_strong.new.seat) c.drop_strong.ensures.dropped
     ∙ c.advance.ensures.makes ∙ c.link_at_last.ensures.makes
+
+pub returns-in-Err-clause-short : goal.returns-in-Err-clause-short
+returns-in-Err-clause-short g c =
+    let linked = seen_by g.P.Part.seen c.link_at_last.new.seat in
+    let new = seen_by g.P.Part.seen c.drop_strong-in-Err.new.seat in
+    short_then
+    (LosesAnyNode g.P.Kind.PayloadKind.fits (as_part g.P.Part.part c.args.domain.now))
+    (seen_by g.P.Part.seen c.args.seat.now) linked new 3
+    c.in-Err.ensures.short
+    (drop_leaves c.args.node.slot linked new c.drop_strong-in-Err.ensures.dropped
+    c.drop_strong-in-Err.ensures.objects).trail

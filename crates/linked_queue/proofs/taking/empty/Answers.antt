@@ -3,6 +3,10 @@ use Rattle.linked_queue.specs.UnlessRipe.{next_unless}
 use Rattle.queue_law.specs.Pops.{empty_next}
 use Rattle.linked_queue.proofs.Owning.{owned_node}
 use Rattle.linked_queue.proofs.Accepting.{kept_all, unless_kept}
+use Rattle.part_calls.specs.Parts.{seen_by}
+use Rattle.std.specs.Prelude.{None}
+use Rattle.plain_state.specs.declared.act.EventPlace.TheVariants.{Field}
+use Rattle.linked_queue.proofs.Leavings.{exchange_leaves}
 use Rattle.linked_queue.proofs.taking.empty.Goals as goal
 
 pub store-requires-clause-accepted : goal.store-requires-clause-accepted
@@ -14,3 +18,9 @@ store-requires-clause-accepted g c =
 pub store-requires-clause-within : goal.store-requires-clause-within
 store-requires-clause-within g c =
     owned_node c.args.dummy c.args.seat.now c.requires.dummy.owns c.requires.dummy.is_node
+
+pub returns-clause-leaves : goal.returns-clause-leaves
+returns-clause-leaves g c =
+    exchange_leaves (Field c.args.dummy 1) _ None _ (seen_by g.P.Part.seen c.args.seat.now)
+    (seen_by g.P.Part.seen c.store.new.seat) refl c.store.ensures.stored.swaps
+    c.store.ensures.objects

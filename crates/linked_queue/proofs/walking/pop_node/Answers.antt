@@ -12,7 +12,7 @@ use Rattle.linked_queue.specs.Queues.{deeds_in}
 use Rattle.linked_queue.specs.Seeing.{LoadsItem, MissesItem}
 use Rattle.linked_queue.proofs.Leavings.{drop_leaves, drop_spent}
 use Rattle.linked_queue.proofs.Losings.{few_up, spent_by, why_of, why_up}
-use Rattle.linked_queue.proofs.Poppings.{pops_item, pops_through, some_found}
+use Rattle.linked_queue.proofs.Poppings.{leaves_on, pops_item, pops_through, some_found}
 use Rattle.linked_queue.proofs.walking.pop_node.Goals as goal
 
 pub returns-in-Err-clause-why : goal.returns-in-Err-clause-why
@@ -44,6 +44,20 @@ returns-in-Ok-None-clause-why g c =
         other = c.see_gone-now.ensures.other;
       },
     ))
+
+pub returns-in-Ok-None-clause-popped : goal.returns-in-Ok-None-clause-popped
+returns-in-Ok-None-clause-popped g c =
+    let before = seen_by g.P.Part.seen c.args.seat.now in
+    let seen = seen_by g.P.Part.seen c.see_item.new.seat in
+    let after = seen_by g.P.Part.seen c.see_gone-now.new.seat in
+    let none = subst (λ (o : Option Handle). Leaves
+    (with_found (named o) c.args.seat.now.view.core.owned) before seen)
+    c.in-Ok-None.field-0-is c.in-Ok-None.ensures.leaves in
+    record {
+      leaves = leaves_on c.args.seat.now.view.core.owned before seen after none
+          c.see_gone-now.ensures.leaves;
+      deeds = ap deeds_in c.see_gone-now.ensures.client ∙ ap deeds_in c.see_item.ensures.beside;
+    }
 
 pub returns-in-Ok-clause-events : goal.returns-in-Ok-clause-events
 returns-in-Ok-clause-events g c =

@@ -1,5 +1,6 @@
-use Rattle.std.proofs.Common.{[], ◌∷◌, ◌++◌, refl, ap, sym, ◌∙◌, arith}
+use Rattle.std.proofs.Common.{inl, [], ◌∷◌, ◌++◌, refl, ap, sym, ◌∙◌, arith}
 use Rattle.std.specs.Prelude.{None}
+use Rattle.core_events.specs.declared.view.CoreView.{CoreView}
 use Rattle.queue_law.specs.declared.view.Item.{Item}
 use Rattle.queue_law.specs.declared.view.View.{View}
 use Rattle.queue_law.specs.Pushes.{carried_item}
@@ -15,7 +16,9 @@ use Rattle.linked_queue.proofs.Leavings.{drop_leaves, drop_makes}
 use Rattle.double_link_queue.specs.Pushes.{landed_in}
 use Rattle.double_link_queue.proofs.Leavings.{both_same}
 use Rattle.double_link_queue.proofs.Owning.{both_of, nothing_gives, through_both}
-use Rattle.linked_queue.proofs.Pushings.{never_pushed}
+use Rattle.linked_queue.proofs.Pushings.{few_made, never_pushed}
+use Rattle.linked_queue.proofs.Shortages.{short_after}
+use Rattle.double_link_queue.specs.Waits.{LosesAnyNode}
 use Rattle.double_link_queue.proofs.queue.DoubleQueue.push.Goals as goal
 
 pub returns-in-Err-clause-beside : goal.returns-in-Err-clause-beside
@@ -124,3 +127,18 @@ returns-in-Ok-push_at_last-clause-events g c = record {
   pushes = c.in-Ok-push_at_last.ensures.events;
   drops = c.drop_strong.ensures.dropped;
 }
+
+pub returns-in-Err-clause-short : goal.returns-in-Err-clause-short
+returns-in-Err-clause-short g c = λ is.
+    inl (few_made g.P.Kind.PayloadKind.fits (as_part g.P.Part.part c.args.domain.now) 1 7
+    (omega arith) c.in-Err.why (seen_by g.P.Part.seen c.args.seat.now)
+    (seen_by g.P.Part.seen c.load_node.new.seat) is c.in-Err.ensures.why)
+
+pub returns-in-Err-push_at_last-clause-short : goal.returns-in-Err-push_at_last-clause-short
+returns-in-Err-push_at_last-clause-short g c = λ is.
+    short_after
+    (LosesAnyNode g.P.Kind.PayloadKind.fits (as_part g.P.Part.part c.args.domain.now))
+    (seen_by g.P.Part.seen c.args.seat.now) (seen_by g.P.Part.seen c.load_node.new.seat)
+    (seen_by g.P.Part.seen c.push_at_last.new.seat) 5 7 2 refl c.load_node.ensures.adds
+    (ap (λ (v : CoreView). v.quota.adds) c.in-Ok.ensures.leaves.same) c.in-Ok.ensures.leaves.trail
+    c.in-Err-push_at_last.ensures.short

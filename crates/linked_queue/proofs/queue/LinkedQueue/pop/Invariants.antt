@@ -1,9 +1,11 @@
 use Rattle.std.specs.Prelude.{◌≡◌, None}
 use Rattle.core_events.specs.Steps.{HasRoom}
 use Rattle.control_word.specs.Resting.{IsAtRest}
-use Rattle.part_calls.specs.Parts.{StaysBeside, seen_by}
+use Rattle.part_calls.specs.Parts.{StaysBeside, as_part, seen_by}
+use Rattle.linked_queue.specs.Losses.{LosesAtHead}
 use Rattle.linked_queue.specs.Pops.{Pops}
 use Rattle.linked_queue.specs.Queues.{IsAttached}
+use Rattle.linked_queue.proofs.Shortages.{HasTried}
 use Rattle.linked_queue.proofs.queue.LinkedQueue.pop.Given as goal
 
 abbrev pub invariant-loop-try : goal.invariant-loop-try
@@ -13,3 +15,5 @@ invariant-loop-try g l =
     × Pops None (seen_by g.P.Part.seen l.fn.seat) (seen_by g.P.Part.seen l.seat)
     × StaysBeside g.P.Part.seen g.P.Part.with_seen l.fn.seat l.seat
     × (l.seat.view.core.makes ≡ l.fn.seat.view.core.makes)
+    × HasTried (LosesAtHead g.P.Kind.PayloadKind.fits (as_part g.P.Part.part l.domain) None)
+    (seen_by g.P.Part.seen l.fn.seat) (seen_by g.P.Part.seen l.seat)

@@ -1,5 +1,6 @@
-use Rattle.std.proofs.Common.{refl, ap, sym, ◌∙◌, arith}
+use Rattle.std.proofs.Common.{inl, refl, ap, sym, ◌∙◌, arith}
 use Rattle.std.specs.Prelude.{None}
+use Rattle.core_events.specs.declared.view.CoreView.{CoreView}
 use Rattle.queue_law.specs.declared.view.Item.{Item}
 use Rattle.queue_law.specs.declared.view.View.{View}
 use Rattle.queue_law.specs.Pushes.{carried_item}
@@ -9,11 +10,13 @@ use Rattle.part_calls.proofs.Beside.{stays_beside}
 use Rattle.linked_queue.specs.Pops.{item_in}
 use Rattle.linked_queue.specs.Pushes.{pushed_too}
 use Rattle.linked_queue.specs.Queues.{deeds_in}
+use Rattle.linked_queue.specs.Waits.{LosesAnyNode}
 use Rattle.linked_queue.proofs.Accepting.{may_still}
 use Rattle.linked_queue.proofs.Leavings.{drop_leaves, leaves_same, drop_makes}
 use Rattle.linked_queue.proofs.Linkings.{then_gives}
 use Rattle.linked_queue.proofs.Owning.{through}
-use Rattle.linked_queue.proofs.Pushings.{never_pushed}
+use Rattle.linked_queue.proofs.Pushings.{few_made, never_pushed}
+use Rattle.linked_queue.proofs.Shortages.{short_after}
 use Rattle.linked_queue.proofs.queue.LinkedQueue.push.Goals as goal
 
 pub returns-in-Err-clause-beside : goal.returns-in-Err-clause-beside
@@ -101,3 +104,18 @@ returns-in-Ok-push_at_last-clause-makes_kept g c =
     (seen_by g.P.Part.seen c.drop_strong.new.seat) c.drop_strong.ensures.dropped in
     let none = c.push_at_last.ensures.makes in
     let makes = c.load_node.ensures.makes_kept in omega arith
+
+pub returns-in-Err-clause-short : goal.returns-in-Err-clause-short
+returns-in-Err-clause-short g c = λ is.
+    inl (few_made g.P.Kind.PayloadKind.fits (as_part g.P.Part.part c.args.domain.now) 1 5
+    (omega arith) c.in-Err.why (seen_by g.P.Part.seen c.args.seat.now)
+    (seen_by g.P.Part.seen c.load_node.new.seat) is c.in-Err.ensures.why)
+
+pub returns-in-Err-push_at_last-clause-short : goal.returns-in-Err-push_at_last-clause-short
+returns-in-Err-push_at_last-clause-short g c = λ is.
+    short_after
+    (LosesAnyNode g.P.Kind.PayloadKind.fits (as_part g.P.Part.part c.args.domain.now))
+    (seen_by g.P.Part.seen c.args.seat.now) (seen_by g.P.Part.seen c.load_node.new.seat)
+    (seen_by g.P.Part.seen c.push_at_last.new.seat) 3 5 2 refl c.load_node.ensures.adds
+    (ap (λ (v : CoreView). v.quota.adds) c.in-Ok.ensures.leaves.same) c.in-Ok.ensures.leaves.trail
+    c.in-Err-push_at_last.ensures.short

@@ -1,0 +1,70 @@
+-- The trail of a seat goes on, by a step, by several, and through calls.
+use Rattle.std.proofs.Common.{◌≡◌, ⊎_elim, ℕ, List, [], ◌∷◌, ◌++◌, ap, sym, ◌∙◌, subst, append_assoc}
+use Rattle.std.proofs.lemmas.List.{append-nil}
+use Rattle.std.specs.Prelude.{Option}
+use Rattle.plain_state.specs.declared.act.EventPlace.{EventPlace}
+use Rattle.plain_state.specs.declared.act.PlainAct.{PlainAct}
+use Rattle.plain_state.specs.declared.slot.SlotId.{SlotId}
+use Rattle.plain_state.specs.State.{Plain}
+use Rattle.plain_protocol.specs.Owns.{OwnPart}
+use Rattle.core_events.specs.declared.act.Act.{Act}
+use Rattle.core_events.specs.declared.outcome.Outcome.{Outcome}
+use Rattle.core_events.specs.declared.view.CoreView.{CoreView}
+use Rattle.core_events.specs.declared.view.Move.{Move}
+use Rattle.core_events.specs.Steps.{answer}
+use Rattle.core_law.proofs.Trails.{changed_trail}
+use Rattle.acquire_retire.specs.Calls.{IsSameView, Steps, same_view}
+use Rattle.acquire_retire.specs.Collecting.{WalksBy, move}
+use Rattle.acquire_retire.specs.Domains.{DomainState}
+use Rattle.acquire_retire.specs.Seats.{SeatState}
+use Rattle.retiring_stores.specs.Exchanging.{Exchanges}
+use Rattle.retiring_stores.specs.Scanning.{ScansWhereDue}
+use Rattle.linked_queue.specs.Leaving.{TrailGoesOn}
+
+module _ {V : Type 0} where
+  pub trail_same : (a b : SeatState V) → b ≡ a → TrailGoesOn a b
+  trail_same a b is =
+      ([], ap (λ (z : SeatState V). z.view.core.trail) is ∙ sym (append-nil a.view.core.trail))
+
+  pub trail_then : (a b c : SeatState V) → TrailGoesOn a b → TrailGoesOn b c → TrailGoesOn a c
+  trail_then a b c first more = (
+    first.0 ++ more.0,
+    more.1 ∙ ap (λ (t : List Move). t ++ more.0) first.1
+        ∙ append_assoc a.view.core.trail first.0 more.0,
+  )
+
+module _ {P V : Type 0} (fits : List ℕ → Type 0) (d : DomainState P)
+    (next : OwnPart → OwnPart → V → PlainAct → ℕ → V)
+    (allows : Plain → Plain → ℕ → V → V → Type 0) where
+  step_trail : (a : Act) (o : Outcome) (old new : SeatState V)
+      → Steps fits d next allows a old new o → TrailGoesOn old new
+  step_trail a o old new step =
+      let m = move a (answer d.shape a step.word old.view.core) in (
+        m ∷ [],
+        ap (λ (v : CoreView). v.trail) step.told.core
+            ∙ ap (λ (t : List Move). t ++ m ∷ [])
+            (changed_trail d.shape a step.word old.view.core).trail,
+      )
+
+  walk_trail : (ms : List Move) (old new : SeatState V) → WalksBy fits d next allows ms old new
+      → TrailGoesOn old new
+  walk_trail [] old new walks = trail_same old new walks
+  walk_trail (m ∷ ms) old new walks =
+      trail_then old walks.0 new (step_trail m.act m.outcome old walks.0 walks.1)
+      (walk_trail ms walks.0 new walks.2)
+
+scan_trail : {P V : Type 0} (fits : List ℕ → Type 0) (d : DomainState P) (old new : SeatState V)
+    → ScansWhereDue fits d old new → TrailGoesOn old new
+scan_trail fits d old new scans = ⊎_elim
+    (λ due. walk_trail fits d same_view IsSameView _ old new due.1.collects.goes.walks)
+    (λ below. trail_same old new below.1)
+    scans
+
+pub exchange_trail : {P V : Type 0} {fits : List ℕ → Type 0} {d : DomainState P}
+    {next : OwnPart → OwnPart → V → PlainAct → ℕ → V}
+    {allows : Plain → Plain → ℕ → V → V → Type 0} (place : EventPlace) (m : Move)
+    (given held : Option SlotId) (old new : SeatState V)
+    → Exchanges fits d next allows place m given held old new → TrailGoesOn old new
+exchange_trail {fits = fits} {d = d} place m given held old new puts =
+    trail_then old puts.mid new (m ∷ [], ap (λ (v : CoreView). v.trail) puts.puts.core)
+    (scan_trail fits d puts.mid new puts.scans)
