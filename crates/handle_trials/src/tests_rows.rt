@@ -153,7 +153,7 @@ fn a_fourth_snapshot_takes_an_add(rt: HostRuntime) -> Result<(), Fail> {
     Ok(())
 }
 
-/// Stores so many objects, destroys what has ended, and tells the most entries that the seat had deferred after a store.
+/// Stores so many objects, destroys what has ended, and tells the most entries that the seat had deferred after one.
 fn store_all(domain: &Domain<Records>, seat: &mut Seat<Records>, stores: u32) -> u32
     requires free { IsFree domain.now seat.old }
     requires cells { 0 < domain.now.shape.cells }
@@ -256,8 +256,8 @@ fn look_all(
     uncounted
 }
 
-/// 31 seats hold three snapshots each, and never end them, while one seat stores 100,000 times: it defers the 93 objects
-/// that they hold, and never more than 129 entries. The others store nothing.
+/// 31 seats hold three snapshots each, and never end them, while one seat stores 100,000 times: it defers the 93
+/// objects that they hold, and never more than 129 entries. The others store nothing.
 #[test]
 fn snapshots_that_last_let_a_seat_defer_no_more(rt: HostRuntime) -> Result<(), Fail> {
     let (domain, mut seats) = open_most(&rt)?;
