@@ -10,7 +10,6 @@ use Rattle.linked_queue.specs.Queues.{IsAttached}
 use Rattle.slot_store.specs.declared.making.MakeError.{MakeError}
 use Rattle.words_law.specs.Known.{ForgetsNothing}
 use Rattle.lane_files.specs.Passed.{Counts, UsesInterns}
-use Rattle.slot_store.specs.declared.making.MakeError.TheVariants as unmade
 use Rattle.lane_files.specs.Whys.{IsWhyCopyStays, IsWhyNotOffered}
 use Rattle.plain_state.specs.declared.slot.SlotId.{SlotId}
 use Rattle.acquire_retire.specs.Calls.{IsSameView, same_view}
@@ -130,20 +129,12 @@ back_owns fits d t u a b c e r error bad is own first kept drops knows =
     owns_back t a.view.core.owned a b e first
     (subst (λ (x : SlotId). Owns (without x b.view.core.owned) b e) is last) (λ x. refl)
 
--- a record that wasn't offered isn't after a reference was given up
-pub offered_on : (fits : List ℕ → Type 0) (d : DomainState WordsLaw) (why : MakeError)
-    (a b c : SeatState View) → IsWhyNotOffered fits d why a b
-    → (IsSpent b.view.core → IsSpent c.view.core) → IsWhyNotOffered fits d why a c
-offered_on fits d unmade.MakesSpent a b c not spent = not
-offered_on fits d unmade.AddsSpent a b c not spent = spent not
-offered_on fits d unmade.Full a b c not spent = not
-
 pub copy_stays : (fits : List ℕ → Type 0) (d : DomainState WordsLaw) (s : SlotId)
     (a b c e : SeatState View) → GainsStrong fits d same_view IsSameView s a b → (why : MakeError)
     → IsWhyNotOffered fits d why b c → (IsSpent c.view.core → IsSpent e.view.core)
     → IsWhyCopyStays fits d s why a e
 copy_stays fits d s a b c e gains why not spent =
-    record { copied = b; copies = gains; not_offered = offered_on fits d why b c e not spent }
+    record { copied = b; refused = c; copies = gains; not_offered = not; spent = spent }
 
 -- MAKES AND ADDS of a copy, a push and a drop
 copied_adds : (fits : List ℕ → Type 0) (d : DomainState WordsLaw) (s : SlotId) (a b : SeatState View)

@@ -23,7 +23,7 @@ use Rattle.lane_files.specs.Ready.{Owns}
 use Rattle.lane_files.specs.declared.refusal.LaneError.{LaneError}
 use Rattle.lane_files.specs.declared.refusal.LaneError.TheVariants as lane
 use Rattle.lane_files.specs.Whys.{FindsNoItem, IsWhyNotTaken}
-use Rattle.lane_files.proofs.Copied.{knows_still, offered_on}
+use Rattle.lane_files.proofs.Copied.{knows_still}
 use Rattle.lane_files.proofs.PiecesCounted.{takes_later, takes_then}
 use Rattle.lane_files.proofs.Offered.{texts}
 
@@ -111,8 +111,10 @@ module _ (fits : List ℕ → Type 0) (d : DomainState WordsLaw) where
             ⊎_elim (λ none. inl (none.0, none.1, spent none.2))
                 (λ made. inr (record {
                   copied = made.copied;
+                  refused = made.refused;
                   copies = made.copies;
-                  not_offered = offered_on fits d why made.copied c e made.not_offered spent;
+                  not_offered = made.not_offered;
+                  spent = λ x. spent (made.spent x);
                 }))
                 is.0,
             subst (λ (v : View). Counts [] [] b.view.client v) (sym same) is.1,

@@ -63,7 +63,7 @@ module _ (fits : List ℕ → Type 0) (d : DomainState WordsLaw) where
       (omega arith, none ∙ (not ∙ sym allowed))
   offer_lacks unmade.Full b c shape not none allowed = (
     omega arith,
-    more_were_given fits (queue_of d) (of_queue b) not.0 (let some' = shape.2 in omega arith) not.1,
+    more_were_given fits (queue_of d) (of_queue b) (of_queue c) (let some' = shape.2 in omega arith) not,
   )
   offer_lacks unmade.AddsSpent b c shape not none allowed = tt
 

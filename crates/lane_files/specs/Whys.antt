@@ -31,11 +31,14 @@ module _ (fits : List ℕ → Type 0) (d : DomainState WordsLaw) where
   abbrev pub IsWhyNotOffered : MakeError → SeatState View → SeatState View → Type 0
   IsWhyNotOffered why old new = IsWhyNeverPushed fits (queue_of d) why (of_queue old) (of_queue new)
 
-  -- the seat counted one reference more to s, which then wasn't pushed
+  -- The seat counted one reference more to s, which then wasn't pushed, and was given up. Where no add was left then,
+  -- none is.
   pub record IsWhyCopyStays (s : SlotId) (why : MakeError) (old new : SeatState View) : Type 0 where
     pub copied : SeatState View
+    pub refused : SeatState View
     pub copies : GainsStrong fits d same_view IsSameView s old copied
-    pub not_offered : IsWhyNotOffered why copied new
+    pub not_offered : IsWhyNotOffered why copied refused
+    pub spent : IsSpent refused.view.core → IsSpent new.view.core
 
   -- why no copy of s was pushed: no add was left for it, and none is, or it was made and wasn't pushed
   abbrev pub IsWhyNotCopied : SlotId → MakeError → SeatState View → SeatState View → Type 0

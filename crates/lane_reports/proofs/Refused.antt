@@ -45,7 +45,7 @@ module _ (fits : List ℕ → Type 0) (d : DomainState WordsLaw) where
       → IsWhyNotCopied fits d s why old new → IsSpent new.view.core
   unfolding IsAdds
   copy_spent s unmade.AddsSpent old new adds (inl spent) = spent.2
-  copy_spent s unmade.AddsSpent old new adds (inr stays) = stays.not_offered
+  copy_spent s unmade.AddsSpent old new adds (inr stays) = stays.spent stays.not_offered
   copy_spent s unmade.MakesSpent old new adds either = absurd adds
   copy_spent s unmade.Full old new adds either = absurd adds
 
