@@ -1,6 +1,7 @@
 -- The seats of lanes that were just opened can begin.
 use Rattle.std.proofs.Common.{ℕ, ◌+◌, ◌<◌, ◌≤◌, refl, sym, subst, arith}
 use Rattle.std.specs.Prelude.{All}
+use Rattle.plain_state.specs.Limits.{most_slots}
 use Rattle.core_law.proofs.Each.{get_each, length_each}
 use Rattle.acquire_retire.specs.Domains.{DomainState}
 use Rattle.acquire_retire.specs.Seats.{SeatState}

@@ -1,5 +1,6 @@
 -- A domain that was opened for some work, and its seats.
 use Rattle.std.specs.Prelude.{ℕ, ◌≡◌, ◌<◌, ◌≤◌, ◌+◌, ◌*◌, ◌^◌, List, [], ◌∷◌, replicate}
+use Rattle.plain_state.specs.Limits.{most_slots}
 use Rattle.plain_state.specs.declared.slot.SlotId.{SlotId}
 use Rattle.plain_state.specs.Lists.{times}
 use Rattle.core_events.specs.declared.shape.Quota.{Quota}

@@ -1,6 +1,7 @@
 -- How much of a domain some work takes.
 use Rattle.std.specs.Prelude.{ℕ, ◌+◌, ◌*◌, ◌≤◌, List, length, map, sum_by}
 use Rattle.std.specs.List.{range_with_len}
+use Rattle.plain_state.specs.Limits.{most_slots}
 use Rattle.cdrc_text.specs.Fold.{File}
 use Rattle.cdrc_text.specs.Text.{slots_of_word}
 use Rattle.lane_files.specs.declared.file.FileText.{FileText}

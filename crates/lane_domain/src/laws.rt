@@ -1,5 +1,6 @@
 //! What is so of lanes in a domain that was opened for their work: their seats can begin, and which makes are refused.
 ghost use Rattle.std.specs.Prelude.{ℕ, ◌≤◌, All, ◌≡◌, ◌≢◌, ◌<◌, ◌+◌, ◌*◌, Some};
+ghost use Rattle.plain_state.specs.Limits.{most_slots};
 ghost use Rattle.acquire_retire.specs.Domains.{DomainState};
 ghost use Rattle.acquire_retire.specs.Seats.{SeatState};
 ghost use Rattle.queue_law.specs.declared.view.Form.{Form};
