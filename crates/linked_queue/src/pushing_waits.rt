@@ -31,8 +31,8 @@ use std::sync::Wait;
 impl LinkedQueue {
     /// Appends an item to the queue, and gives the seat's reference to it. It tries again as long as another seat is
     /// quicker, with the node that it made first, so it may wait for other threads. It is refused with the causes of
-    /// `make`; `AddsSpent` may come of a later increment of the call, and no add is left then: at most five were left at
-    /// the entry, or a try was lost. Where it is refused nothing is pushed, and the item is handed back. One make at
+    /// `make`; `AddsSpent` may come of a later increment of the call, and no add is left then: at most five were left
+    /// at the entry, or a try was lost. Where it is refused nothing is pushed, and the item is handed back. One make at
     /// most, and none where `make` has refused for the makes or the slots.
     pub fn push<S, P: HasQueue<S>, R: Wait>(
         &self,
