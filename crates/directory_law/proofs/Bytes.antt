@@ -249,3 +249,8 @@ pub area_sum : (first cells : ℕ) (interns : List ℕ) (to : GivenTo)
     interns
 area_sum first cells interns Seats = omega arith
 area_sum first cells interns Tickets = omega arith
+
+-- so where that many cells hold them, they hold both
+pub area_fits : (first cells : ℕ) (interns : List ℕ) (to : GivenTo) → sum interns ≤ cells
+    → let z = area first cells interns to in sum z.interns + sum z.grants ≤ z.cells
+area_fits first cells interns to fits = let e = area_sum first cells interns to in omega arith

@@ -1,5 +1,5 @@
 -- What a look or a check finds and leaves; looks at cells keep the law, and tell where a walk ends.
-use Rattle.std.proofs.Common.{◌≡◌, ⊎_elim, ℕ, zero, suc, ◌+◌, ◌-◌, ◌<◌, List, length, get_or, set, refl, ap, sym, ◌∙◌, subst, arith}
+use Rattle.std.proofs.Common.{◌≡◌, ⊎_elim, ℕ, zero, suc, ◌+◌, ◌-◌, ◌<◌, ◌≤◌, List, length, get_or, set, sum, refl, ap, sym, ◌∙◌, subst, arith}
 use Rattle.std.specs.Prelude.{Option, Some, None}
 use Rattle.std.proofs.lemmas.List.{get_or-set_same}
 use Rattle.plain_state.specs.declared.act.EventPlace.{EventPlace}
@@ -25,6 +25,7 @@ use Rattle.directory_law.proofs.Notes.{each_in}
 use Rattle.directory_law.proofs.Chains.{begins_head}
 use Rattle.directory_law.proofs.Quiet.{calmed_quiet}
 use Rattle.directory_law.proofs.Foreign.{calmly}
+use Rattle.directory_law.proofs.Gives.{never_full}
 use Rattle.directory_law.proofs.Walks.{walks_tell}
 use Rattle.directory_law.specs.Steps.{id, slot_of, LooksAt, place_of, weak_index, Stays}
 use Rattle.directory_law.proofs.Owns.{object_is}
@@ -79,13 +80,15 @@ calm_stays z p q n step found lawful calm does c s h is =
     (calmed_quiet z p q (calm_leaves p q n step found lawful calm does)).cells c h ∙ is
 
 -- LOOK
-pub look_keeps : (z : Area) → Keeps (DirectoryLaw z) gone LookReady look_next (LookTells z)
-look_keeps z p q views n step found meets here ready does =
+pub look_keeps : (z : Area) → sum z.interns + sum z.grants ≤ z.cells
+    → Keeps (DirectoryLaw z) gone LookReady look_next (LookTells z)
+look_keeps z fits p q views n step found meets here ready does =
     let calm : IsCalm step = subst IsCalm (sym ready.1) tt in (
       same_law z q views n (calmly z p q n step found views meets calm does),
       (
         calm_stays z p q n step found meets.lawful calm does,
         walks_tell z p views meets.law (view_at views n) (meets.law.learnt n),
+        λ text spare walked. never_full z p views n text fits meets.law here spare walked,
       ),
     )
 

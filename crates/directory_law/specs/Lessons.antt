@@ -14,9 +14,9 @@ use Rattle.directory_law.specs.Views.{Note, Rope, Seen, Ran, Led, View, In, note
 use Rattle.directory_law.specs.Cells.{Area}
 use Rattle.directory_law.specs.Law.{IsBound}
 use Rattle.directory_law.specs.Steps.{id, life_in, payload_in, slot_of, slot_in, LooksAt, place_of, weak_index, Stays}
-use Rattle.directory_law.specs.Walks.{WalksTell}
+use Rattle.directory_law.specs.Walks.{FindsRoom, WalksTell}
 
--- LOOK at a weak cell, whichever
+-- LOOK at a weak cell, whichever. A seat that has an intern left is told that its walk doesn't come around
 abbrev pub LookReady : OwnPart → View → PlainAct → Type 0
 LookReady own v step = (c : ℕ) × (step ≡ act.Look (WeakCell c))
 
@@ -24,7 +24,7 @@ abbrev pub look_next : OwnPart → OwnPart → View → PlainAct → ℕ → Vie
 look_next own after v step found = v
 
 abbrev pub LookTells : Area → Plain → Plain → ℕ → View → View → Type 0
-LookTells z p q n v w = Stays z p q × WalksTell z p v
+LookTells z p q n v w = Stays z p q × WalksTell z p v × FindsRoom z v
 
 -- SEE. What a cell of the range held, if the seat has it afterwards
 pub record SeeReady (z : Area) (own : OwnPart) (v : View) (step : PlainAct) : Type 0 where

@@ -34,3 +34,7 @@ abbrev pub WalksTell : Area → Plain → View → Type 0
 WalksTell z p v =
     (text : Text) (m : ℕ) → Walked z v text m → (cell z p (on z text m) ≡ None) ⊎ (z.cells ≤ m)
     → NoneBound z p text
+
+-- a seat that has an intern left hasn't walked over all the cells
+abbrev pub FindsRoom : Area → View → Type 0
+FindsRoom z v = (text : Text) → v.used < v.quota → Walked z v text z.cells → ⊥

@@ -1,12 +1,14 @@
 //! The deeds that look at cells.
 ghost use Rattle.directory_law.specs.Cells.{area};
 ghost use Rattle.directory_law.specs.Lessons.{LookReady, LookTells, SeeReady, SeeTells, look_next, see_next};
+ghost use Rattle.directory_law.proofs.Bytes.{area_fits};
 ghost use Rattle.directory_law.proofs.Looks.{look_keeps, see_keeps};
 
 use crate::law::DirectoryLaw;
 use plain_protocol::Deed;
 
-/// A weak cell, whichever. Where the walk of a text ends here, the text has no live record.
+/// A weak cell, whichever. Where the walk of a text ends here, the text has no live record. The walk of a seat that
+/// has an intern left doesn't come around.
 #[derive(Clone, Copy, Drop)]
 pub struct LookAtCell;
 
@@ -17,7 +19,9 @@ impl Deed<DirectoryLaw> for LookAtCell {
 
     ghost allows = { λ it of. LookTells (area of.first of.cells of.interns.items of.to) };
 
-    ghost keeps = { λ it of. look_keeps (area of.first of.cells of.interns.items of.to) };
+    ghost keeps = { λ it of.
+      look_keeps (area of.first of.cells of.interns.items of.to)
+      (area_fits of.first of.cells of.interns.items of.to of.fits) };
 }
 
 /// What a cell of the range held, if the seat then has it: it is a head, and noted as seen in its life. Where the

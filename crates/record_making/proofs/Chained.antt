@@ -15,7 +15,7 @@ use Rattle.directory_law.specs.declared.view.View.{View}
 use Rattle.directory_law.specs.Payloads.{IsPart, Text}
 use Rattle.directory_calls.specs.Steps.{Leaves}
 use Rattle.directory_calls.proofs.Parts.{Place}
-use Rattle.record_making.specs.Making.{HasText, Notes, NotesOnly, PutsBefore, candidate_in, made_by, with_notes}
+use Rattle.record_making.specs.Making.{AddsAsMakes, HasText, Notes, NotesOnly, PutsBefore, candidate_in, made_by, with_notes}
 use Rattle.record_making.specs.Texts.{part_of, parts_after, parts_of}
 use Rattle.record_making.proofs.Noted.{has_text, noted_so, notes_then, only_then}
 use Rattle.record_making.proofs.Before.{taken_over}
@@ -31,6 +31,7 @@ pub record Chains {P V : Type 0} (d : DomainState P) (seen : V → View) (with_s
   pub part : IsPart (object_in now.view s).payload
   pub owned : 0 < times s now.view.core.owned
   pub makes : now.view.core.makes ≡ old.view.core.makes + n
+  pub used : AddsAsMakes old.view.core now.view.core
   pub leaves : Leaves (old.view.core.owned ++ s ∷ []) old.view.core.weaks old now
   pub room : HasRoom now.view.core
   pub rest : IsAtRest d now
@@ -56,9 +57,10 @@ module _ {P V : Type 0} (d : DomainState P) (l : Place V) (bytes payload : List 
       → b.view.client ≡ l.with_seen a.view.client (with_notes
       (candidate_in s (payload ∷ []) b ∷ (l.seen a.view.client).noted) (l.seen a.view.client))
       → 0 < times s b.view.core.owned → b.view.core.makes ≡ a.view.core.makes + 1
+      → AddsAsMakes a.view.core b.view.core
       → Leaves (a.view.core.owned ++ s ∷ []) a.view.core.weaks a b → HasRoom b.view.core
       → IsAtRest d b → Chains d l.seen l.with_seen bytes 1 s a b
-  chain_first s is part made noted owned makes leaves room rest = record {
+  chain_first s is part made noted owned makes used leaves room rest = record {
     noted = (
       (l.seen a.view.client).noted,
       noted ∙ ap (λ (t : Text). l.with_seen a.view.client (with_notes
@@ -72,6 +74,7 @@ module _ {P V : Type 0} (d : DomainState P) (l : Place V) (bytes payload : List 
     part = subst IsPart (sym made) part;
     owned = owned;
     makes = makes;
+    used = used;
     leaves = leaves;
     room = room;
     rest = rest;
@@ -84,10 +87,10 @@ module _ {P V : Type 0} (d : DomainState P) (l : Place V) (bytes payload : List 
     pub chain_on : (k : ℕ) → k ≡ 120 * (parts_after (length bytes) - n)
         → n < parts_after (length bytes) → payload ≡ part_of (drop k bytes) → IsPart payload
         → (object_in c.view t).payload ≡ payload → 0 < times t c.view.core.owned
-        → c.view.core.makes ≡ b.view.core.makes + 1
+        → c.view.core.makes ≡ b.view.core.makes + 1 → AddsAsMakes b.view.core c.view.core
         → Leaves (without s b.view.core.owned ++ t ∷ []) b.view.core.weaks b c
         → HasRoom c.view.core → IsAtRest d c → Chains d l.seen l.with_seen bytes (n + 1) t a c
-    chain_on k at low is part made owned makes second room rest = record {
+    chain_on k at low is part made owned makes used second room rest = record {
       noted = notes_then l (candidate_in t (chained bytes (n + 1)) c) a.view.client b.view.client
           c.view.client
           (candidate_in s (chained bytes n) b ∷ chains.noted.0, chains.noted.1)
@@ -97,6 +100,7 @@ module _ {P V : Type 0} (d : DomainState P) (l : Place V) (bytes payload : List 
       part = subst IsPart (sym made) part;
       owned = owned;
       makes = let m = chains.makes in omega (arith, m, makes);
+      used = let u = chains.used in omega (arith, u, used);
       leaves = taken_over s (Some t) a b c chains.leaves second;
       room = room;
       rest = rest;

@@ -1,5 +1,5 @@
 -- A strong reference that is given up.
-use Rattle.std.proofs.Common.{◌≡◌, ℕ, List, ◌++◌, refl, ap, sym, subst}
+use Rattle.std.proofs.Common.{◌≡◌, ℕ, List, ◌++◌, refl, ap, sym, subst, arith}
 use Rattle.std.specs.Prelude.{Bool, true, false}
 use Rattle.plain_state.specs.declared.slot.SlotId.{SlotId}
 use Rattle.core_events.specs.declared.view.CoreView.{CoreView}
@@ -12,6 +12,7 @@ use Rattle.control_word.specs.Calls.{DropsStrong, with_ended, without_strong}
 use Rattle.control_word.specs.Moves.{KnowsStill}
 use Rattle.control_word.specs.Resting.{IsSpent}
 use Rattle.protected_loads.proofs.Telling.{holds_has}
+use Rattle.record_making.specs.Making.{AddsAsMakes}
 use Rattle.slot_store.specs.Calls.{HasNoMake}
 use Rattle.directory_calls.specs.Steps.{Leaves}
 use Rattle.directory_calls.proofs.Going.{leaves_less}
@@ -54,6 +55,14 @@ module _ {V : Type 0} (b c : SeatState V) (s : SlotId) where
   makes_if true ms core = ap (λ (v : CoreView). v.makes) core
   makes_if false ms core = ap (λ (v : CoreView). v.makes) core
 
+  adds_if : (e : Bool) (ms : List Move)
+      → c.view.core ≡ record (with_ended e s (without_strong s b.view.core)) {
+        trail = b.view.core.trail ++ ms;
+      }
+      → c.view.core.adds ≡ b.view.core.adds
+  adds_if true ms core = ap (λ (v : CoreView). v.adds) core
+  adds_if false ms core = ap (λ (v : CoreView). v.adds) core
+
   module _ {P : Type 0} (fits : List ℕ → Type 0) (d : DomainState P)
       (drops : DropsStrong fits d s b c) where
     pub dropped : KnowsStill (without_strong s b.view.core) b c
@@ -68,3 +77,9 @@ module _ {V : Type 0} (b c : SeatState V) (s : SlotId) where
 
     pub makes_still : c.view.core.makes ≡ b.view.core.makes
     makes_still = makes_if (ends drops.0) _ drops.1.core
+
+    pub adds_still : c.view.core.adds ≡ b.view.core.adds
+    adds_still = adds_if (ends drops.0) _ drops.1.core
+
+    pub used_still : AddsAsMakes b.view.core c.view.core
+    used_still = let a = adds_still in let m = makes_still in omega (arith, a, m)

@@ -30,7 +30,7 @@ use Rattle.directory_law.specs.Views.{without as without_note}
 use Rattle.directory_calls.specs.Steps.{GoesOn, Leaves, aside}
 use Rattle.directory_calls.proofs.Going.{goes_none, goes_then, holds_by, step_goes, walks_go}
 use Rattle.directory_calls.proofs.Parts.{Place, lifts, tells}
-use Rattle.record_making.specs.Making.{Links, candidate_in, with_notes}
+use Rattle.record_making.specs.Making.{AddsAsMakes, Links, candidate_in, with_notes}
 use Rattle.record_making.specs.UnlessRipe.{TellsNothing, next_unless}
 
 -- a slot that was made besides is owned still, once another one is given
@@ -87,6 +87,12 @@ module _ {P V : Type 0} (fits : List ℕ → Type 0) (d : DomainState P) (l : Pl
 
   pub link_makes : new.view.core.makes ≡ old.view.core.makes
   link_makes = ap (λ (u : CoreView). u.makes) stores.swaps.same
+
+  pub link_used : AddsAsMakes old.view.core new.view.core
+  link_used =
+      let a = ap (λ (u : CoreView). u.adds) stores.swaps.same in
+      let m = ap (λ (u : CoreView). u.makes) stores.swaps.same in
+      omega (arith, a, m)
 
   loaded : new.view.client
       ≡ l.with_seen old.view.client

@@ -34,7 +34,7 @@ use Rattle.directory_law.specs.Payloads.{IsOwn}
 use Rattle.directory_law.specs.Steps.{life_in, life_of, payload_in, payload_of}
 use Rattle.directory_law.specs.Views.{rope}
 use Rattle.directory_protocol.specs.Keeping.{MindsNone}
-use Rattle.record_making.specs.Making.{candidate_in, made_by, with_notes}
+use Rattle.record_making.specs.Making.{AddsAsMakes, candidate_in, made_by, with_notes}
 use Rattle.directory_calls.specs.Steps.{Leaves, handle_by, with_found}
 use Rattle.directory_calls.proofs.Going.{leaves_core, leaves_none}
 use Rattle.directory_calls.proofs.Parts.{Place, lift_ready, lifts, tells}
@@ -176,3 +176,30 @@ module _ {P V : Type 0} (fits : List ℕ → Type 0) (d : DomainState P) (l : Pl
       go (Err refused.AddsSpent) is makes = same (adds_spent is)
       go (Err refused.Full) is makes =
           let e = ap (λ (v : CoreView). v.makes) (full is).goes.becomes.core in omega (arith, e)
+
+  -- and as many adds
+  pub made_used : (r : Result Handle MakeError)
+      → (r ≡ Err refused.MakesSpent → new ≡ old) → (r ≡ Err refused.AddsSpent → new ≡ old)
+      → (r ≡ Err refused.Full → Misses fits d old new)
+      → IfOk r (λ strong. Makes fits d (lifts l make_next) (tells l (MakeTells z)) head strong.slot
+      old new)
+      → AddsAsMakes old.view.core new.view.core
+  made_used r makes_spent adds_spent full made = go r refl made
+    where
+      same : new ≡ old → AddsAsMakes old.view.core new.view.core
+      same is = subst (λ (x : SeatState V). AddsAsMakes old.view.core x.view.core) (sym is) refl
+
+      go : (o : Result Handle MakeError) → r ≡ o
+          → IfOk o (λ strong. Makes fits d (lifts l make_next) (tells l (MakeTells z)) head
+          strong.slot old new)
+          → AddsAsMakes old.view.core new.view.core
+      go (Ok strong) is makes =
+          let a = ap (λ (v : CoreView). v.adds) makes.core in
+          let m = ap (λ (v : CoreView). v.makes) makes.core in
+          omega (arith, a, m)
+      go (Err refused.MakesSpent) is makes = same (makes_spent is)
+      go (Err refused.AddsSpent) is makes = same (adds_spent is)
+      go (Err refused.Full) is makes =
+          let a = ap (λ (v : CoreView). v.adds) (full is).goes.becomes.core in
+          let m = ap (λ (v : CoreView). v.makes) (full is).goes.becomes.core in
+          omega (arith, a, m)

@@ -1,7 +1,8 @@
 -- What a make of a record does to the view of its seat.
-use Rattle.std.specs.Prelude.{ℕ, ◌≡◌, List, [], ◌∷◌, Result, Ok, Err}
+use Rattle.std.specs.Prelude.{ℕ, ◌≡◌, ◌+◌, List, [], ◌∷◌, Result, Ok, Err}
 use Rattle.counted_handles.specs.Handles.{Handle}
 use Rattle.plain_state.specs.declared.slot.SlotId.{SlotId}
+use Rattle.core_events.specs.declared.view.CoreView.{CoreView}
 use Rattle.domain_rule.specs.Views.{object_in}
 use Rattle.acquire_retire.specs.Domains.{DomainState}
 use Rattle.acquire_retire.specs.Seats.{SeatState}
@@ -65,6 +66,10 @@ Links seen with_seen t s old new =
 abbrev pub made_by : {E : Type 0} → Result Handle E → ℕ
 made_by (Ok slot) = 1
 made_by (Err error) = 0
+
+-- as many adds were used as makes
+abbrev pub AddsAsMakes : CoreView → CoreView → Type 0
+AddsAsMakes v w = w.adds + v.makes ≡ v.adds + w.makes
 
 -- between two states of the call each slot of the domain was found taken
 pub record MissesWithin {P V : Type 0} (fits : List ℕ → Type 0) (d : DomainState P)

@@ -11,7 +11,7 @@ ghost use Rattle.slot_store.specs.Calls.{HasNoMake};
 ghost use Rattle.directory_law.specs.Bytes.{IsPiece, IsTextOf};
 ghost use Rattle.directory_law.specs.Payloads.{IsOwn, IsPart};
 ghost use Rattle.directory_calls.specs.Steps.{Leaves, handle_by, with_found};
-ghost use Rattle.record_making.specs.Making.{HasText, HasTwo, Links, MissesWithin, Notes, NotesOnly, PutsBefore, candidate_in, made_by, with_notes};
+ghost use Rattle.record_making.specs.Making.{AddsAsMakes, HasText, HasTwo, Links, MissesWithin, Notes, NotesOnly, PutsBefore, candidate_in, made_by, with_notes};
 ghost use Rattle.record_making.specs.Texts.{parts_after, parts_of, text_of};
 
 use crate::texts::{head_of, part_at};
@@ -26,7 +26,7 @@ use slot_store::{MakeError, make};
 
 /// Makes the slots of a text of 1 to 4,096 bytes, the last part first, and links each to the one that was made before
 /// it. The head stands nowhere, and is noted last with the whole text. Where a make is refused, with its causes, what
-/// was made so far is given up.
+/// was made so far is given up. One add for each make.
 pub fn make_record<S, P: HasDirectory<S>>(
     domain: &Domain<P>,
     seat: &mut Seat<P>,
@@ -50,6 +50,7 @@ pub fn make_record<S, P: HasDirectory<S>>(
         seat.old.view.core.weaks seat.old seat.new }
     ensures makes { seat.new.view.core.makes
         ≤ seat.old.view.core.makes + div_ceil (length text.now) 120 }
+    ensures used { AddsAsMakes seat.old.view.core seat.new.view.core }
     ensures all { IfOk result (λ head. seat.new.view.core.makes
         ≡ seat.old.view.core.makes + div_ceil (length text.now) 120) }
     ensures room { HasRoom seat.new.view.core }
@@ -87,6 +88,7 @@ fn make_parts<S, P: HasDirectory<S>>(
         seat.old.view.core.weaks seat.old seat.new }
     ensures makes { seat.new.view.core.makes
         ≤ seat.old.view.core.makes + parts_after (length text.now) }
+    ensures used { AddsAsMakes seat.old.view.core seat.new.view.core }
     ensures all { IfOk result (λ front. seat.new.view.core.makes
         ≡ seat.old.view.core.makes + parts_after (length text.now)) }
     ensures room { HasRoom seat.new.view.core }
@@ -127,6 +129,7 @@ fn make_before<S, P: HasDirectory<S>>(
     ensures leaves { Leaves (with_found (handle_by result)
         (without rest.slot seat.old.view.core.owned)) seat.old.view.core.weaks seat.old seat.new }
     ensures makes { seat.new.view.core.makes ≡ seat.old.view.core.makes + made_by result }
+    ensures used { AddsAsMakes seat.old.view.core seat.new.view.core }
     ensures room { HasRoom seat.new.view.core }
     ensures rest { IsAtRest domain.now seat.new }
 {
@@ -157,6 +160,7 @@ fn link<S, P: HasDirectory<S>>(domain: &Domain<P>, seat: &mut Seat<P>, front: Sl
     ensures leaves { Leaves (without rest.slot seat.old.view.core.owned)
         seat.old.view.core.weaks seat.old seat.new }
     ensures makes { seat.new.view.core.makes ≡ seat.old.view.core.makes }
+    ensures used { AddsAsMakes seat.old.view.core seat.new.view.core }
     ensures room { HasRoom seat.new.view.core }
     ensures rest { IsAtRest domain.now seat.new }
 {
@@ -190,6 +194,7 @@ fn make_slot<S, P: HasDirectory<S>>(
     ensures leaves { Leaves (with_found (handle_by result) seat.old.view.core.owned)
         seat.old.view.core.weaks seat.old seat.new }
     ensures makes { seat.new.view.core.makes ≡ seat.old.view.core.makes + made_by result }
+    ensures used { AddsAsMakes seat.old.view.core seat.new.view.core }
     ensures room { HasRoom seat.new.view.core }
     ensures rest { IsAtRest domain.now seat.new }
 {

@@ -55,6 +55,9 @@ module _ {P V : Type 0} (fits : List ℕ → Type 0) (d : DomainState P) (l : Pl
     pub text_makes : new.view.core.makes ≡ old.view.core.makes
     text_makes = ap (λ (v : CoreView). v.makes) core_new.1
 
+    pub text_adds : new.view.core.adds ≡ old.view.core.adds
+    text_adds = ap (λ (v : CoreView). v.adds) core_new.1
+
     pub text_few : length new.view.core.trail ≤ length old.view.core.trail + (16 + 20 * n)
     text_few =
         let most = up.few in

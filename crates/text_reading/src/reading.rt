@@ -37,6 +37,7 @@ pub fn read_text<S, P: HasDirectory<S>>(
     ensures leaves { Leaves seat.old.view.core.owned seat.old.view.core.weaks seat.old seat.new }
     ensures learns { LearnsIn P.seen P.with_seen 0 seat.old.view.client seat.new.view.client }
     ensures makes { seat.new.view.core.makes ≡ seat.old.view.core.makes }
+    ensures adds { seat.new.view.core.adds ≡ seat.old.view.core.adds }
     ensures few { length seat.new.view.core.trail ≤ length seat.old.view.core.trail + 696 }
     ensures room { HasRoom seat.new.view.core }
     ensures rest { IsAtRest domain.now seat.new }

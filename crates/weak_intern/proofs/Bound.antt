@@ -1,6 +1,6 @@
 -- What a compare and exchange with the deed BindHead asks, and what it leaves.
-use Rattle.std.proofs.Common.{◌≡◌, ⊎_elim, inr, ℕ, ◌+◌, ◌<◌, Bool, true, false, List, [], ◌∷◌, ◌++◌, refl, ap, sym, ◌∙◌, subst, arith, Some, None}
-use Rattle.std.specs.Prelude.{◌==◌, Option, if◌then◌else◌}
+use Rattle.std.proofs.Common.{◌≡◌, ⊎_elim, inr, ℕ, ◌+◌, ◌<◌, Bool, true, false, List, [], ◌∷◌, ◌++◌, refl, ap, sym, ◌∙◌, subst, arith, append_assoc, Some, None}
+use Rattle.std.specs.Prelude.{◌==◌, ◌≢◌, Option, if◌then◌else◌}
 use Rattle.plain_state.specs.declared.act.EventPlace.TheVariants.{WeakCell}
 use Rattle.plain_state.specs.declared.act.PlainAct.{PlainAct}
 use Rattle.plain_state.specs.declared.act.PlainAct.TheVariants as plain
@@ -14,6 +14,7 @@ use Rattle.protocol_pairs.specs.Parts.{Accepts, Frees}
 use Rattle.core_events.specs.declared.act.Act.TheVariants as act
 use Rattle.core_events.specs.declared.outcome.Outcome.TheVariants as outcome
 use Rattle.core_events.specs.declared.view.CoreView.{CoreView}
+use Rattle.core_events.specs.declared.view.Move.{Move}
 use Rattle.core_events.specs.Runs.{after}
 use Rattle.core_events.specs.Shows.{show_seat, shows}
 use Rattle.core_events.specs.Steps.{without_given}
@@ -21,10 +22,11 @@ use Rattle.core_events.specs.Views.{Holds, without}
 use Rattle.core_events.specs.Words.{slot_in}
 use Rattle.core_law.proofs.Kit.{one_same, times_push, times_without}
 use Rattle.domain_rule.specs.Views.{object_in, own_of}
+use Rattle.acquire_retire.specs.Collecting.{move}
 use Rattle.acquire_retire.specs.Calls.{IsReady, IsSameView, same_view}
 use Rattle.acquire_retire.specs.Domains.{DomainState}
 use Rattle.acquire_retire.specs.Seats.{SeatState}
-use Rattle.control_word.specs.Calls.{DropsWeak, GainsWeak, with_weak, without_weak}
+use Rattle.control_word.specs.Calls.{DropsWeak, GainsWeak, weakly_dropped_by, with_weak, without_weak}
 use Rattle.control_word.specs.Moves.{KnowsStill}
 use Rattle.protected_loads.proofs.Telling.{holds_has}
 use Rattle.retiring_stores.specs.Exchanging.{LosesTo, Replaces}
@@ -41,6 +43,7 @@ use Rattle.directory_protocol.specs.Keeping.{KeepsAll, MindsNone}
 use Rattle.directory_calls.specs.Directories.{CanCount}
 use Rattle.record_making.specs.Making.{HasNotedLast, candidate_in}
 use Rattle.weak_intern.specs.Interning.{ComesBy}
+use Rattle.weak_intern.specs.Races.{MissesCell}
 use Rattle.directory_law.specs.Payloads.{IsText, Text}
 use Rattle.directory_calls.specs.Steps.{AfterStep, GoesOn, Leaves, aside}
 use Rattle.directory_calls.proofs.Going.{goes_none, goes_then, holds_by, leaves_as, leaves_core, leaves_then, seat_same, some_earlier, some_later, some_step, step_goes, walks_go}
@@ -246,6 +249,38 @@ module _ {P V : Type 0} (fits : List ℕ → Type 0) (d : DomainState P) (l : Pl
 
       still : KnowsStill (without_weak w lost.view.core) lost new
       still = subst (λ x. KnowsStill (without_weak x lost.view.core) lost new) back stayed
+
+      -- the exchange found another slot, after a weak reference was counted
+      pub lost_misses : MissesCell at s old.view.core new.view.core
+      lost_misses = of_found loses.found loses.loses.other
+          (ap (λ (u : CoreView). u.trail) loses.loses.becomes.core)
+        where
+          of_found : (f : Option SlotId) → f ≢ None
+              → lost.view.core.trail
+              ≡ mid.view.core.trail
+              ++ move (act.Cas (WeakCell at) None (Some w)) (outcome.LostTo f) ∷ []
+              → MissesCell at s old.view.core new.view.core
+          of_found None other grown = absurd (other refl)
+          of_found (Some now) other grown = (
+            now,
+            weakly_dropped_by w drops.0,
+            ap (λ (u : CoreView). u.trail) drops.1.core
+                ∙ ap (λ (ms : List Move). ms ++ weakly_dropped_by w drops.0)
+                (grown
+                ∙ ap (λ (ms : List Move). ms
+                ++ move (act.Cas (WeakCell at) None (Some w)) (outcome.LostTo (Some now)) ∷ [])
+                (ap (λ (u : CoreView). u.trail) gains.core)
+                ∙ append_assoc old.view.core.trail (move (act.Wadd s) outcome.Plain ∷ [])
+                (move (act.Cas (WeakCell at) None (Some w)) (outcome.LostTo (Some now)) ∷ []))
+                ∙ append_assoc old.view.core.trail
+                (move (act.Wadd s) outcome.Plain
+                ∷ move (act.Cas (WeakCell at) None (Some w)) (outcome.LostTo (Some now)) ∷ [])
+                (weakly_dropped_by w drops.0)
+                ∙ ap (λ (x : SlotId). old.view.core.trail
+                ++ ((move (act.Wadd s) outcome.Plain
+                ∷ move (act.Cas (WeakCell at) None (Some x)) (outcome.LostTo (Some now)) ∷ [])
+                ++ weakly_dropped_by w drops.0)) same,
+          )
 
       pub lost_makes : new.view.core.makes ≡ old.view.core.makes
       lost_makes =

@@ -161,3 +161,6 @@ module _ {P V : Type 0} (fits : List ℕ → Type 0) (d : DomainState P) (s : Sl
       get_or_default (object_in old.view s).payload k def 0 low
       ∙ (same.words k (omega (arith, low, size))
       ∙ get_or_default payload k 0 def far))
+
+pub compared_adds : (s : SlotId) (v w : CoreView) → Compares s v w → w.adds ≡ v.adds
+compared_adds s v w compares = ap (λ (u : CoreView). u.adds) compares.core

@@ -56,6 +56,11 @@ module _ {P V : Type 0} (fits : List ℕ → Type 0) (d : DomainState P) (place 
       ap (λ (v : CoreView). v.makes) (one_step d (act.Look place) old new o
       step.word old.view.core step (sym step.answers) refl refl).core
 
+  pub look_adds : new.view.core.adds ≡ old.view.core.adds
+  look_adds =
+      ap (λ (v : CoreView). v.adds) (one_step d (act.Look place) old new o
+      step.word old.view.core step (sym step.answers) refl refl).core
+
   pub look_rest : IsAtRest d old → IsAtRest d new
   look_rest rest =
       rest_after d _ old.view.core old new

@@ -23,7 +23,7 @@ use Rattle.directory_law.specs.Lessons.{LookTells, look_next}
 use Rattle.directory_law.specs.Lessons.{spent}
 use Rattle.directory_law.specs.Payloads.{Text}
 use Rattle.directory_law.specs.Places.{text_hash}
-use Rattle.directory_law.specs.Walks.{Passes, Walked}
+use Rattle.directory_law.specs.Walks.{FindsRoom, Passes, Walked}
 use Rattle.weak_intern.specs.declared.looking.Sight.{Sight}
 use Rattle.weak_intern.specs.declared.looking.Sight.TheVariants as sight
 use Rattle.directory_calls.specs.Learning.{LearnsIn}
@@ -65,6 +65,14 @@ module _ {P V : Type 0} (fits : List ℕ → Type 0) (d : DomainState P) (l : Pl
         ap (λ (v : CoreView). v.makes) (one_step d (act.Look (WeakCell i)) old new o
         step.word old.view.core step (sym step.answers) refl refl).core
 
+    pub around_adds : new.view.core.adds ≡ old.view.core.adds
+    around_adds =
+        ap (λ (v : CoreView). v.adds) (one_step d (act.Look (WeakCell i)) old new o
+        step.word old.view.core step (sym step.answers) refl refl).core
+
+    pub around_room : FindsRoom z (l.seen old.view.client)
+    around_room = step.told.happened.fact.2.2
+
     pub around_rest : IsAtRest d old → IsAtRest d new
     around_rest rest =
         rest_after d _ old.view.core old new
@@ -81,6 +89,7 @@ pub record Walks {P V : Type 0} (d : DomainState P) (seen : V → View) (with_se
   pub room : HasRoom now.view.core
   pub rest : IsAtRest d now
   pub makes : now.view.core.makes ≡ old.view.core.makes
+  pub adds : now.view.core.adds ≤ old.view.core.adds + n
   pub costs : short → PassesBy old.view.core now.view.core
 
 module _ {P V : Type 0} (d : DomainState P) (l : Place V) (z : Area) (text : Text)
@@ -94,6 +103,7 @@ module _ {P V : Type 0} (d : DomainState P) (l : Place V) (z : Area) (text : Tex
     room = room;
     rest = rest;
     makes = refl;
+    adds = omega arith;
     costs = λ is. passes_none a.view.core;
   }
 
@@ -129,9 +139,10 @@ module _ {P V : Type 0} (d : DomainState P) (l : Place V) (z : Area) (text : Tex
         → LearnsBy l 0 b.view.client c.view.client
         → HasRoom c.view.core → IsAtRest d c
         → c.view.core.makes ≡ b.view.core.makes
+        → c.view.core.adds ≤ b.view.core.adds + 1
         → (short → PassesBy a.view.core c.view.core)
         → Walks d l.seen l.with_seen z text short (n + 1) a c
-    one_passed cell at passes second more room rest makes costs = record {
+    one_passed cell at passes second more room rest makes adds costs = record {
       walked = λ j low. ⊎_elim
           (λ less. passes_still 0 (l.seen b.view.client) (l.seen c.view.client) text
           (on z text j) more.part (walks.walked j less))
@@ -144,6 +155,7 @@ module _ {P V : Type 0} (d : DomainState P) (l : Place V) (z : Area) (text : Tex
       room = room;
       rest = rest;
       makes = makes ∙ walks.makes;
+      adds = let was = walks.adds in omega (arith, was, adds);
       costs = costs;
     }
 
@@ -223,15 +235,16 @@ module _ {P V : Type 0} (d : DomainState P) (l : Place V) (z : Area) (text : Tex
         → Leaves (with_found (met found) b.view.core.owned) b.view.core.weaks b c
         → LearnsBy l (taken intern found) b.view.client c.view.client
         → HasRoom c.view.core → IsAtRest d c
-        → c.view.core.makes ≡ b.view.core.makes → (i : ℕ)
+        → c.view.core.makes ≡ b.view.core.makes
+        → c.view.core.adds ≤ b.view.core.adds + 1 → (i : ℕ)
         → (short → FoundBy i found b.view.core c.view.core)
         → Walks d l.seen l.with_seen z text short (n + 1) a c
-    other_passed intern cell found other at meets second more room rest makes i looks =
+    other_passed intern cell found other at meets second more room rest makes adds i looks =
         one_passed cell at (subst (λ f. Meets l.seen d z cell text f b c) other meets)
         (subst (λ f. Leaves (with_found (met f) b.view.core.owned) b.view.core.weaks b c) other
         second)
         (subst (λ f. LearnsBy l (taken intern f) b.view.client c.view.client) other more)
-        room rest makes
+        room rest makes adds
         (λ is. let by = subst (λ f. FoundBy i f b.view.core c.view.core) other
         (looks is) in
         passes_either a.view.core b.view.core c.view.core i by.0 (walks.costs is) by.1)

@@ -9,6 +9,7 @@ pub mod Meeting
 pub mod Moves
 pub mod Looked
 pub mod Costs
+pub mod Races
 pub mod Found
 pub mod Answered
 pub mod Bound

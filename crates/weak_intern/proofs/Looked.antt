@@ -1,6 +1,6 @@
 -- What a whole look at a cell leaves of a seat, in which it saw null or a head.
 use Rattle.std.proofs.Common.{◌≡◌, ℕ, Bool, true, false, List, ◌++◌, refl, sym, ap, subst, ◌∙◌, append_assoc, Some, None, inl, inr}
-use Rattle.std.specs.Prelude.{Err, IfOk, Ok, Option, Result}
+use Rattle.std.specs.Prelude.{◌≢◌, Err, IfOk, Ok, Option, Result}
 use Rattle.plain_state.specs.declared.act.EventPlace.TheVariants.{WeakCell}
 use Rattle.plain_state.specs.declared.slot.Kind.TheVariants.{Weak}
 use Rattle.plain_state.specs.declared.slot.SlotId.{SlotId}
@@ -121,6 +121,9 @@ module _ {V : Type 0} (i : ℕ) (a b : SeatState V) (found : Option Sighted)
     pub null_makes : b.view.core.makes ≡ a.view.core.makes
     null_makes = ap (λ (v : CoreView). v.makes) null_by.1.core
 
+    pub null_adds : b.view.core.adds ≡ a.view.core.adds
+    null_adds = ap (λ (v : CoreView). v.adds) null_by.1.core
+
   -- a head
   module _ (it : Sighted) (is : found ≡ Some it) where
     by : SightsBy i (Some it) a.view.core b.view.core
@@ -140,6 +143,9 @@ module _ {V : Type 0} (i : ℕ) (a b : SeatState V) (found : Option Sighted)
 
     pub look_makes : b.view.core.makes ≡ a.view.core.makes
     look_makes = ap (λ (v : CoreView). v.makes) by.2.core
+
+    pub look_adds : b.view.core.adds ≡ a.view.core.adds
+    look_adds = ap (λ (v : CoreView). v.adds) by.2.core
 
     pub look_saw : {P : Type 0} (seen : V → View) (d : DomainState P) (z : Area) (n : ℕ)
         → Sees seen d z n (sighted_in found) a b → HasSeenAt seen n it.slot b
@@ -165,3 +171,8 @@ module _ {V : Type 0} (i : ℕ) (a b : SeatState V) (found : Option Sighted)
           (_, ap (λ (v : CoreView). v.trail) by.2.core) learns n text found'
           (meets n (look_saw l.seen d z n sees))
       look_met d l z n text (Err error) sees learns meets = tt
+
+-- in a head nothing is null
+pub no_null : {E A : Type 0} (r : Result Sight E) → IfOk r (λ found. found ≢ sight.Null)
+    → r ≡ Ok sight.Null → A
+no_null r head is = absurd (subst (λ x. IfOk x (λ found. found ≢ sight.Null)) is head refl)

@@ -1,5 +1,5 @@
 -- What the moves of a look at a cell leave of a seat, one after another.
-use Rattle.std.proofs.Common.{◌≡◌, ℕ, Bool, true, false, List, [], ◌∷◌, ◌++◌, refl, sym, ap, subst, ◌∙◌, append_assoc, Some, None, inr}
+use Rattle.std.proofs.Common.{◌≡◌, ◌+◌, ◌≤◌, ℕ, Bool, true, false, List, [], ◌∷◌, ◌++◌, refl, sym, ap, subst, ◌∙◌, append_assoc, arith, Some, None, inr}
 use Rattle.std.specs.Prelude.{Err, IfOk, Ok, Option, Result}
 use Rattle.plain_state.specs.declared.slot.SlotId.{SlotId}
 use Rattle.core_events.specs.declared.view.CoreView.{CoreView}
@@ -73,6 +73,12 @@ module _ {V : Type 0} (it : Sighted) (a c : SeatState V) where
   raised_makes None core = ap (λ (v : CoreView). v.makes) core
   raised_makes (Some true) core = ap (λ (v : CoreView). v.makes) core
   raised_makes (Some false) core = ap (λ (v : CoreView). v.makes) core
+
+  pub raised_adds : (how : Option Bool) → Raises it how a.view.core c.view.core
+      → c.view.core.adds ≤ a.view.core.adds + 1
+  raised_adds None core = let e = ap (λ (v : CoreView). v.adds) core in omega (arith, e)
+  raised_adds (Some true) core = let e = ap (λ (v : CoreView). v.adds) core in omega (arith, e)
+  raised_adds (Some false) core = let e = ap (λ (v : CoreView). v.adds) core in omega (arith, e)
 
   pub raised_seat : (how : Option Bool) → Raises it how a.view.core c.view.core
       → c.view.core.seat ≡ a.view.core.seat

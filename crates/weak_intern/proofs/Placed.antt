@@ -1,16 +1,17 @@
 -- A record is put into the first null cell of its walk, or another one is found before that.
-use Rattle.std.proofs.Common.{◌≡◌, inl, inr, ⊎_elim, ℕ, ◌+◌, ◌<◌, [], ◌∷◌, ◌++◌, true, refl, sym, ap, subst, ◌∙◌, arith, Some, None}
-use Rattle.std.specs.Prelude.{◌≢◌, Bool, false, Err, Option, Result}
+use Rattle.std.proofs.Common.{◌≡◌, inl, inr, ⊎_elim, ℕ, ◌+◌, ◌<◌, ◌≤◌, [], ◌∷◌, ◌++◌, true, refl, sym, ap, subst, ◌∙◌, arith, Some, None}
+use Rattle.std.specs.Prelude.{Bool, false, Err, Option, Result}
 use Rattle.std.proofs.lemmas.Bool.{cases_lt}
 use Rattle.plain_state.specs.declared.slot.SlotId.{SlotId}
 use Rattle.plain_state.specs.Lists.{times}
 use Rattle.plain_protocol.specs.Owns.{Object}
+use Rattle.core_events.specs.declared.view.CoreView.{CoreView}
 use Rattle.core_events.specs.Steps.{HasRoom}
 use Rattle.core_law.proofs.Kit.{times_push}
 use Rattle.domain_rule.specs.Views.{object_in}
 use Rattle.acquire_retire.specs.Domains.{DomainState}
 use Rattle.acquire_retire.specs.Seats.{SeatState}
-use Rattle.control_word.specs.Resting.{IsAtRest}
+use Rattle.control_word.specs.Resting.{IsAtRest, IsSpent}
 use Rattle.counted_handles.specs.Handles.{Handle}
 use Rattle.directory_law.specs.declared.view.Rope.{Rope}
 use Rattle.directory_law.specs.declared.view.View.{View}
@@ -18,7 +19,7 @@ use Rattle.directory_law.specs.Cells.{Area, on}
 use Rattle.directory_law.specs.Law.{IsBound}
 use Rattle.directory_law.specs.Making.{bound}
 use Rattle.directory_law.specs.Views.{In, rope}
-use Rattle.directory_law.specs.Walks.{Passes}
+use Rattle.directory_law.specs.Walks.{Passes, Walked}
 use Rattle.weak_intern.specs.declared.looking.Sight.{Sight}
 use Rattle.weak_intern.specs.declared.looking.Sight.TheVariants as sight
 use Rattle.directory_calls.specs.Directories.{CanCount}
@@ -27,11 +28,14 @@ use Rattle.record_making.specs.Making.{HasNotedLast, candidate_in}
 use Rattle.directory_law.specs.Payloads.{Text}
 use Rattle.weak_intern.specs.Knowing.{Knows}
 use Rattle.directory_calls.specs.Learning.{Learns, LearnsIn}
-use Rattle.directory_calls.specs.Steps.{Leaves, with_found}
+use Rattle.directory_calls.specs.Steps.{GoesOn, Leaves, aside, with_found}
+use Rattle.weak_intern.specs.Races.{IsWhyShort, LosesRace}
+use Rattle.weak_intern.specs.Sighting.{Sights}
 use Rattle.weak_intern.specs.Walking.{Meets, found_by, met, taken}
 use Rattle.directory_calls.proofs.Going.{from_earlier, holds_by, leaves_as, leaves_none, leaves_then, seat_same, some_earlier}
-use Rattle.directory_calls.proofs.Learnt.{learns_keeps, passes_still}
+use Rattle.directory_calls.proofs.Learnt.{learns_keeps, walked_still}
 use Rattle.directory_calls.proofs.Parts.{LearnsBy, Place, part_none, zero_then}
+use Rattle.weak_intern.proofs.Races.{UsesFew, spent_short, uses_on}
 
 -- MORE LEARNT, and more kept
 pub learns_grows : (n : ℕ) (v w : View) → Learns n v w → Grows n v w
@@ -103,7 +107,9 @@ not_bound seen with_seen d z text s b c done is binds =
 -- THE WAY of a record s that stands nowhere, from the cell on that comes after n others
 pub record Enters {P V : Type 0} (d : DomainState P) (seen : V → View) (with_seen : V → View → V)
     (z : Area) (text : Text) (s : SlotId) (n : ℕ) (old now : SeatState V) : Type 0 where
-  pub passed : HasPassed z (seen now.view.client) text n
+  pub low : n ≤ z.cells
+  pub walked : Walked z (seen now.view.client) text n
+  pub uses : UsesFew n old.view.core now.view.core
   pub leaves : Leaves old.view.core.owned old.view.core.weaks old now
   pub learns : LearnsIn seen with_seen 0 old.view.client now.view.client
   pub quota : CanCount true (seen now.view.client)
@@ -120,7 +126,9 @@ module _ {P V : Type 0} (d : DomainState P) (l : Place V) (z : Area) (text : Tex
       → HasNotedLast (candidate_in s text a) (l.seen a.view.client) → HasRoom a.view.core
       → IsAtRest d a → Enters d l.seen l.with_seen z text s n a a
   enters_none n passed quota owns noted room rest = record {
-    passed = passed;
+    low = let low = passed.0 in omega (arith, low);
+    walked = passed.1;
+    uses = inl (omega arith);
     leaves = leaves_none a;
     learns = part_none l a.view.client;
     quota = quota;
@@ -134,7 +142,7 @@ module _ {P V : Type 0} (d : DomainState P) (l : Place V) (z : Area) (text : Tex
   module _ (n : ℕ) (b : SeatState V) (enters : Enters d l.seen l.with_seen z text s n a b) where
     pub comes_by : (cell : ℕ) → on z text n ≡ cell
         → ComesBy z (l.seen b.view.client) text cell
-    comes_by cell at = (n, enters.passed.1, at)
+    comes_by cell at = (n, enters.walked, at)
 
     -- one call more, which leaves what it found beside
     module _ (c : SeatState V) where
@@ -164,12 +172,14 @@ module _ {P V : Type 0} (d : DomainState P) (l : Place V) (z : Area) (text : Tex
           zero_then l k a.view.client b.view.client c.view.client enters.learns more
 
       -- a look or a bind that only learns leaves the record where it was
-      pub enters_on : (m : ℕ) → HasPassed z (l.seen c.view.client) text m
-          → Leaves b.view.core.owned b.view.core.weaks b c
+      pub enters_on : (m : ℕ) → m ≤ z.cells → Walked z (l.seen c.view.client) text m
+          → UsesFew m a.view.core c.view.core → Leaves b.view.core.owned b.view.core.weaks b c
           → LearnsBy l 0 b.view.client c.view.client → c.view.core.makes ≡ b.view.core.makes
           → HasRoom c.view.core → IsAtRest d c → Enters d l.seen l.with_seen z text s m a c
-      enters_on m passed second more makes room rest = record {
-        passed = passed;
+      enters_on m low walked uses second more makes room rest = record {
+        low = low;
+        walked = walked;
+        uses = uses;
         leaves = enter_leaves None second;
         learns = enter_learns 0 more;
         quota = let p = more.part.used in let q = more.part.quota in let r = enters.quota in
@@ -193,67 +203,77 @@ module _ {P V : Type 0} (d : DomainState P) (l : Place V) (z : Area) (text : Tex
               left.knows s (omega arith) (omega arith)
 
       -- the cells passed are passed still
-      pub still_passed : LearnsBy l 0 b.view.client c.view.client
-          → HasPassed z (l.seen c.view.client) text n
-      still_passed more = (
-        enters.passed.0,
-        λ j low. passes_still 0 (l.seen b.view.client) (l.seen c.view.client) text
-            (on z text j) more.part (enters.passed.1 j low),
-      )
+      pub still_walked : LearnsBy l 0 b.view.client c.view.client
+          → Walked z (l.seen c.view.client) text n
+      still_walked more =
+          walked_still 0 z (l.seen b.view.client) (l.seen c.view.client) text n more.part
+          enters.walked
 
-      pub one_more_passed : (cell m : ℕ) → on z text n ≡ cell → m < z.cells
-          → (m ≢ 0 → m ≡ n + 1) → Passes (l.seen c.view.client) text cell
-          → LearnsBy l 0 b.view.client c.view.client → HasPassed z (l.seen c.view.client) text m
-      one_more_passed cell m at low next passes more = (
-        low,
-        λ j below. ⊎_elim
-            (λ less. (still_passed more).1 j less)
-            (λ past. let e : m ≡ n + 1 = next (λ none. absurd (omega (arith, none, below))) in
-            let here : n ≡ j = omega (arith, e, below, past) in
-            subst (λ k. Passes (l.seen c.view.client) text (on z text k)) here
-            (subst (λ k. Passes (l.seen c.view.client) text k) (sym at) passes))
-            (cases_lt j n),
-      )
+      pub one_more_walked : (cell : ℕ) → on z text n ≡ cell → Passes (l.seen c.view.client) text cell
+          → LearnsBy l 0 b.view.client c.view.client
+          → Walked z (l.seen c.view.client) text (n + 1)
+      one_more_walked cell at passes more = λ j below. ⊎_elim
+          (λ less. still_walked more j less)
+          (λ past. let here : n ≡ j = omega (arith, below, past) in
+          subst (λ k. Passes (l.seen c.view.client) text (on z text k)) here
+          (subst (λ k. Passes (l.seen c.view.client) text k) (sym at) passes))
+          (cases_lt j n)
 
-      -- a bind that was lost
-      pub enters_lost : c.view.client ≡ b.view.client
-          → Leaves b.view.core.owned b.view.core.weaks b c → c.view.core.makes ≡ b.view.core.makes
-          → HasRoom c.view.core → IsAtRest d c → Enters d l.seen l.with_seen z text s n a c
-      enters_lost client second makes room rest =
-          let more = subst (λ v. LearnsBy l 0 b.view.client v) (sym client)
-          (part_none l b.view.client) in
-          enters_on n (still_passed more) second more makes room rest
-
-      -- a look after it
-      pub null_on : (found : Sight) → found ≡ sight.Null
+      -- a look that found null
+      pub null_on : (i : ℕ) (found : Sight) → found ≡ sight.Null
+          → (j : ℕ) × Sights i j None b.view.core c.view.core
           → Leaves (with_found (met found) b.view.core.owned) b.view.core.weaks b c
           → LearnsBy l (taken true found) b.view.client c.view.client
           → c.view.core.makes ≡ b.view.core.makes → HasRoom c.view.core → IsAtRest d c
           → Enters d l.seen l.with_seen z text s n a c
-      null_on found same second more makes room rest =
+      null_on i found same sights second more makes room rest =
           let learns = subst (λ f. LearnsBy l (taken true f) b.view.client c.view.client) same more
           in
-          enters_on n (still_passed learns)
+          let adds = ap (λ (v : CoreView). v.adds) sights.1.core in
+          enters_on n enters.low (still_walked learns)
+          (subst (λ k. UsesFew k a.view.core c.view.core) (omega arith)
+          (uses_on n 0 a.view.core b.view.core c.view.core enters.uses (omega (arith, adds))
+          second.goes))
           (subst (λ f. Leaves (with_found (met f) b.view.core.owned) b.view.core.weaks b c) same
           second)
           learns makes room rest
 
-      pub other_on : (cell m : ℕ) (found : Sight) → found ≡ sight.Other
-          → on z text n ≡ cell → m < z.cells → (m ≢ 0 → m ≡ n + 1)
+      -- a bind after it that was lost
+      pub enters_lost : LosesRace a.view.core c.view.core → c.view.client ≡ b.view.client
+          → Leaves b.view.core.owned b.view.core.weaks b c → c.view.core.makes ≡ b.view.core.makes
+          → HasRoom c.view.core → IsAtRest d c → Enters d l.seen l.with_seen z text s n a c
+      enters_lost lost client second makes room rest =
+          let more = subst (λ v. LearnsBy l 0 b.view.client v) (sym client)
+          (part_none l b.view.client) in
+          enters_on n enters.low (still_walked more) (inr lost) second more makes room rest
+
+      pub other_on : (cell : ℕ) (found : Sight) → found ≡ sight.Other
+          → on z text n ≡ cell → n < z.cells
           → Meets l.seen d z cell text found b c
           → Leaves (with_found (met found) b.view.core.owned) b.view.core.weaks b c
           → LearnsBy l (taken true found) b.view.client c.view.client
-          → c.view.core.makes ≡ b.view.core.makes → HasRoom c.view.core → IsAtRest d c
-          → Enters d l.seen l.with_seen z text s m a c
-      other_on cell m found same at low next meets second more makes room rest =
+          → c.view.core.makes ≡ b.view.core.makes → c.view.core.adds ≤ b.view.core.adds + 1
+          → HasRoom c.view.core → IsAtRest d c
+          → Enters d l.seen l.with_seen z text s (n + 1) a c
+      other_on cell found same at low meets second more makes adds room rest =
           let learns = subst (λ f. LearnsBy l (taken true f) b.view.client c.view.client) same more
           in
-          enters_on m
-          (one_more_passed cell m at low next
+          enters_on (n + 1) (omega (arith, low))
+          (one_more_walked cell at
           (subst (λ f. Meets l.seen d z cell text f b c) same meets) learns)
+          (uses_on n 1 a.view.core b.view.core c.view.core enters.uses adds second.goes)
           (subst (λ f. Leaves (with_found (met f) b.view.core.owned) b.view.core.weaks b c) same
           second)
           learns makes room rest
+
+      -- a call that found no add left, after it had used at most one
+      pub enters_short : n < z.cells → IsSpent c.view.core
+          → c.view.core.adds ≤ b.view.core.adds + 1 → GoesOn b.view.core c.view.core
+          → aside c.view.core ≡ aside b.view.core → IsWhyShort z.cells a.view.core c.view.core
+      enters_short low spent adds on same =
+          spent_short (n + 1) z.cells a.view.core c.view.core
+          (uses_on n 1 a.view.core b.view.core c.view.core enters.uses adds on) spent
+          (ap (λ (v : CoreView). v.quota) (same ∙ enters.leaves.same)) (omega (arith, low))
 
       pub record_leaves : (found : Sight) (strong : Handle) → found ≡ sight.Record strong
           → Leaves (with_found (met found) b.view.core.owned) b.view.core.weaks b c

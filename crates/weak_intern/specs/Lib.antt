@@ -3,6 +3,7 @@ pub mod Seeing
 pub mod Sighting
 pub mod Costs
 pub mod Knowing
+pub mod Races
 pub mod Walking
 pub mod Interning
 pub mod Drawing

@@ -1,10 +1,11 @@
 //! A record goes into a cell.
-ghost use Rattle.std.specs.Prelude.{true, ◌≡◌, ◌<◌, ◌↔◌, IfOk, IsErr, OnErr};
+ghost use Rattle.std.specs.Prelude.{true, false, ◌≡◌, ◌+◌, ◌<◌, ◌↔◌, IfOk, IsErr, Ok, OnErr};
 ghost use Rattle.plain_state.specs.Lists.{times};
 ghost use Rattle.core_events.specs.Steps.{HasRoom};
 ghost use Rattle.control_word.specs.Resting.{IsAtRest, IsSpent};
 ghost use Rattle.directory_calls.specs.Directories.{CanCount, IsOver, area_of};
 ghost use Rattle.weak_intern.specs.Interning.{Binds, ComesBy};
+ghost use Rattle.weak_intern.specs.Races.{MissesCell};
 ghost use Rattle.record_making.specs.Making.{HasNotedLast, candidate_in};
 ghost use Rattle.record_making.specs.Texts.{text_of};
 ghost use Rattle.weak_intern.specs.Sought.{IsSought};
@@ -49,6 +50,8 @@ pub(crate) fn bind<S, P: HasDirectory<S>>(
     ensures binds { IfOk result (λ done. Binds P.seen P.with_seen domain.now
         (area_of (P.part domain.now.protocol)) (text_of sought.now.text.now)
         candidate.now.slot done seat.old seat.new) }
+    ensures lost { result ≡ Ok false → MissesCell ((P.part domain.now.protocol).first + cell)
+        candidate.now.slot seat.old.view.core seat.new.view.core }
     ensures leaves { Leaves seat.old.view.core.owned seat.old.view.core.weaks seat.old seat.new }
     ensures makes { seat.new.view.core.makes ≡ seat.old.view.core.makes }
     ensures room { HasRoom seat.new.view.core }

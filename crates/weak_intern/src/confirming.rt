@@ -1,5 +1,5 @@
 //! Whether a record whose head is that of a long text has the whole text.
-ghost use Rattle.std.specs.Prelude.{true, ◌≡◌, ◌↔◌, ◌<◌};
+ghost use Rattle.std.specs.Prelude.{true, ◌≡◌, ◌≢◌, ◌↔◌, ◌<◌};
 ghost use Rattle.plain_state.specs.Lists.{times};
 ghost use Rattle.core_events.specs.Steps.{HasRoom};
 ghost use Rattle.core_events.specs.Views.{without};
@@ -13,6 +13,7 @@ ghost use Rattle.directory_calls.specs.Learning.{LearnsIn};
 ghost use Rattle.directory_calls.specs.Steps.{AtStep, Leaves, with_found};
 ghost use Rattle.record_making.specs.Texts.{text_of};
 ghost use Rattle.text_reading.specs.Reading.{HasBegun, HasRead, HasTwoFree};
+ghost use Rattle.weak_intern.specs.declared.looking.Sight.TheVariants as sight;
 ghost use Rattle.weak_intern.specs.Seeing.{HasSeenIn};
 ghost use Rattle.weak_intern.specs.Sought.{HasPieces, IsSought};
 ghost use Rattle.weak_intern.specs.Walking.{MeetsIn, met, taken};
@@ -48,12 +49,14 @@ pub(crate) fn confirm<S, P: HasDirectory<S>>(
     requires pieces { HasPieces P.Kind.fits }
     ensures meets { MeetsIn P.seen domain.now (area_of (P.part domain.now.protocol)) strong.slot
         (text_of sought.now.text.now) result seat.old seat.new }
+    ensures head { result ≢ sight.Null }
     ensures leaves { Leaves (with_found (met result)
         (without strong.slot seat.old.view.core.owned)) seat.old.view.core.weaks
         seat.old seat.new }
     ensures learns { LearnsIn P.seen P.with_seen (taken intern result)
         seat.old.view.client seat.new.view.client }
     ensures makes { seat.new.view.core.makes ≡ seat.old.view.core.makes }
+    ensures adds { seat.new.view.core.adds ≡ seat.old.view.core.adds }
     ensures room { HasRoom seat.new.view.core }
     ensures rest { IsAtRest domain.now seat.new }
 {
@@ -85,6 +88,7 @@ fn has_text<S, P: HasDirectory<S>>(
     ensures leaves { Leaves seat.old.view.core.owned seat.old.view.core.weaks seat.old seat.new }
     ensures learns { LearnsIn P.seen P.with_seen 0 seat.old.view.client seat.new.view.client }
     ensures makes { seat.new.view.core.makes ≡ seat.old.view.core.makes }
+    ensures adds { seat.new.view.core.adds ≡ seat.old.view.core.adds }
     ensures room { HasRoom seat.new.view.core }
     ensures rest { IsAtRest domain.now seat.new }
 {
@@ -108,6 +112,7 @@ fn answer<S, P: HasDirectory<S>>(domain: &Domain<P>, seat: &mut Seat<P>, slot: S
     ensures learns { LearnsIn P.seen P.with_seen (spent intern)
         seat.old.view.client seat.new.view.client }
     ensures makes { seat.new.view.core.makes ≡ seat.old.view.core.makes }
+    ensures adds { seat.new.view.core.adds ≡ seat.old.view.core.adds }
     ensures room { HasRoom seat.new.view.core }
     ensures rest { IsAtRest domain.now seat.new }
 {

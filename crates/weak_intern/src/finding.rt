@@ -1,5 +1,5 @@
 //! The live record of a text.
-ghost use Rattle.std.specs.Prelude.{◌≤◌, IfOk, IfSome, IsErr, length};
+ghost use Rattle.std.specs.Prelude.{◌+◌, ◌≤◌, IfOk, IfSome, IsErr, length};
 ghost use Rattle.core_events.specs.Steps.{HasRoom};
 ghost use Rattle.atomic_weak.specs.Places.{named};
 ghost use Rattle.control_word.specs.Resting.{IsAtRest, IsSpent};
@@ -23,7 +23,7 @@ use std::sync::Wait;
 
 /// A strong reference to the live record of a text of 1 to 4,096 bytes, or None where it had none
 /// at a step of the call. `Spent` where the seat has no add left, and comes to a head that has the
-/// payload of the text's. It looks at each cell at most once, and at one of them a last time: at
+/// payload of the text's; then at its entry it had at most one left for each cell. It looks at each cell at most once, and at one of them a last time: at
 /// most four steps for each try to load, 18 more for each cell, and one; of a long text some 700
 /// more for each cell whose head is the text's. A text of at most 120 bytes is found for one add,
 /// and one more for each record with its payload that had ended.
@@ -48,6 +48,8 @@ pub fn find<R: Wait, S, P: HasDirectory<S>>(
     ensures takes { length text.now ≤ 120 → IfOk result (λ found. IfSome found (λ strong.
         TakesBy strong.slot seat.old.view.core seat.new.view.core)) }
     ensures spent { IsErr result → IsSpent seat.new.view.core }
+    ensures short { IsErr result → seat.old.view.core.quota.adds
+        ≤ seat.old.view.core.adds + directory.now.cells }
     ensures leaves { Leaves (with_found (found_by result) seat.old.view.core.owned)
         seat.old.view.core.weaks seat.old seat.new }
     ensures learns { LearnsIn P.seen P.with_seen 0 seat.old.view.client seat.new.view.client }

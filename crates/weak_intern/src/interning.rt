@@ -1,5 +1,5 @@
 //! The record of a text, which is made where the text has none.
-ghost use Rattle.std.specs.Prelude.{true, ◌≡◌, ◌≢◌, ◌+◌, ◌<◌, ◌≤◌, Err, IfOk, IsErr, length};
+ghost use Rattle.std.specs.Prelude.{true, ◌≡◌, ◌≢◌, ◌+◌, ◌*◌, ◌<◌, ◌≤◌, Err, IfOk, IsErr, length};
 ghost use Rattle.std.specs.Int.{div_ceil};
 ghost use Rattle.plain_state.specs.Lists.{times};
 ghost use Rattle.core_events.specs.Steps.{HasRoom};
@@ -7,6 +7,7 @@ ghost use Rattle.control_word.specs.Resting.{IsAtRest, IsSpent};
 ghost use Rattle.slot_store.specs.declared.making.MakeError.TheVariants as refused;
 ghost use Rattle.directory_calls.specs.Directories.{CanCount, HasNoRecord, IsOver, area_of};
 ghost use Rattle.weak_intern.specs.Interning.{GrowsIn, HasPassed, Interns, Places, interned_by, named_or, placed_by};
+ghost use Rattle.weak_intern.specs.Races.{IsWhyShort};
 ghost use Rattle.record_making.specs.Making.{HasNotedLast, MissesWithin, candidate_in};
 ghost use Rattle.record_making.specs.Texts.{text_of};
 ghost use Rattle.slot_store.specs.Calls.{HasNoMake};
@@ -19,7 +20,7 @@ ghost use Rattle.weak_intern.specs.Walking.{found_by};
 use crate::binding::bind;
 use crate::looking::{Sight, look};
 use crate::sought::Sought;
-use crate::walking::{Walk, seek};
+use crate::walking::{Walk, come_around, seek};
 use acquire_retire::{Domain, Seat};
 use control_word::drop_strong;
 use counted_handles::{Spent, Strong};
@@ -31,7 +32,8 @@ use std::sync::Wait;
 /// A strong reference to the live record of a text of 1 to 4,096 bytes, which it makes where the
 /// text has none. It uses one intern of the seat, and none where it is refused. `MakesSpent` and
 /// `Full` come only where the text had no live record at a step of the call; `AddsSpent` where the
-/// seat has no add left. It makes a record at most once: one make for each 120 bytes.
+/// seat has no add left: then at its entry it had at most two for each cell and one for each 120
+/// bytes, or it lost a race for a cell. It makes a record at most once: one make for each 120 bytes.
 pub fn intern<R: Wait, S, P: HasDirectory<S>>(
     rt: &R,
     domain: &Domain<P>,
@@ -53,6 +55,9 @@ pub fn intern<R: Wait, S, P: HasDirectory<S>>(
     ensures none { IsErr result → result ≢ Err refused.AddsSpent → AtStep domain.now
         (λ p. HasNoRecord (area_of (P.part domain.now.protocol)) p text.now) seat.old seat.new }
     ensures adds { result ≡ Err refused.AddsSpent → IsSpent seat.new.view.core }
+    ensures short { result ≡ Err refused.AddsSpent
+        → IsWhyShort (2 * directory.now.cells + div_ceil (length text.now) 120)
+        seat.old.view.core seat.new.view.core }
     ensures no_make { result ≡ Err refused.MakesSpent → HasNoMake seat.new.view.core }
     ensures full { result ≡ Err refused.Full
         → MissesWithin P.Kind.fits domain.now seat.old seat.new }
@@ -101,6 +106,9 @@ fn add<R: Wait, S, P: HasDirectory<S>>(
     ensures knows { IfOk result (λ strong. Knows P.seen strong.slot
         (text_of sought.now.text.now) seat.new) }
     ensures adds { result ≡ Err refused.AddsSpent → IsSpent seat.new.view.core }
+    ensures short { result ≡ Err refused.AddsSpent
+        → IsWhyShort (directory.now.cells + div_ceil (length sought.now.text.now) 120)
+        seat.old.view.core seat.new.view.core }
     ensures no_make { result ≡ Err refused.MakesSpent → HasNoMake seat.new.view.core }
     ensures full { result ≡ Err refused.Full
         → MissesWithin P.Kind.fits domain.now seat.old seat.new }
@@ -128,7 +136,8 @@ fn add<R: Wait, S, P: HasDirectory<S>>(
 }
 
 /// Puts a record into the first cell of its walk that it finds null, from the one on that comes
-/// after so many others; or finds another live record of its text before that.
+/// after so many others; or finds another live record of its text before that. A cell that was null
+/// and isn't at the bind was another seat's, and is looked at again.
 fn place<R: Wait, S, P: HasDirectory<S>>(
     rt: &R,
     domain: &Domain<P>,
@@ -157,6 +166,8 @@ fn place<R: Wait, S, P: HasDirectory<S>>(
     ensures knows { IfOk result (λ found. Knows P.seen (named_or candidate.now.slot found)
         (text_of sought.now.text.now) seat.new) }
     ensures spent { IsErr result → IsSpent seat.new.view.core }
+    ensures short { IsErr result
+        → IsWhyShort directory.now.cells seat.old.view.core seat.new.view.core }
     ensures leaves { Leaves (with_found (found_by result) seat.old.view.core.owned)
         seat.old.view.core.weaks seat.old seat.new }
     ensures grows { GrowsIn P.seen P.with_seen (placed_by result)
@@ -167,25 +178,20 @@ fn place<R: Wait, S, P: HasDirectory<S>>(
 {
     let mut passed = from;
     for _ in rt.forever() {
-        let cell = cell_on(sought.hash, passed, directory.cells);
-        let bound = bind::<S, P>(domain, seat, directory, cell, sought, candidate)?;
-        if bound {
-            return Ok(None);
+        if passed == directory.cells {
+            come_around::<S, P>(domain, seat, directory);
+            unreachable!()
         }
+        let cell = cell_on(sought.hash, passed, directory.cells);
         match look::<R, S, P>(rt, domain, seat, directory, cell, sought, true)? {
-            Sight::Null => {}
+            Sight::Null => {
+                if bind::<S, P>(domain, seat, directory, cell, sought, candidate)? {
+                    return Ok(None);
+                }
+            }
             Sight::Record(strong) => return Ok(Some(strong)),
-            Sight::Other => passed = next_on(passed, directory.cells),
+            Sight::Other => passed += 1,
         }
     }
     unreachable!()
-}
-
-/// The number after this one, or 0 where all were counted.
-fn next_on(passed: u32, cells: u32) -> u32
-    requires low { passed < cells }
-    ensures low { result < cells }
-    ensures next { result ≢ 0 → result ≡ passed + 1 }
-{
-    if passed + 1 < cells { passed + 1 } else { 0 }
 }

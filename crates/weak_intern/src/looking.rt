@@ -1,5 +1,5 @@
 //! What the walk of a text meets in one cell.
-ghost use Rattle.std.specs.Prelude.{◌≡◌, ◌+◌, ◌<◌, ◌≤◌, IfOk, IsErr, length};
+ghost use Rattle.std.specs.Prelude.{ℕ, ◌≡◌, ◌≢◌, ◌+◌, ◌<◌, ◌≤◌, IfOk, IsErr, None, Ok, length};
 ghost use Rattle.core_events.specs.Steps.{HasRoom};
 ghost use Rattle.control_word.specs.Resting.{IsAtRest, IsSpent};
 ghost use Rattle.domain_rule.specs.Views.{object_in};
@@ -7,7 +7,8 @@ ghost use Rattle.directory_calls.specs.Directories.{CanCount, IsOver, area_of};
 ghost use Rattle.directory_calls.specs.Learning.{LearnsIn};
 ghost use Rattle.record_making.specs.Texts.{text_of};
 ghost use Rattle.weak_intern.specs.Seeing.{HasSeenIn};
-ghost use Rattle.weak_intern.specs.Sighting.{IsSighted, let_go_of, seat_without};
+ghost use Rattle.weak_intern.specs.declared.looking.Sight.TheVariants as sight;
+ghost use Rattle.weak_intern.specs.Sighting.{IsSighted, Sights, let_go_of, seat_without};
 ghost use Rattle.text_reading.specs.Reading.{HasTwoFree};
 ghost use Rattle.weak_intern.specs.Sought.{HasPieces, IsSought};
 ghost use Rattle.directory_calls.specs.Steps.{Leaves, with_found};
@@ -60,6 +61,9 @@ pub(crate) fn look<R: Wait, S, P: HasDirectory<S>>(
     ensures meets { IfOk result (λ sight. Meets P.seen domain.now
         (area_of (P.part domain.now.protocol)) cell (text_of sought.now.text.now) sight
         seat.old seat.new) }
+    ensures null { result ≡ Ok sight.Null → (j : ℕ)
+        × Sights ((P.part domain.now.protocol).first + cell) j None
+        seat.old.view.core seat.new.view.core }
     ensures spent { IsErr result → IsSpent seat.new.view.core }
     ensures looks { length sought.now.text.now ≤ 120
         → LooksBy ((P.part domain.now.protocol).first + cell) result
@@ -69,6 +73,7 @@ pub(crate) fn look<R: Wait, S, P: HasDirectory<S>>(
     ensures learns { LearnsIn P.seen P.with_seen (taken_by intern result)
         seat.old.view.client seat.new.view.client }
     ensures makes { seat.new.view.core.makes ≡ seat.old.view.core.makes }
+    ensures adds { seat.new.view.core.adds ≤ seat.old.view.core.adds + 1 }
     ensures room { HasRoom seat.new.view.core }
     ensures rest { IsAtRest domain.now seat.new }
 {
@@ -97,6 +102,7 @@ fn meet<S, P: HasDirectory<S>>(
     ensures meets { IfOk result (λ sight. MeetsIn P.seen domain.now
         (area_of (P.part domain.now.protocol)) sighted.slot (text_of sought.now.text.now) sight
         seat.old seat.new) }
+    ensures head { IfOk result (λ found. found ≢ sight.Null) }
     ensures spent { IsErr result → IsSpent seat.new.view.core }
     ensures ends { length sought.now.text.now ≤ 120
         → EndsBy sighted result seat.old.view.core seat.new.view.core }
@@ -105,6 +111,7 @@ fn meet<S, P: HasDirectory<S>>(
     ensures learns { LearnsIn P.seen P.with_seen (taken_by intern result)
         seat.old.view.client seat.new.view.client }
     ensures makes { seat.new.view.core.makes ≡ seat.old.view.core.makes }
+    ensures adds { seat.new.view.core.adds ≤ seat.old.view.core.adds + 1 }
     ensures room { HasRoom seat.new.view.core }
     ensures rest { IsAtRest domain.now seat.new }
 {
@@ -137,6 +144,7 @@ fn meet_short<S, P: HasDirectory<S>>(
     ensures meets { IfOk result (λ sight. MeetsIn P.seen domain.now
         (area_of (P.part domain.now.protocol)) sighted.slot (text_of sought.now.text.now) sight
         seat.old seat.new) }
+    ensures head { IfOk result (λ found. found ≢ sight.Null) }
     ensures spent { IsErr result → IsSpent seat.new.view.core }
     ensures raises { RaisesBy sighted result seat.old.view.core seat.new.view.core }
     ensures leaves { Leaves (with_found (met_by result) seat.old.view.core.owned)
@@ -144,6 +152,7 @@ fn meet_short<S, P: HasDirectory<S>>(
     ensures learns { LearnsIn P.seen P.with_seen (taken_by intern result)
         seat.old.view.client seat.new.view.client }
     ensures makes { seat.new.view.core.makes ≡ seat.old.view.core.makes }
+    ensures adds { seat.new.view.core.adds ≤ seat.old.view.core.adds + 1 }
     ensures room { HasRoom seat.new.view.core }
     ensures rest { IsAtRest domain.now seat.new }
 {
@@ -175,12 +184,14 @@ fn meet_long<S, P: HasDirectory<S>>(
     ensures meets { IfOk result (λ sight. MeetsIn P.seen domain.now
         (area_of (P.part domain.now.protocol)) sighted.slot (text_of sought.now.text.now) sight
         seat.old seat.new) }
+    ensures head { IfOk result (λ found. found ≢ sight.Null) }
     ensures spent { IsErr result → IsSpent seat.new.view.core }
     ensures leaves { Leaves (with_found (met_by result) seat.old.view.core.owned)
         seat.old.view.core.weaks (seat_without sighted seat.old) seat.new }
     ensures learns { LearnsIn P.seen P.with_seen (taken_by intern result)
         seat.old.view.client seat.new.view.client }
     ensures makes { seat.new.view.core.makes ≡ seat.old.view.core.makes }
+    ensures adds { seat.new.view.core.adds ≤ seat.old.view.core.adds + 1 }
     ensures room { HasRoom seat.new.view.core }
     ensures rest { IsAtRest domain.now seat.new }
 {

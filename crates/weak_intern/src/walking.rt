@@ -1,9 +1,10 @@
 //! The walk of a text over the cells of a directory.
-ghost use Rattle.std.specs.Prelude.{◌≡◌, ◌≤◌, IfOk, IsErr, length};
+ghost use Rattle.std.specs.Prelude.{◌≡◌, ◌+◌, ◌≤◌, IfOk, IsErr, length};
 ghost use Rattle.core_events.specs.Steps.{HasRoom};
 ghost use Rattle.control_word.specs.Resting.{IsAtRest, IsSpent};
 ghost use Rattle.directory_calls.specs.Directories.{CanCount, IsOver, area_of};
 ghost use Rattle.directory_calls.specs.Learning.{LearnsIn};
+ghost use Rattle.directory_law.specs.Walks.{FindsRoom};
 ghost use Rattle.record_making.specs.Texts.{text_of};
 ghost use Rattle.text_reading.specs.Reading.{HasTwoFree};
 ghost use Rattle.weak_intern.specs.Sought.{HasPieces, IsSought};
@@ -31,7 +32,7 @@ pub enum Walk {
 }
 
 /// Walks over the cells for a text, up to its live record or a null cell. Where it comes to the
-/// record, an intern of the seat is used if that is asked.
+/// record, an intern of the seat is used if that is asked. At most one add for each cell.
 pub(crate) fn seek<R: Wait, S, P: HasDirectory<S>>(
     rt: &R,
     domain: &Domain<P>,
@@ -58,6 +59,7 @@ pub(crate) fn seek<R: Wait, S, P: HasDirectory<S>>(
     ensures learns { LearnsIn P.seen P.with_seen (used_by intern result)
         seat.old.view.client seat.new.view.client }
     ensures makes { seat.new.view.core.makes ≡ seat.old.view.core.makes }
+    ensures adds { seat.new.view.core.adds ≤ seat.old.view.core.adds + directory.now.cells }
     ensures room { HasRoom seat.new.view.core }
     ensures rest { IsAtRest domain.now seat.new }
 {
@@ -73,16 +75,20 @@ pub(crate) fn seek<R: Wait, S, P: HasDirectory<S>>(
     Ok(Walk::Absent(0))
 }
 
-/// A last look, at whichever cell, where a walk has passed them all. One step.
-fn come_around<S, P: HasDirectory<S>>(domain: &Domain<P>, seat: &mut Seat<P>, directory: &Directory)
+/// A last look, at whichever cell, where a walk has passed them all: a seat that has an intern left
+/// doesn't come to that. One step.
+pub(crate) fn come_around<S, P: HasDirectory<S>>(domain: &Domain<P>, seat: &mut Seat<P>, directory: &Directory)
     requires rest { IsAtRest domain.now seat.old }
     requires room { HasRoom seat.old.view.core }
     requires over { IsOver domain.now (P.part domain.now.protocol) directory.now }
     ensures ends { EndsAround P.seen domain.now (area_of (P.part domain.now.protocol))
         seat.old seat.new }
+    ensures finds_room { FindsRoom (area_of (P.part domain.now.protocol))
+        (P.seen seat.old.view.client) }
     ensures leaves { Leaves seat.old.view.core.owned seat.old.view.core.weaks seat.old seat.new }
     ensures client { seat.new.view.client ≡ seat.old.view.client }
     ensures makes { seat.new.view.core.makes ≡ seat.old.view.core.makes }
+    ensures adds { seat.new.view.core.adds ≡ seat.old.view.core.adds }
     ensures room { HasRoom seat.new.view.core }
     ensures rest { IsAtRest domain.now seat.new }
 {

@@ -5,7 +5,7 @@ use Rattle.directory_calls.proofs.Parts.{place_of}
 use Rattle.record_making.specs.Making.{HasTwo, Links}
 use Rattle.record_making.proofs.Noted.{misses_on}
 use Rattle.record_making.proofs.Before.{front_left, has_two, leaves_before, made_before, owned_before, put_before, refused_before, rest_owned, rest_part}
-use Rattle.record_making.proofs.Dropped.{dropped, makes_still}
+use Rattle.record_making.proofs.Dropped.{dropped, makes_still, used_still}
 use Rattle.record_making.proofs.making.make_before.Goals as goal
 
 pub link-requires-clause-left : goal.link-requires-clause-left
@@ -102,5 +102,17 @@ returns-in-Err-clause-makes g c =
       arith,
       c.in-Err.ensures.makes,
       makes_still c.make_slot.new.seat c.drop_strong.new.seat c.args.rest.slot
+          g.P.Kind.PayloadKind.fits c.args.domain.now c.drop_strong.ensures.dropped,
+    )
+
+pub returns-in-Ok-clause-used : goal.returns-in-Ok-clause-used
+returns-in-Ok-clause-used g c = omega (arith, c.make_slot.ensures.used, c.link.ensures.used)
+
+pub returns-in-Err-clause-used : goal.returns-in-Err-clause-used
+returns-in-Err-clause-used g c =
+    omega (
+      arith,
+      c.make_slot.ensures.used,
+      used_still c.make_slot.new.seat c.drop_strong.new.seat c.args.rest.slot
           g.P.Kind.PayloadKind.fits c.args.domain.now c.drop_strong.ensures.dropped,
     )

@@ -34,7 +34,7 @@ loop-made-init g c =
       c.requires.text.0,
     ))))
     c.in_ok-front.ensures.made c.in_ok-front.ensures.noted c.in_ok-front.ensures.owned
-    c.in_ok-front.ensures.makes
+    c.in_ok-front.ensures.makes c.make_slot.ensures.used
     c.in_ok-front.ensures.leaves c.make_slot.ensures.room c.make_slot.ensures.rest
 
 pub make_before-requires-clause-piece : goal.make_before-requires-clause-piece
@@ -103,7 +103,7 @@ loop-made-preserved g c =
     (subst IsPart (sym c.part_at-in-loop-made.ensures)
     (part_at_is c.args.text.now _ (omega (arith, c.requires.text.0, c.loop-made-test.true))))
     c.in_ok-front-2.ensures.made c.in_ok-front-2.ensures.owned
-    c.in_ok-front-2.ensures.makes c.in_ok-front-2.ensures.leaves
+    c.in_ok-front-2.ensures.makes c.make_before.ensures.used c.in_ok-front-2.ensures.leaves
     c.make_before.ensures.room c.make_before.ensures.rest
 
 pub returns-clause-noted : goal.returns-clause-noted
@@ -149,3 +149,10 @@ returns-clause-makes g c =
       c.loop-made-test.false,
       c.loop-made.auto.made-end,
     )
+
+pub returns-in_err-front-2-clause-used : goal.returns-in_err-front-2-clause-used
+returns-in_err-front-2-clause-used g c =
+    omega (arith, c.loop-made.invariant.used, c.make_before.ensures.used)
+
+pub returns-clause-used : goal.returns-clause-used
+returns-clause-used g c = c.loop-made.invariant.used

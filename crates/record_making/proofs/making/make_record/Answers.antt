@@ -121,3 +121,6 @@ returns-in_err-rest-clause-text g c =
 pub returns-clause-text : goal.returns-clause-text
 returns-clause-text g c =
     is_text_of c.args.text.now c.requires.text.0 c.requires.text.1
+
+pub returns-clause-used : goal.returns-clause-used
+returns-clause-used g c = omega (arith, c.make_parts.ensures.used, c.make_before.ensures.used)

@@ -1,7 +1,7 @@
 use Rattle.directory_calls.specs.Directories.{area_of}
 use Rattle.directory_calls.proofs.Parts.{place_of}
 use Rattle.directory_law.proofs.Bytes.{piece_own}
-use Rattle.record_making.proofs.Made.{head_ready, made_all, made_leaves, made_makes}
+use Rattle.record_making.proofs.Made.{head_ready, made_all, made_leaves, made_makes, made_used}
 use Rattle.record_making.proofs.Noted.{misses_here, none_if}
 use Rattle.record_making.proofs.making.make_slot.Goals as goal
 
@@ -51,6 +51,15 @@ returns-clause-client g c =
 pub returns-clause-makes : goal.returns-clause-makes
 returns-clause-makes g c =
     made_makes g.P.Kind.PayloadKind.fits c.args.domain.now
+    (place_of g.P.Part.seen g.P.Part.with_seen g.P.Part.reads g.P.Part.puts_back
+    g.P.Part.puts_over)
+    (area_of (g.P.Part.part c.args.domain.now.protocol)) c.args.payload.now
+    c.args.seat.now c.make.new.seat c.make.result c.make.ensures.no_make c.make.ensures.no_add
+    c.make.ensures.full c.make.ensures.made
+
+pub returns-clause-used : goal.returns-clause-used
+returns-clause-used g c =
+    made_used g.P.Kind.PayloadKind.fits c.args.domain.now
     (place_of g.P.Part.seen g.P.Part.with_seen g.P.Part.reads g.P.Part.puts_back
     g.P.Part.puts_over)
     (area_of (g.P.Part.part c.args.domain.now.protocol)) c.args.payload.now

@@ -4,7 +4,7 @@ use Rattle.directory_calls.proofs.Parts.{place_of}
 use Rattle.text_reading.specs.Reading.{AreBytesOf}
 use Rattle.text_reading.proofs.Copied.{head_put, part_put}
 use Rattle.text_reading.proofs.Running.{IsUpTo, head_read, holds_part, more, part_read}
-use Rattle.text_reading.proofs.WholeTexts.{text_leaves, text_makes, text_read}
+use Rattle.text_reading.proofs.WholeTexts.{text_adds, text_leaves, text_makes, text_read}
 use Rattle.text_reading.proofs.reading.read_text.Goals as goal
 
 pub loop-part-init : goal.loop-part-init
@@ -115,6 +115,18 @@ returns-clause-leaves g c =
 pub returns-clause-makes : goal.returns-clause-makes
 returns-clause-makes g c =
     text_makes g.P.Kind.PayloadKind.fits c.args.domain.now
+    (place_of g.P.Part.seen g.P.Part.with_seen g.P.Part.reads g.P.Part.puts_back
+    g.P.Part.puts_over)
+    c.args.slot c.args.seat.now c.requires.held
+    c.loop-part.part (slice_index c.payload_of-head.result 0 - 120 * (c.loop-part.part + 1))
+    (take (min (slice_index c.payload_of-head.result 0) (120 * (c.loop-part.part + 1)))
+    c.loop-part.out) c.loop-part.last.word c.loop-part.last.slot c.loop-part.seat
+    c.loop-part.invariant
+    c.let_go.new.seat c.let_go.ensures.core c.let_go.ensures.client c.let_go.ensures.objects
+
+pub returns-clause-adds : goal.returns-clause-adds
+returns-clause-adds g c =
+    text_adds g.P.Kind.PayloadKind.fits c.args.domain.now
     (place_of g.P.Part.seen g.P.Part.with_seen g.P.Part.reads g.P.Part.puts_back
     g.P.Part.puts_over)
     c.args.slot c.args.seat.now c.requires.held

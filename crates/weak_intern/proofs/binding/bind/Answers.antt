@@ -1,8 +1,9 @@
-use Rattle.std.proofs.Common.{◌∙◌, arith, sym}
+use Rattle.std.proofs.Common.{◌∙◌, arith, subst, sym}
 use Rattle.directory_calls.specs.Directories.{area_of}
 use Rattle.directory_law.proofs.Bytes.{text_is}
 use Rattle.record_making.specs.Texts.{text_of}
-use Rattle.weak_intern.proofs.Bound.{bound_after, bound_client, bound_leaves, bound_makes, lost_client, lost_leaves, lost_makes, ready}
+use Rattle.weak_intern.specs.Races.{MissesCell}
+use Rattle.weak_intern.proofs.Bound.{bound_after, bound_client, bound_leaves, bound_makes, lost_client, lost_leaves, lost_makes, lost_misses, ready}
 use Rattle.directory_calls.proofs.Parts.{place_of}
 use Rattle.weak_intern.proofs.binding.bind.Goals as goal
 
@@ -111,3 +112,19 @@ returns-in-Err-clause-makes g c =
     c.try_replace_weak.ensures.objects c.drop_weak.new.seat c.of.result.slot
     (c.of.ensures ∙ c.slot.ensures ∙ sym c.in_ok-weak.ensures.gained.0)
     c.drop_weak.ensures.dropped c.drop_weak.ensures.objects
+
+pub returns-in-Err-clause-lost : goal.returns-in-Err-clause-lost
+returns-in-Err-clause-lost g c = λ is.
+    subst (λ i. MissesCell i c.args.candidate.now.slot c.args.seat.now.view.core
+    c.drop_weak.new.seat.view.core) c.number-at.ensures.is
+    (lost_misses g.P.Kind.PayloadKind.fits c.args.domain.now
+    (place_of g.P.Part.seen g.P.Part.with_seen g.P.Part.reads g.P.Part.puts_back
+    g.P.Part.puts_over)
+    (area_of (g.P.Part.part c.args.domain.now.protocol)) (text_of c.args.sought.now.text.now)
+    c.args.candidate.now.slot c.in_ok-weak.weak.slot c.in_ok-weak.ensures.gained.0
+    c.args.seat.now c.weaken.new.seat c.in_ok-weak.ensures.gained.1 c.weaken.ensures.client
+    c.weaken.ensures.objects c.requires.owned c.requires.noted
+    c.number-at.result c.in-Err.field-0.now c.try_replace_weak.new.seat c.in-Err.ensures.lost
+    c.try_replace_weak.ensures.objects c.drop_weak.new.seat c.of.result.slot
+    (c.of.ensures ∙ c.slot.ensures ∙ sym c.in_ok-weak.ensures.gained.0)
+    c.drop_weak.ensures.dropped c.drop_weak.ensures.objects)

@@ -3,7 +3,7 @@ use Rattle.directory_law.specs.Lessons.{spent}
 use Rattle.directory_calls.specs.Directories.{CanCount, area_of}
 use Rattle.directory_calls.proofs.Parts.{part_as, place_of}
 use Rattle.plain_state.specs.declared.act.EventPlace.TheVariants.{Field}
-use Rattle.weak_intern.proofs.Confirmed.{answer_learns, answer_live, answer_ready, look_leaves, look_makes, look_rest}
+use Rattle.weak_intern.proofs.Confirmed.{answer_learns, answer_live, answer_ready, look_adds, look_leaves, look_makes, look_rest}
 use Rattle.weak_intern.proofs.confirming.answer.Goals as goal
 
 pub look-requires-clause-deed : goal.look-requires-clause-deed
@@ -58,3 +58,8 @@ pub returns-clause-rest : goal.returns-clause-rest
 returns-clause-rest g c =
     look_rest g.P.Kind.PayloadKind.fits c.args.domain.now (Field c.args.slot 1) _ _
     c.args.seat.now c.look.new.seat c.look.result c.look.ensures c.requires.rest
+
+pub returns-clause-adds : goal.returns-clause-adds
+returns-clause-adds g c =
+    look_adds g.P.Kind.PayloadKind.fits c.args.domain.now (Field c.args.slot 1) _ _
+    c.args.seat.now c.look.new.seat c.look.result c.look.ensures

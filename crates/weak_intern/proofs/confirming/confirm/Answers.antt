@@ -7,7 +7,7 @@ use Rattle.directory_calls.specs.Directories.{area_of}
 use Rattle.directory_calls.proofs.Parts.{place_of}
 use Rattle.directory_law.proofs.Bytes.{text_is}
 use Rattle.record_making.specs.Texts.{text_of}
-use Rattle.record_making.proofs.Dropped.{dropped, makes_still}
+use Rattle.record_making.proofs.Dropped.{adds_still, dropped, makes_still}
 use Rattle.text_reading.specs.Reading.{HasRead}
 use Rattle.weak_intern.proofs.Meeting.{is_not}
 use Rattle.weak_intern.proofs.Whole.{answered_leaves, answered_learns, answered_met, dropped_learns, dropped_leaves, dropped_met, saw_read}
@@ -122,3 +122,9 @@ returns-clause-makes g c =
     makes_still c.has_text.new.seat c.drop_strong.new.seat c.args.strong.slot
     g.P.Kind.PayloadKind.fits c.args.domain.now c.drop_strong.ensures.dropped
     ∙ c.has_text.ensures.makes
+
+pub returns-clause-adds : goal.returns-clause-adds
+returns-clause-adds g c =
+    adds_still c.has_text.new.seat c.drop_strong.new.seat c.args.strong.slot
+    g.P.Kind.PayloadKind.fits c.args.domain.now c.drop_strong.ensures.dropped
+    ∙ c.has_text.ensures.adds

@@ -22,3 +22,6 @@ returns-clause-reads g c =
 
 pub returns-clause-makes : goal.returns-clause-makes
 returns-clause-makes g c = c.read_text-size.ensures.makes
+
+pub returns-clause-adds : goal.returns-clause-adds
+returns-clause-adds g c = c.read_text-size.ensures.adds

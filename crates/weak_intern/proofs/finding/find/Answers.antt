@@ -1,10 +1,12 @@
-use Rattle.std.proofs.Common.{arith, subst}
+use Rattle.std.proofs.Common.{ap, arith, refl, subst}
 use Rattle.directory_calls.specs.Directories.{area_of}
 use Rattle.record_making.specs.Texts.{text_of}
 use Rattle.record_making.proofs.Packed.{is_text_of}
 use Rattle.weak_intern.specs.Walking.{CostsBy}
 use Rattle.weak_intern.proofs.Heads.{sought_is}
 use Rattle.weak_intern.proofs.Answered.{came_to_none, came_to_record}
+use Rattle.core_events.specs.declared.view.CoreView.{CoreView}
+use Rattle.weak_intern.proofs.Races.{few_left}
 use Rattle.weak_intern.proofs.finding.find.Goals as goal
 
 pub returns-in-Absent-clause-finds : goal.returns-in-Absent-clause-finds
@@ -44,3 +46,9 @@ pub returns-in-Record-clause-takes : goal.returns-in-Record-clause-takes
 returns-in-Record-clause-takes g c =
     λ short. subst (λ w. CostsBy w c.args.seat.now.view.core c.seek.new.seat.view.core)
     c.in-Record.is (c.in_ok-strong.ensures.costs short)
+
+pub returns-in_err-strong-clause-short : goal.returns-in_err-strong-clause-short
+returns-in_err-strong-clause-short g c = λ err.
+    few_left c.args.directory.now.cells c.args.seat.now.view.core c.seek.new.seat.view.core
+    (c.in_err-strong.ensures.spent refl)
+    (ap (λ (v : CoreView). v.quota) c.in_err-strong.ensures.leaves.same) c.seek.ensures.adds

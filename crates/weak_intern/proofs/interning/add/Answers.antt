@@ -1,5 +1,5 @@
 use Rattle.weak_intern.proofs.Sights.{free_still}
-use Rattle.std.proofs.Common.{ap, arith, ◌∙◌, Some, None}
+use Rattle.std.proofs.Common.{ap, arith, inl, length, refl, ◌∙◌, Some, None}
 use Rattle.std.specs.Prelude.{Ok}
 use Rattle.directory_calls.specs.Directories.{area_of}
 use Rattle.record_making.specs.Texts.{text_of}
@@ -8,6 +8,9 @@ use Rattle.record_making.proofs.Dropped.{dropped, makes_still}
 use Rattle.weak_intern.proofs.Added.{dropped_known, dropped_leaves, dropped_places, err_grows, err_leaves, found_some, is_err, knows_still, noted_made, ok_grows, ok_leaves, ok_places, owned_then, passed_made, placed_knows, quota_made, refused_grows}
 use Rattle.directory_calls.proofs.Parts.{place_of}
 use Rattle.weak_intern.proofs.Placed.{grows_as}
+use Rattle.std.specs.Int.{div_ceil}
+use Rattle.core_events.specs.declared.view.CoreView.{CoreView}
+use Rattle.weak_intern.proofs.Races.{few_left, short_on, short_then}
 use Rattle.weak_intern.proofs.interning.add.Goals as goal
 
 pub place-requires-clause-quota : goal.place-requires-clause-quota
@@ -266,3 +269,24 @@ pub place-requires-clause-free : goal.place-requires-clause-free
 place-requires-clause-free g c =
     free_still c.args.seat.now c.make_record.new.seat c.in_ok-candidate.ensures.leaves.same
     c.requires.free
+
+pub returns-in_err-candidate-clause-short : goal.returns-in_err-candidate-clause-short
+returns-in_err-candidate-clause-short g c told =
+    inl (few_left _ c.args.seat.now.view.core c.make_record.new.seat.view.core
+    (c.in_err-candidate.ensures.adds (same_refusal _ _ _ c.from_residual.ensures.1 told))
+    (ap (λ (v : CoreView). v.quota) c.in_err-candidate.ensures.leaves.same)
+    (omega (arith, c.make_record.ensures.used, c.make_record.ensures.makes)))
+
+pub returns-in-Err-clause-short : goal.returns-in-Err-clause-short
+returns-in-Err-clause-short g c told =
+    short_on _ c.args.seat.now.view.core c.place.new.seat.view.core
+    c.drop_strong-in-Err.new.seat.view.core
+    (short_then c.args.directory.now.cells (div_ceil (length c.args.sought.now.text.now) 120) _
+    c.args.seat.now.view.core c.make_record.new.seat.view.core c.place.new.seat.view.core
+    (omega arith) c.in_ok-candidate.ensures.leaves.goes
+    (ap (λ (v : CoreView). v.quota) c.in_ok-candidate.ensures.leaves.same)
+    (omega (arith, c.make_record.ensures.used, c.make_record.ensures.makes))
+    (c.in-Err.ensures.short refl))
+    (dropped c.place.new.seat c.drop_strong-in-Err.new.seat c.in_ok-candidate.candidate.slot
+    g.P.Kind.PayloadKind.fits c.args.domain.now c.drop_strong-in-Err.ensures.dropped
+    c.drop_strong-in-Err.ensures.objects).goes

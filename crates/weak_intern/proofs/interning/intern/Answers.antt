@@ -1,5 +1,5 @@
 use Rattle.weak_intern.proofs.Sights.{free_still}
-use Rattle.std.proofs.Common.{ap, arith, ◌∙◌}
+use Rattle.std.proofs.Common.{ap, arith, inl, length, refl, ◌+◌, ◌∙◌}
 use Rattle.std.specs.Prelude.{Ok}
 use Rattle.directory_calls.specs.Directories.{area_of}
 use Rattle.weak_intern.specs.Interning.{interned_by}
@@ -10,6 +10,9 @@ use Rattle.record_making.proofs.Packed.{is_text_of}
 use Rattle.weak_intern.proofs.Heads.{sought_is}
 use Rattle.weak_intern.proofs.Interned.{absent_learns, absent_leaves, absent_none, added_grows, added_leaves, added_none, all_interns, all_knows, answered_owned, walked_interns, walked_knows, walked_owned}
 use Rattle.directory_calls.proofs.Parts.{place_of}
+use Rattle.std.specs.Int.{div_ceil}
+use Rattle.core_events.specs.declared.view.CoreView.{CoreView}
+use Rattle.weak_intern.proofs.Races.{few_left, short_then}
 use Rattle.weak_intern.proofs.interning.intern.Goals as goal
 
 pub returns-in-Ok-Absent-clause-interns : goal.returns-in-Ok-Absent-clause-interns
@@ -193,3 +196,17 @@ returns-in-Err-clause-makes g c =
 pub add-requires-clause-free : goal.add-requires-clause-free
 add-requires-clause-free g c =
     free_still c.args.seat.now c.seek.new.seat c.seek.ensures.leaves.same c.requires.free
+
+pub returns-in-Err-clause-short : goal.returns-in-Err-clause-short
+returns-in-Err-clause-short g c told =
+    inl (few_left _ c.args.seat.now.view.core c.seek.new.seat.view.core
+    (c.in-Err.ensures.spent refl) (ap (λ (v : CoreView). v.quota) c.in-Err.ensures.leaves.same)
+    (omega (arith, c.seek.ensures.adds)))
+
+pub returns-in-Ok-Absent-clause-short : goal.returns-in-Ok-Absent-clause-short
+returns-in-Ok-Absent-clause-short g c told =
+    short_then (c.args.directory.now.cells + div_ceil (length c.args.text.now) 120)
+    c.args.directory.now.cells _ c.args.seat.now.view.core c.seek.new.seat.view.core
+    c.add.new.seat.view.core (omega arith) c.in-Ok-Absent.ensures.leaves.goes
+    (ap (λ (v : CoreView). v.quota) c.in-Ok-Absent.ensures.leaves.same) c.seek.ensures.adds
+    (c.add.ensures.short told)

@@ -4,7 +4,8 @@ use Rattle.directory_calls.proofs.Parts.{place_of, zero_then}
 use Rattle.record_making.specs.Texts.{text_of}
 use Rattle.text_reading.proofs.LetGo.{least_there}
 use Rattle.weak_intern.specs.Walking.{met_by, taken_by}
-use Rattle.weak_intern.proofs.Looked.{look_by, look_free, look_leaves, look_makes, look_met, look_saw, look_sighted, null_by, null_leaves, null_makes}
+use Rattle.weak_intern.proofs.Looked.{look_adds, look_by, look_free, look_leaves, look_makes, look_met, look_saw, look_sighted, null_adds, null_by, null_leaves, null_makes}
+use Rattle.weak_intern.proofs.Looked.{no_null}
 use Rattle.weak_intern.proofs.looking.look.Goals as goal
 
 pub see-requires-clause-free : goal.see-requires-clause-free
@@ -89,3 +90,26 @@ pub returns-in-None-clause-makes : goal.returns-in-None-clause-makes
 returns-in-None-clause-makes g c =
     null_makes ((g.P.Part.part c.args.domain.now.protocol).first + c.args.cell)
     c.args.seat.now c.see.new.seat c.see.result c.see.ensures.sights c.see.ensures.objects c.in-None.is
+
+pub returns-in-Some-clause-adds : goal.returns-in-Some-clause-adds
+returns-in-Some-clause-adds g c =
+    let saw = look_adds ((g.P.Part.part c.args.domain.now.protocol).first + c.args.cell)
+    c.args.seat.now c.see.new.seat c.see.result c.see.ensures.sights c.see.ensures.objects
+    c.in-Some.sighted c.in-Some.is in
+    omega (arith, c.meet.ensures.adds, saw)
+
+pub returns-in-None-clause-adds : goal.returns-in-None-clause-adds
+returns-in-None-clause-adds g c =
+    let saw = null_adds ((g.P.Part.part c.args.domain.now.protocol).first + c.args.cell)
+    c.args.seat.now c.see.new.seat c.see.result c.see.ensures.sights c.see.ensures.objects
+    c.in-None.is in
+    omega (arith, saw)
+
+pub returns-in-None-clause-null : goal.returns-in-None-clause-null
+returns-in-None-clause-null g c =
+    λ is. null_by ((g.P.Part.part c.args.domain.now.protocol).first + c.args.cell)
+    c.args.seat.now c.see.new.seat c.see.result c.see.ensures.sights c.see.ensures.objects
+    c.in-None.is
+
+pub returns-in-Some-clause-null : goal.returns-in-Some-clause-null
+returns-in-Some-clause-null g c = no_null c.meet.result c.meet.ensures.head

@@ -1,4 +1,4 @@
-use Rattle.std.proofs.Common.{ap, inl, ◌∙◌, None}
+use Rattle.std.proofs.Common.{ap, inl, ◌∙◌, None, arith}
 use Rattle.directory_calls.specs.Directories.{area_of}
 use Rattle.directory_calls.proofs.Parts.{place_of}
 use Rattle.record_making.specs.Texts.{text_of}
@@ -7,6 +7,7 @@ use Rattle.weak_intern.specs.Walking.{met_by}
 use Rattle.weak_intern.proofs.LetGo.{sighted_held}
 use Rattle.weak_intern.proofs.Meeting.{is_not, other_met}
 use Rattle.weak_intern.proofs.Moves.{ends_by, ends_then, free_then, head_then, leaves_then, met_then, raised_leaves, saw_then, sighted_then}
+use Rattle.weak_intern.proofs.Compared.{compared_adds}
 use Rattle.weak_intern.proofs.looking.meet.Goals as goal
 
 pub is_payload-requires-clause-holds : goal.is_payload-requires-clause-holds
@@ -153,3 +154,22 @@ returns-clause-leaves g c =
 pub returns-clause-makes : goal.returns-clause-makes
 returns-clause-makes g c =
     c.meet_long.ensures.makes ∙ c.is_payload.ensures.makes
+
+pub returns-then-not-is_payload-clause-adds : goal.returns-then-not-is_payload-clause-adds
+returns-then-not-is_payload-clause-adds g c =
+    let gone = ap (λ (v : CoreView). v.adds) c.let_go.ensures.core in
+    let compared = compared_adds c.args.sighted.slot c.args.seat.now.view.core
+    c.is_payload.new.seat.view.core c.is_payload.ensures.compares in
+    omega (arith, gone, compared)
+
+pub returns-then-sought-le120-clause-adds : goal.returns-then-sought-le120-clause-adds
+returns-then-sought-le120-clause-adds g c =
+    let compared = compared_adds c.args.sighted.slot c.args.seat.now.view.core
+    c.is_payload.new.seat.view.core c.is_payload.ensures.compares in
+    omega (arith, c.meet_short.ensures.adds, compared)
+
+pub returns-clause-adds : goal.returns-clause-adds
+returns-clause-adds g c =
+    let compared = compared_adds c.args.sighted.slot c.args.seat.now.view.core
+    c.is_payload.new.seat.view.core c.is_payload.ensures.compares in
+    omega (arith, c.meet_long.ensures.adds, compared)

@@ -1,4 +1,4 @@
-use Rattle.std.proofs.Common.{ap, subst, sym, ◌∙◌}
+use Rattle.std.proofs.Common.{ap, subst, sym, ◌∙◌, arith}
 use Rattle.std.specs.Prelude.{Err}
 use Rattle.directory_calls.specs.Directories.{area_of}
 use Rattle.directory_calls.proofs.Parts.{place_of, zero_then}
@@ -7,7 +7,7 @@ use Rattle.text_reading.specs.Reading.{HasBegun}
 use Rattle.weak_intern.specs.Sighting.{Raises, added, seat_without}
 use Rattle.weak_intern.specs.Walking.{met, taken}
 use Rattle.weak_intern.proofs.Meeting.{ended_met}
-use Rattle.weak_intern.proofs.Moves.{raised_goes, raised_makes, raised_seat, spent_still}
+use Rattle.weak_intern.proofs.Moves.{raised_adds, raised_goes, raised_makes, raised_seat, spent_still}
 use Rattle.weak_intern.proofs.Sights.{can_still, free_still, head_still, met_still, raised_owned, saw_still, whole_leaves}
 use Rattle.weak_intern.proofs.looking.meet_long.Goals as goal
 
@@ -113,4 +113,23 @@ returns-in-Err-Ended-clause-makes g c =
 pub returns-in-Err-Spent-clause-makes : goal.returns-in-Err-Spent-clause-makes
 returns-in-Err-Spent-clause-makes g c =
     raised_makes c.args.sighted c.args.seat.now c.raise.new.seat
+    (added c.raise.result) c.raise.ensures.raises
+
+pub returns-in-Ok-clause-adds : goal.returns-in-Ok-clause-adds
+returns-in-Ok-clause-adds g c =
+    omega (
+      arith,
+      c.confirm.ensures.adds,
+      raised_adds c.args.sighted c.args.seat.now c.raise.new.seat (added c.raise.result)
+          c.raise.ensures.raises,
+    )
+
+pub returns-in-Err-Ended-clause-adds : goal.returns-in-Err-Ended-clause-adds
+returns-in-Err-Ended-clause-adds g c =
+    raised_adds c.args.sighted c.args.seat.now c.raise.new.seat
+    (added c.raise.result) c.raise.ensures.raises
+
+pub returns-in-Err-Spent-clause-adds : goal.returns-in-Err-Spent-clause-adds
+returns-in-Err-Spent-clause-adds g c =
+    raised_adds c.args.sighted c.args.seat.now c.raise.new.seat
     (added c.raise.result) c.raise.ensures.raises

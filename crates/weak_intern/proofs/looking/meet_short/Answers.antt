@@ -6,7 +6,7 @@ use Rattle.directory_law.proofs.Bytes.{text_is}
 use Rattle.record_making.specs.Texts.{text_of}
 use Rattle.weak_intern.specs.Sighting.{Raises, added}
 use Rattle.weak_intern.proofs.Meeting.{ended_met, record_met}
-use Rattle.weak_intern.proofs.Moves.{raised_makes, spent_still}
+use Rattle.weak_intern.proofs.Moves.{raised_adds, raised_makes, spent_still}
 use Rattle.weak_intern.proofs.looking.meet_short.Goals as goal
 
 pub returns-in-Ok-clause-meets : goal.returns-in-Ok-clause-meets
@@ -79,4 +79,19 @@ returns-in-Err-Ended-clause-makes g c =
 pub returns-in-Err-Spent-clause-makes : goal.returns-in-Err-Spent-clause-makes
 returns-in-Err-Spent-clause-makes g c =
     raised_makes c.args.sighted c.args.seat.now c.raise.new.seat
+    (added c.raise.result) c.raise.ensures.raises
+
+pub returns-in-Ok-clause-adds : goal.returns-in-Ok-clause-adds
+returns-in-Ok-clause-adds g c =
+    raised_adds c.args.sighted c.args.seat.now c.raise.new.seat
+    (added c.raise.result) c.raise.ensures.raises
+
+pub returns-in-Err-Ended-clause-adds : goal.returns-in-Err-Ended-clause-adds
+returns-in-Err-Ended-clause-adds g c =
+    raised_adds c.args.sighted c.args.seat.now c.raise.new.seat
+    (added c.raise.result) c.raise.ensures.raises
+
+pub returns-in-Err-Spent-clause-adds : goal.returns-in-Err-Spent-clause-adds
+returns-in-Err-Spent-clause-adds g c =
+    raised_adds c.args.sighted c.args.seat.now c.raise.new.seat
     (added c.raise.result) c.raise.ensures.raises

@@ -1,5 +1,5 @@
 use Rattle.directory_calls.specs.Directories.{area_of}
-use Rattle.weak_intern.proofs.Found.{around_client, around_ends, around_leaves, around_makes, around_rest}
+use Rattle.weak_intern.proofs.Found.{around_adds, around_client, around_ends, around_leaves, around_makes, around_rest, around_room}
 use Rattle.directory_calls.proofs.Parts.{place_of}
 use Rattle.weak_intern.proofs.walking.come_around.Goals as goal
 
@@ -42,3 +42,19 @@ returns-clause-rest g c =
     g.P.Part.puts_over)
     (area_of (g.P.Part.part c.args.domain.now.protocol)) c.number-at.result c.args.seat.now
     c.look.new.seat c.look.result c.look.ensures c.requires.rest
+
+pub returns-clause-adds : goal.returns-clause-adds
+returns-clause-adds g c =
+    around_adds g.P.Kind.PayloadKind.fits c.args.domain.now
+    (place_of g.P.Part.seen g.P.Part.with_seen g.P.Part.reads g.P.Part.puts_back
+    g.P.Part.puts_over)
+    (area_of (g.P.Part.part c.args.domain.now.protocol)) c.number-at.result c.args.seat.now
+    c.look.new.seat c.look.result c.look.ensures
+
+pub returns-clause-finds_room : goal.returns-clause-finds_room
+returns-clause-finds_room g c =
+    around_room g.P.Kind.PayloadKind.fits c.args.domain.now
+    (place_of g.P.Part.seen g.P.Part.with_seen g.P.Part.reads g.P.Part.puts_back
+    g.P.Part.puts_over)
+    (area_of (g.P.Part.part c.args.domain.now.protocol)) c.number-at.result c.args.seat.now
+    c.look.new.seat c.look.result c.look.ensures

@@ -114,7 +114,7 @@ loop-passed-preserved g c =
     c.args.sought.now.hash c.loop-passed.passed c.args.directory.now.cells c.cell_on-cell.result
     c.requires.sought.place c.requires.over.cells c.cell_on-cell.ensures.cell)
     c.in_ok-look.ensures.meets c.in_ok-look.ensures.leaves c.in_ok-look.ensures.learns
-    c.look.ensures.room c.look.ensures.rest c.look.ensures.makes
+    c.look.ensures.room c.look.ensures.rest c.look.ensures.makes c.look.ensures.adds
     ((g.P.Part.part c.args.domain.now.protocol).first + c.cell_on-cell.result) c.in_ok-look.ensures.looks
 
 pub returns-clause-comes : goal.returns-clause-comes
@@ -191,3 +191,25 @@ loop-passed-init g c =
     g.P.Part.puts_over)
     (area_of (g.P.Part.part c.args.domain.now.protocol)) (text_of c.args.sought.now.text.now)
     (length c.args.sought.now.text.now ≤ 120) c.args.seat.now c.requires.rest c.requires.room
+
+pub returns-in_err-look-clause-adds : goal.returns-in_err-look-clause-adds
+returns-in_err-look-clause-adds g c =
+    omega (arith, c.look.ensures.adds, c.loop-passed.invariant.adds, c.loop-passed-test.true)
+
+pub returns-in-Null-clause-adds : goal.returns-in-Null-clause-adds
+returns-in-Null-clause-adds g c =
+    omega (arith, c.look.ensures.adds, c.loop-passed.invariant.adds, c.loop-passed-test.true)
+
+pub returns-in-Record-clause-adds : goal.returns-in-Record-clause-adds
+returns-in-Record-clause-adds g c =
+    omega (arith, c.look.ensures.adds, c.loop-passed.invariant.adds, c.loop-passed-test.true)
+
+pub returns-clause-adds : goal.returns-clause-adds
+returns-clause-adds g c =
+    omega (
+      arith,
+      c.come_around.ensures.adds,
+      c.loop-passed.invariant.adds,
+      c.loop-passed-test.false,
+      c.loop-passed.auto.passed-end,
+    )
