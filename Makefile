@@ -4,7 +4,7 @@ PROGRAM := crates/cdrc_words/out/cdrc_words
 SOURCES := crates.txt $(shell find crates -name out -prune -o \( -name '*.rt' -o -name '*.antt' \) -print)
 TRY := cd crates/cdrc_words && echo 'nothing is proved here: make test proves everything' >&2 && rt try --
 
-.PHONY: help run script steps examples picture docs test allocations install clean
+.PHONY: help run script steps examples picture docs test allocations limits install clean
 
 help: ## says what each target does
 	@sed -n 's/^\([a-z]*\):.*## /make \1\t/p' Makefile | expand -t 16
@@ -35,6 +35,9 @@ allocations: $(PROGRAM) ## refuses each allocation of three runs of the program 
 	tools/fail_allocations.py $(PROGRAM) words crates/cdrc_words/data/sample.txt crates/cdrc_words/data/second.txt
 	tools/fail_allocations.py $(PROGRAM) script crates/cdrc_words/data/sample.script
 	tools/fail_allocations.py $(PROGRAM) steps crates/cdrc_words/data/sample.steps
+
+limits: $(PROGRAM) ## gives the program files at its limits and past them, a folder, a pipe, a file that grows
+	tools/limit_inputs.py $(PROGRAM)
 
 install: $(PROGRAM) ## proves and builds the program, and copies it to PREFIX/bin, /usr/local/bin where PREFIX isn't given
 	install -d $(DESTDIR)$(PREFIX)/bin
