@@ -23,10 +23,11 @@ use std::sync::Wait;
 
 /// A strong reference to the live record of a text of 1 to 4,096 bytes, or None where it had none
 /// at a step of the call. `Spent` where the seat has no add left, and comes to a head that has the
-/// payload of the text's; then at its entry it had at most one left for each cell. It looks at each cell at most once, and at one of them a last time: at
-/// most four steps for each try to load, 18 more for each cell, and one; of a long text some 700
-/// more for each cell whose head is the text's. A text of at most 120 bytes is found for one add,
-/// and one more for each record with its payload that had ended.
+/// payload of the text's; then at its entry it had at most one left for each cell. It looks at each
+/// cell at most once, and at one of them a last time: at most four steps for each try to load, 18
+/// more for each cell, and one; of a long text some 700 more for each cell whose head is the text's.
+/// A text of at most 120 bytes is found for one add, and one more for each record with its payload
+/// that had ended.
 pub fn find<R: Wait, S, P: HasDirectory<S>>(
     rt: &R,
     domain: &Domain<P>,
