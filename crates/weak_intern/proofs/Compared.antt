@@ -1,5 +1,5 @@
 -- How far a payload was compared, word by word.
-use Rattle.std.proofs.Common.{◌≡◌, ◌≢◌, ℕ, ◌+◌, ◌<◌, ◌≤◌, List, [], ◌∷◌, ◌++◌, length, refl, sym, ap, subst, ◌∙◌, append_assoc, arith, ⊎_elim}
+use Rattle.std.proofs.Common.{◌≡◌, ◌≢◌, ℕ, suc, ◌+◌, ◌-◌, ◌<◌, ◌≤◌, Bool, true, List, [], ◌∷◌, ◌++◌, length, refl, sym, ap, subst, ◌∙◌, append_assoc, arith, ⊎_elim}
 use Rattle.std.specs.Prelude.{slice_index}
 use Rattle.std.proofs.lemmas.List.{append-nil, get_or_default, same_lists}
 use Rattle.std.proofs.lemmas.Bool.{cases_lt}
@@ -29,6 +29,7 @@ pub record HasRead {P V : Type 0} (d : DomainState P) (s : SlotId) (n : ℕ) (ol
     : Type 0 where
   pub read : List ℕ
   pub as_many : length read ≡ n
+  pub are : (k : ℕ) → k < n → slice_index read (n - 1 - k) ≡ slice_index (object_in old.view s).payload k
   pub core :
       now.view.core
       ≡ record old.view.core { trail = old.view.core.trail ++ compared_by s read }
@@ -56,10 +57,18 @@ module _ {P V : Type 0} (d : DomainState P) (s : SlotId) (n : ℕ) (old now : Se
   pub read_makes : now.view.core.makes ≡ old.view.core.makes
   read_makes = ap (λ (v : CoreView). v.makes) has.core
 
-  pub read_compares : n ≤ 16 → Compares s old.view.core now.view.core
-  read_compares few = record {
+  pub read_compares : (payload : List ℕ) (same : Bool)
+      → (same ≡ true → (n ≡ 16) × ((object_in old.view s).payload ≡ payload)) → n ≤ 16
+      → Compares s payload same old.view.core now.view.core
+  read_compares payload same whole few = record {
     words = has.read;
     few = omega (arith, has.as_many, few);
+    all = λ is. let whole' = whole is in let n' = whole'.0 in (
+      has.as_many ∙ n',
+      λ k low. let at : 15 - k ≡ n - 1 - k = omega (arith, n') in
+          ap (λ j. slice_index has.read j) at ∙ has.are k (omega (arith, low, n'))
+          ∙ ap (λ (l : List ℕ). slice_index l k) whole'.1,
+    );
     core = has.core;
   }
 
@@ -74,6 +83,7 @@ module _ {P V : Type 0} (fits : List ℕ → Type 0) (d : DomainState P) (s : Sl
     so_far = record {
       read = [];
       as_many = refl;
+      are = λ k low. absurd (omega (arith, low));
       core = ap (λ (t : List Move). record old.view.core { trail = t })
           (sym (append-nil old.view.core.trail));
       client = refl;
@@ -113,10 +123,22 @@ module _ {P V : Type 0} (fits : List ℕ → Type 0) (d : DomainState P) (s : Sl
     abbrev see_word : ℕ → List Move
     see_word k = move (act.See s k) (outcome.Word word) ∷ []
 
+    found_here : word ≡ slice_index (object_in old.view s).payload n
+    found_here = read
+        ∙ ap (λ (o : Object). slice_index o.payload n) (so_far.knows s has_old)
+
     pub one_read : HasRead d s (n + 1) old new
     one_read = record {
       read = word ∷ so_far.read;
       as_many = omega (arith, so_far.as_many);
+      are = λ k low. ⊎_elim
+          (λ less. let at : n + 1 - 1 - k ≡ suc (n - 1 - k) = omega (arith, less) in
+          ap (λ j. slice_index (word ∷ so_far.read) j) at ∙ so_far.are k less)
+          (λ past. let at : n + 1 - 1 - k ≡ 0 = omega (arith, past) in
+          let here : n ≡ k = omega (arith, low, past) in
+          ap (λ j. slice_index (word ∷ so_far.read) j) at
+          ∙ (found_here ∙ ap (λ j. slice_index (object_in old.view s).payload j) here))
+          (cases_lt k n);
       core =
           seen.becomes.core
           ∙ (ap (λ (v : CoreView). record v { trail = v.trail ++ see_word n }) so_far.core
@@ -129,10 +151,6 @@ module _ {P V : Type 0} (fits : List ℕ → Type 0) (d : DomainState P) (s : Sl
       room = room so_far.room;
       rest = rest;
     }
-
-    found_here : word ≡ slice_index (object_in old.view s).payload n
-    found_here = read
-        ∙ ap (λ (o : Object). slice_index o.payload n) (so_far.knows s has_old)
 
     pub one_same : word ≡ slice_index payload n → Same d s (n + 1) payload old new
     one_same is = record {
@@ -162,5 +180,6 @@ module _ {P V : Type 0} (fits : List ℕ → Type 0) (d : DomainState P) (s : Sl
       ∙ (same.words k (omega (arith, low, size))
       ∙ get_or_default payload k 0 def far))
 
-pub compared_adds : (s : SlotId) (v w : CoreView) → Compares s v w → w.adds ≡ v.adds
-compared_adds s v w compares = ap (λ (u : CoreView). u.adds) compares.core
+pub compared_adds : (s : SlotId) (payload : List ℕ) (same : Bool) (v w : CoreView)
+    → Compares s payload same v w → w.adds ≡ v.adds
+compared_adds s payload same v w compares = ap (λ (u : CoreView). u.adds) compares.core

@@ -11,8 +11,8 @@ use Rattle.weak_intern.specs.Sighting.{Visit, Visits, visited_by, with_added}
 none : (n : ℕ) → n ≡ n + 0
 none n = omega arith
 
-pub passes_none : (v : CoreView) → PassesBy v v
-passes_none v = record {
+pub passes_none : (payload : List ℕ) (v : CoreView) → PassesBy payload v v
+passes_none payload v = record {
   visits = [];
   passing = tt;
   core = λ i. record v { adds = none v.adds i; trail = sym (append-nil v.trail) i };
@@ -26,8 +26,9 @@ calm_visit None s v t not = λ i. record v { adds = none v.adds i; trail = t }
 calm_visit (Some true) s v t not = absurd (not refl)
 calm_visit (Some false) s v t not = refl
 
-module _ (u v w : CoreView) (i : ℕ) (s : SlotId) (how : Option Bool) (not : how ≢ Some true)
-    (first : PassesBy u v) (last : Visits i s how v w) where
+module _ (payload : List ℕ) (u v w : CoreView) (i : ℕ) (s : SlotId) (how : Option Bool)
+    (not : how ≢ Some true) (first : PassesBy payload u v) (last : Visits i s payload how v w)
+    where
   abbrev one : Visit
   one = record {
     cell = i;
@@ -42,10 +43,10 @@ module _ (u v w : CoreView) (i : ℕ) (s : SlotId) (how : Option Bool) (not : ho
       ≡ u.adds + (ended_in first.visits + dead_by how)
   sums = omega arith
 
-  pub passes_then : PassesBy u w
+  pub passes_then : PassesBy payload u w
   passes_then = record {
     visits = one ∷ first.visits;
-    passing = ((last.few, not), first.passing);
+    passing = ((last.few, not, last.all), first.passing);
     core =
         last.core
         ∙ (calm_visit how s v (v.trail ++ visited_by one) not
@@ -59,9 +60,10 @@ module _ (u v w : CoreView) (i : ℕ) (s : SlotId) (how : Option Bool) (not : ho
         })));
   }
 
-pub passes_either : (u v w : CoreView) (i : ℕ) (s : SlotId) → PassesBy u v
-    → Visits i s None v w ⊎ Visits i s (Some false) v w → PassesBy u w
-passes_either u v w i s first (inl last) =
-    passes_then u v w i s None (λ is. cc (is)) first last
-passes_either u v w i s first (inr last) =
-    passes_then u v w i s (Some false) (λ is. cc (is)) first last
+pub passes_either : (payload : List ℕ) (u v w : CoreView) (i : ℕ) (s : SlotId)
+    → PassesBy payload u v
+    → Visits i s payload None v w ⊎ Visits i s payload (Some false) v w → PassesBy payload u w
+passes_either payload u v w i s first (inl last) =
+    passes_then payload u v w i s None (λ is. cc (is)) first last
+passes_either payload u v w i s first (inr last) =
+    passes_then payload u v w i s (Some false) (λ is. cc (is)) first last

@@ -82,7 +82,8 @@ module _ {P V : Type 0} (fits : List ℕ → Type 0) (d : DomainState P) (l : Pl
 
 -- THE WALK has passed n cells
 pub record Walks {P V : Type 0} (d : DomainState P) (seen : V → View) (with_seen : V → View → V)
-    (z : Area) (text : Text) (short : Type 0) (n : ℕ) (old now : SeatState V) : Type 0 where
+    (z : Area) (text : Text) (payload : List ℕ) (short : Type 0) (n : ℕ) (old now : SeatState V)
+    : Type 0 where
   pub walked : Walked z (seen now.view.client) text n
   pub leaves : Leaves old.view.core.owned old.view.core.weaks old now
   pub learns : LearnsIn seen with_seen 0 old.view.client now.view.client
@@ -90,12 +91,12 @@ pub record Walks {P V : Type 0} (d : DomainState P) (seen : V → View) (with_se
   pub rest : IsAtRest d now
   pub makes : now.view.core.makes ≡ old.view.core.makes
   pub adds : now.view.core.adds ≤ old.view.core.adds + n
-  pub costs : short → PassesBy old.view.core now.view.core
+  pub costs : short → PassesBy payload old.view.core now.view.core
 
 module _ {P V : Type 0} (d : DomainState P) (l : Place V) (z : Area) (text : Text)
-    (short : Type 0) (a : SeatState V) where
+    (payload : List ℕ) (short : Type 0) (a : SeatState V) where
   pub walks_none : IsAtRest d a → HasRoom a.view.core
-      → Walks d l.seen l.with_seen z text short 0 a a
+      → Walks d l.seen l.with_seen z text payload short 0 a a
   walks_none rest room = record {
     walked = λ j low. absurd (omega (arith, low));
     leaves = leaves_none a;
@@ -104,10 +105,10 @@ module _ {P V : Type 0} (d : DomainState P) (l : Place V) (z : Area) (text : Tex
     rest = rest;
     makes = refl;
     adds = omega arith;
-    costs = λ is. passes_none a.view.core;
+    costs = λ is. passes_none payload a.view.core;
   }
 
-  module _ (n : ℕ) (b c : SeatState V) (walks : Walks d l.seen l.with_seen z text short n a b) where
+  module _ (n : ℕ) (b c : SeatState V) (walks : Walks d l.seen l.with_seen z text payload short n a b) where
     pub walk_leaves : (o : Option SlotId)
         → Leaves (with_found o b.view.core.owned) b.view.core.weaks b c
         → Leaves (with_found o a.view.core.owned) a.view.core.weaks a c
@@ -140,8 +141,8 @@ module _ {P V : Type 0} (d : DomainState P) (l : Place V) (z : Area) (text : Tex
         → HasRoom c.view.core → IsAtRest d c
         → c.view.core.makes ≡ b.view.core.makes
         → c.view.core.adds ≤ b.view.core.adds + 1
-        → (short → PassesBy a.view.core c.view.core)
-        → Walks d l.seen l.with_seen z text short (n + 1) a c
+        → (short → PassesBy payload a.view.core c.view.core)
+        → Walks d l.seen l.with_seen z text payload short (n + 1) a c
     one_passed cell at passes second more room rest makes adds costs = record {
       walked = λ j low. ⊎_elim
           (λ less. passes_still 0 (l.seen b.view.client) (l.seen c.view.client) text
@@ -237,28 +238,28 @@ module _ {P V : Type 0} (d : DomainState P) (l : Place V) (z : Area) (text : Tex
         → HasRoom c.view.core → IsAtRest d c
         → c.view.core.makes ≡ b.view.core.makes
         → c.view.core.adds ≤ b.view.core.adds + 1 → (i : ℕ)
-        → (short → FoundBy i found b.view.core c.view.core)
-        → Walks d l.seen l.with_seen z text short (n + 1) a c
+        → (short → FoundBy i payload found b.view.core c.view.core)
+        → Walks d l.seen l.with_seen z text payload short (n + 1) a c
     other_passed intern cell found other at meets second more room rest makes adds i looks =
         one_passed cell at (subst (λ f. Meets l.seen d z cell text f b c) other meets)
         (subst (λ f. Leaves (with_found (met f) b.view.core.owned) b.view.core.weaks b c) other
         second)
         (subst (λ f. LearnsBy l (taken intern f) b.view.client c.view.client) other more)
         room rest makes adds
-        (λ is. let by = subst (λ f. FoundBy i f b.view.core c.view.core) other
+        (λ is. let by = subst (λ f. FoundBy i payload f b.view.core c.view.core) other
         (looks is) in
-        passes_either a.view.core b.view.core c.view.core i by.0 (walks.costs is) by.1)
+        passes_either payload a.view.core b.view.core c.view.core i by.0 (walks.costs is) by.1)
 
     -- what the record cost
     pub record_costs : (i : ℕ) (found : Sight) (strong : Handle)
         → found ≡ sight.Record strong
-        → (short → FoundBy i found b.view.core c.view.core)
-        → short → TakesBy strong.slot a.view.core c.view.core
+        → (short → FoundBy i payload found b.view.core c.view.core)
+        → short → TakesBy payload strong.slot a.view.core c.view.core
     record_costs i found strong same looks is = (
       b.view.core,
       walks.costs is,
       i,
-      subst (λ f. FoundBy i f b.view.core c.view.core) same (looks is),
+      subst (λ f. FoundBy i payload f b.view.core c.view.core) same (looks is),
     )
 
     -- the walk has passed all cells

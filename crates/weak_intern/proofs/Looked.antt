@@ -54,8 +54,8 @@ module _ {V : Type 0} (i : ℕ) (it : Sighted) (a b : SeatState V)
   pub seen_free : HasTwoFree a.view.core → HasTwoFree (let_go_of it b.view.core)
   seen_free free = subst (λ (v : CoreView). HasTwoFree v) (sym without_it) free
 
-  module _ (c : SeatState V) (s : SlotId) (how : Option Bool) (same : s ≡ it.slot)
-      (ends : Ends it how b.view.core c.view.core) where
+  module _ (c : SeatState V) (s : SlotId) (payload : List ℕ) (how : Option Bool)
+      (same : s ≡ it.slot) (ends : Ends it payload how b.view.core c.view.core) where
     abbrev tries : List Move
     tries = lost_by it.word (WeakCell i) sights.lost
 
@@ -74,12 +74,13 @@ module _ {V : Type 0} (i : ℕ) (it : Sighted) (a b : SeatState V)
     shorter (Some true) t = refl
     shorter (Some false) t = refl
 
-    visits_it : Visits i it.slot how a.view.core c.view.core
+    visits_it : Visits i it.slot payload how a.view.core c.view.core
     visits_it = record {
       word = it.word;
       lost = sights.lost;
       words = ends.words;
       few = ends.few;
+      all = ends.all;
       core =
           ends.core
           ∙ (ap (λ (v : CoreView). record (with_added how it.slot v) {
@@ -93,19 +94,22 @@ module _ {V : Type 0} (i : ℕ) (it : Sighted) (a b : SeatState V)
           (append_assoc tries found ended)))));
     }
 
-    pub visits_then : Visits i s how a.view.core c.view.core
+    pub visits_then : Visits i s payload how a.view.core c.view.core
     visits_then =
-        subst (λ (x : SlotId). Visits i x how a.view.core c.view.core) (sym same) visits_it
+        subst (λ (x : SlotId). Visits i x payload how a.view.core c.view.core) (sym same)
+        visits_it
 
-  pub looks_then : {E : Type 0} (c : SeatState V) (r : Result Sight E)
-      → EndsBy it r b.view.core c.view.core → LooksBy i r a.view.core c.view.core
-  looks_then c (Ok sight.Null) ends = absurd ends
-  looks_then c (Ok sight.Other) (inl ends) = (it.slot, inl (visits_then c it.slot None refl ends))
-  looks_then c (Ok sight.Other) (inr ends) =
-      (it.slot, inr (visits_then c it.slot (Some false) refl ends))
-  looks_then c (Ok (sight.Record strong)) ends =
-      visits_then c strong.slot (Some true) ends.0 ends.1
-  looks_then c (Err error) ends = (it.slot, visits_then c it.slot None refl ends)
+  pub looks_then : {E : Type 0} (c : SeatState V) (payload : List ℕ) (r : Result Sight E)
+      → EndsBy it payload r b.view.core c.view.core → LooksBy i payload r a.view.core c.view.core
+  looks_then c payload (Ok sight.Null) ends = absurd ends
+  looks_then c payload (Ok sight.Other) (inl ends) =
+      (it.slot, inl (visits_then c it.slot payload None refl ends))
+  looks_then c payload (Ok sight.Other) (inr ends) =
+      (it.slot, inr (visits_then c it.slot payload (Some false) refl ends))
+  looks_then c payload (Ok (sight.Record strong)) ends =
+      visits_then c strong.slot payload (Some true) ends.0 ends.1
+  looks_then c payload (Err error) ends =
+      (it.slot, visits_then c it.slot payload None refl ends)
 
 -- A LOOK at weak cell i, in which this was seen
 module _ {V : Type 0} (i : ℕ) (a b : SeatState V) (found : Option Sighted)
@@ -157,9 +161,10 @@ module _ {V : Type 0} (i : ℕ) (a b : SeatState V) (found : Option Sighted)
           → Leaves (with_found o a.view.core.owned) a.view.core.weaks a c
       look_leaves o second = more_leaves a (seat_without it b) c o look_without second
 
-      pub look_by : {E : Type 0} (r : Result Sight E) → EndsBy it r b.view.core c.view.core
-          → LooksBy i r a.view.core c.view.core
-      look_by r ends = looks_then i it a b by.2 idle c r ends
+      pub look_by : {E : Type 0} (payload : List ℕ) (r : Result Sight E)
+          → EndsBy it payload r b.view.core c.view.core
+          → LooksBy i payload r a.view.core c.view.core
+      look_by payload r ends = looks_then i it a b by.2 idle c payload r ends
 
       pub look_met : {P E : Type 0} (d : DomainState P) (l : Place V) (z : Area) (n : ℕ)
           (text : Text) (r : Result Sight E) → Sees l.seen d z n (sighted_in found) a b

@@ -1,6 +1,6 @@
 -- What the moves of a look at a cell leave of a seat, one after another.
 use Rattle.std.proofs.Common.{◌≡◌, ◌+◌, ◌≤◌, ℕ, Bool, true, false, List, [], ◌∷◌, ◌++◌, refl, sym, ap, subst, ◌∙◌, append_assoc, arith, Some, None, inr}
-use Rattle.std.specs.Prelude.{Err, IfOk, Ok, Option, Result}
+use Rattle.std.specs.Prelude.{◌≢◌, Err, IfOk, Ok, Option, Result}
 use Rattle.plain_state.specs.declared.slot.SlotId.{SlotId}
 use Rattle.core_events.specs.declared.view.CoreView.{CoreView}
 use Rattle.core_events.specs.declared.view.Move.{Move}
@@ -95,8 +95,9 @@ module _ {V : Type 0} (it : Sighted) (a c : SeatState V) where
   spent_still core spent = subst IsSpent (sym core) spent
 
 -- A HEAD COMPARED
-module _ {V : Type 0} (l : Place V) (it : Sighted) (a b : SeatState V)
-    (sighted : IsSighted it a.view.core) (compares : Compares it.slot a.view.core b.view.core)
+module _ {V : Type 0} (l : Place V) (it : Sighted) (a b : SeatState V) {payload : List ℕ}
+    {same : Bool} (sighted : IsSighted it a.view.core)
+    (compares : Compares it.slot payload same a.view.core b.view.core)
     (knows : KnowsStill a.view.core a b) (client : b.view.client ≡ a.view.client) where
   pub sighted_then : IsSighted it b.view.core
   sighted_then = subst (λ (v : CoreView). IsSighted it v) (sym compares.core) sighted
@@ -143,11 +144,12 @@ module _ {V : Type 0} (l : Place V) (it : Sighted) (a b : SeatState V)
       more_leaves (seat_without it a) (seat_without it b) c o compared_leaves second
 
   -- and then let go
-  pub ends_then : (c : SeatState V) (how : Option Bool) → Raises it how b.view.core c.view.core
-      → Ends it how a.view.core c.view.core
-  ends_then c how core = record {
+  pub ends_then : (c : SeatState V) (how : Option Bool) → (how ≢ None → same ≡ true)
+      → Raises it how b.view.core c.view.core → Ends it payload how a.view.core c.view.core
+  ends_then c how whole core = record {
     words = compares.words;
     few = compares.few;
+    all = λ some. compares.all (whole some);
     core =
         core
         ∙ (ap (λ (v : CoreView). record (with_added how it.slot (let_go_of it v)) {
@@ -171,10 +173,10 @@ module _ {V : Type 0} (l : Place V) (it : Sighted) (a b : SeatState V)
       shorter (Some true) t u = refl
       shorter (Some false) t u = refl
 
-  pub ends_by : {E : Type 0} (c : SeatState V) (r : Result Sight E)
-      → RaisesBy it r b.view.core c.view.core → EndsBy it r a.view.core c.view.core
-  ends_by c (Ok sight.Null) raises = raises
-  ends_by c (Ok sight.Other) raises = inr (ends_then c (Some false) raises)
-  ends_by c (Ok (sight.Record strong)) raises =
-      (raises.0, ends_then c (Some true) raises.1)
-  ends_by c (Err error) raises = ends_then c None raises
+  pub ends_by : {E : Type 0} (c : SeatState V) (r : Result Sight E) → same ≡ true
+      → RaisesBy it r b.view.core c.view.core → EndsBy it payload r a.view.core c.view.core
+  ends_by c (Ok sight.Null) whole raises = raises
+  ends_by c (Ok sight.Other) whole raises = inr (ends_then c (Some false) (λ some. whole) raises)
+  ends_by c (Ok (sight.Record strong)) whole raises =
+      (raises.0, ends_then c (Some true) (λ some. whole) raises.1)
+  ends_by c (Err error) whole raises = ends_then c None (λ some. whole) raises

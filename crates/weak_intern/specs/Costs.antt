@@ -4,7 +4,7 @@ use Rattle.plain_state.specs.declared.slot.SlotId.{SlotId}
 use Rattle.core_events.specs.declared.view.CoreView.{CoreView}
 use Rattle.core_events.specs.declared.view.Move.{Move}
 use Rattle.directory_law.specs.Views.{Each}
-use Rattle.weak_intern.specs.Sighting.{Visit, Visits, visited_by}
+use Rattle.weak_intern.specs.Sighting.{AreAllOf, Visit, Visits, visited_by}
 
 -- the adds of a visit that found the zero flag
 abbrev pub dead_by : Option Bool → ℕ
@@ -21,15 +21,17 @@ abbrev pub moves_of : List Visit → List Move
 moves_of [] = []
 moves_of (x ∷ xs) = moves_of xs ++ visited_by x
 
--- a visit by which a walk passes a head: it reads at most 16 words of it, and counts nothing
-abbrev pub IsPassing : Visit → Type 0
-IsPassing x = (length x.words ≤ 16) × (x.how ≢ Some true)
+-- a visit by which the walk of this payload passes a head: it reads at most 16 words of it, counts
+-- nothing, and makes an add only where the words were all of the payload
+abbrev pub IsPassing : List ℕ → Visit → Type 0
+IsPassing payload x =
+    (length x.words ≤ 16) × (x.how ≢ Some true) × (x.how ≢ None → AreAllOf payload x.words)
 
 -- A seat has passed some heads, each by one visit, and has done nothing else. It has used an add for
--- each one that had ended and that it asked for a reference.
-pub record PassesBy (v w : CoreView) : Type 0 where
+-- each one with this payload that had ended.
+pub record PassesBy (payload : List ℕ) (v w : CoreView) : Type 0 where
   pub visits : List Visit
-  pub passing : Each IsPassing visits
+  pub passing : Each (IsPassing payload) visits
   pub core :
       w
       ≡ record v {
@@ -38,5 +40,6 @@ pub record PassesBy (v w : CoreView) : Type 0 where
       }
 
 -- It has passed some, and then taken a reference to s, by one visit and for one add.
-abbrev pub TakesBy : SlotId → CoreView → CoreView → Type 0
-TakesBy s v w = (mid : CoreView) × PassesBy v mid × (i : ℕ) × Visits i s (Some true) mid w
+abbrev pub TakesBy : List ℕ → SlotId → CoreView → CoreView → Type 0
+TakesBy payload s v w =
+    (mid : CoreView) × PassesBy payload v mid × (i : ℕ) × Visits i s payload (Some true) mid w

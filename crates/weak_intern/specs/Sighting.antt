@@ -1,5 +1,5 @@
 -- What a seat has while it sees a head of a cell, and by which moves it comes to that and goes on.
-use Rattle.std.specs.Prelude.{ℕ, ◌≡◌, ◌<◌, ◌≤◌, Bool, true, false, List, [], ◌∷◌, ◌++◌, length, Option, Some, None, Result, Ok, Err}
+use Rattle.std.specs.Prelude.{ℕ, ◌≡◌, ◌≢◌, ◌-◌, ◌<◌, ◌≤◌, Bool, true, false, List, [], ◌∷◌, ◌++◌, length, slice_index, Option, Some, None, Result, Ok, Err}
 use Rattle.plain_state.specs.declared.act.EventPlace.TheVariants.{WeakCell}
 use Rattle.plain_state.specs.declared.slot.Kind.TheVariants.{Weak}
 use Rattle.plain_state.specs.declared.slot.SlotId.{SlotId}
@@ -87,10 +87,17 @@ SightsBy i None v w = (j : ℕ) × Sights i j None v w
 SightsBy i (Some it) v w =
     (least_free v ≡ Some it.word) × IsSighted it w × Sights i it.word (Some it) v w
 
--- at most 16 words of s were read, and nothing else was done
-pub record Compares (s : SlotId) (v w : CoreView) : Type 0 where
+-- the words that were read, the newest first, are all of this payload
+abbrev pub AreAllOf : List ℕ → List ℕ → Type 0
+AreAllOf payload words =
+    (length words ≡ 16)
+    × ((k : ℕ) → k < 16 → slice_index words (15 - k) ≡ slice_index payload k)
+
+-- at most 16 words of s were read, and nothing else was done; all of the payload, where it is the same
+pub record Compares (s : SlotId) (payload : List ℕ) (same : Bool) (v w : CoreView) : Type 0 where
   pub words : List ℕ
   pub few : length words ≤ 16
+  pub all : same ≡ true → AreAllOf payload words
   pub core : w ≡ record v { trail = v.trail ++ compared_by s words }
 
 -- a head was let go, after an add to it if there was one
@@ -104,10 +111,13 @@ Raises it how v w =
       trail = v.trail ++ raised_moves it how;
     }
 
--- at most 16 words of a head were read, and then it was let go, after such an add
-pub record Ends (it : Sighted) (how : Option Bool) (v w : CoreView) : Type 0 where
+-- At most 16 words of a head were read, and then it was let go, after such an add: one was made only
+-- where the words were all of this payload.
+pub record Ends (it : Sighted) (payload : List ℕ) (how : Option Bool) (v w : CoreView) : Type 0
+    where
   pub words : List ℕ
   pub few : length words ≤ 16
+  pub all : how ≢ None → AreAllOf payload words
   pub core :
       w
       ≡ record (with_added how it.slot (let_go_of it v)) {
@@ -132,12 +142,15 @@ visited_by x =
     ++ (compared_by x.slot x.words
     ++ raised_moves (record { slot = x.slot; word = x.word }) x.how))
 
--- by one visit to weak cell i alone, with such an add to s, which stood there
-pub record Visits (i : ℕ) (s : SlotId) (how : Option Bool) (v w : CoreView) : Type 0 where
+-- By one visit to weak cell i alone, with such an add to s, which stood there: one was made only where
+-- its words were all of this payload.
+pub record Visits (i : ℕ) (s : SlotId) (payload : List ℕ) (how : Option Bool) (v w : CoreView)
+    : Type 0 where
   pub word : ℕ
   pub lost : List Lost
   pub words : List ℕ
   pub few : length words ≤ 16
+  pub all : how ≢ None → AreAllOf payload words
   pub core :
       w
       ≡ record (with_added how s v) {

@@ -52,24 +52,28 @@ abbrev pub taken_by : {E : Type 0} → Bool → Result Sight E → ℕ
 taken_by intern (Ok found) = taken intern found
 taken_by intern (Err error) = 0
 
--- THE MOVES, of which a seat met this where it looked for a short text: in weak cell i
-abbrev pub FoundBy : ℕ → Sight → CoreView → CoreView → Type 0
-FoundBy i sight.Null v w = (j : ℕ) × Sights i j None v w
-FoundBy i sight.Other v w =
-    (s : SlotId) × (Visits i s None v w ⊎ Visits i s (Some false) v w)
-FoundBy i (sight.Record strong) v w = Visits i strong.slot (Some true) v w
+-- THE MOVES, of which a seat met this where it looked for a short text with this payload: in weak
+-- cell i
+abbrev pub FoundBy : ℕ → List ℕ → Sight → CoreView → CoreView → Type 0
+FoundBy i payload sight.Null v w = (j : ℕ) × Sights i j None v w
+FoundBy i payload sight.Other v w =
+    (s : SlotId) × (Visits i s payload None v w ⊎ Visits i s payload (Some false) v w)
+FoundBy i payload (sight.Record strong) v w = Visits i strong.slot payload (Some true) v w
 
 -- or it was refused, in a head that it let go
-abbrev pub LooksBy : {E : Type 0} → ℕ → Result Sight E → CoreView → CoreView → Type 0
-LooksBy i (Ok found) v w = FoundBy i found v w
-LooksBy i (Err error) v w = (s : SlotId) × Visits i s None v w
+abbrev pub LooksBy : {E : Type 0} → ℕ → List ℕ → Result Sight E → CoreView → CoreView → Type 0
+LooksBy i payload (Ok found) v w = FoundBy i payload found v w
+LooksBy i payload (Err error) v w = (s : SlotId) × Visits i s payload None v w
 
 -- in a head that it saw
-abbrev pub EndsBy : {E : Type 0} → Sighted → Result Sight E → CoreView → CoreView → Type 0
-EndsBy it (Ok sight.Null) v w = ⊥
-EndsBy it (Ok sight.Other) v w = Ends it None v w ⊎ Ends it (Some false) v w
-EndsBy it (Ok (sight.Record strong)) v w = (strong.slot ≡ it.slot) × Ends it (Some true) v w
-EndsBy it (Err error) v w = Ends it None v w
+abbrev pub EndsBy : {E : Type 0} → Sighted → List ℕ → Result Sight E → CoreView → CoreView
+    → Type 0
+EndsBy it payload (Ok sight.Null) v w = ⊥
+EndsBy it payload (Ok sight.Other) v w =
+    Ends it payload None v w ⊎ Ends it payload (Some false) v w
+EndsBy it payload (Ok (sight.Record strong)) v w =
+    (strong.slot ≡ it.slot) × Ends it payload (Some true) v w
+EndsBy it payload (Err error) v w = Ends it payload None v w
 
 -- and in one that it had compared
 abbrev pub RaisesBy : {E : Type 0} → Sighted → Result Sight E → CoreView → CoreView → Type 0
@@ -114,10 +118,10 @@ used_by intern (Ok (walk.Record strong)) = spent intern
 used_by intern (Ok (walk.Absent passed)) = 0
 used_by intern (Err error) = 0
 
--- what a walk for a short text cost that came to a record
-abbrev pub CostsBy : Walk → CoreView → CoreView → Type 0
-CostsBy (walk.Record strong) v w = TakesBy strong.slot v w
-CostsBy (walk.Absent passed) v w = Unit {0}
+-- what a walk for a short text with this payload cost that came to a record
+abbrev pub CostsBy : List ℕ → Walk → CoreView → CoreView → Type 0
+CostsBy payload (walk.Record strong) v w = TakesBy payload strong.slot v w
+CostsBy payload (walk.Absent passed) v w = Unit {0}
 
 -- At a step of the walk its text had this live record; or it had none, and the walk has passed so
 -- many cells, fewer than all.

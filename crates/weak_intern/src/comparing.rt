@@ -23,7 +23,7 @@ pub fn is_payload<P: Protocol>(
     requires room { HasRoom seat.old.view.core }
     requires holds { Holds seat.old.view.core slot }
     ensures same { (result ≡ true) ↔ ((object_in seat.old.view slot).payload ≡ payload.now) }
-    ensures compares { Compares slot seat.old.view.core seat.new.view.core }
+    ensures compares { Compares slot payload.now result seat.old.view.core seat.new.view.core }
     ensures objects { KnowsStill seat.old.view.core seat.old seat.new }
     ensures leaves { Leaves seat.old.view.core.owned seat.old.view.core.weaks seat.old seat.new }
     ensures client { seat.new.view.client ≡ seat.old.view.client }

@@ -1,11 +1,12 @@
 //! The live record of a text.
-ghost use Rattle.std.specs.Prelude.{◌+◌, ◌≤◌, IfOk, IfSome, IsErr, length};
+ghost use Rattle.std.specs.Prelude.{◌+◌, ◌≤◌, IfOk, IfSome, IsErr, length, take};
 ghost use Rattle.core_events.specs.Steps.{HasRoom};
 ghost use Rattle.atomic_weak.specs.Places.{named};
 ghost use Rattle.control_word.specs.Resting.{IsAtRest, IsSpent};
 ghost use Rattle.directory_calls.specs.Directories.{HasQuota, IsOver, area_of};
 ghost use Rattle.directory_calls.specs.Learning.{LearnsIn};
 ghost use Rattle.directory_calls.specs.Steps.{Leaves, with_found};
+ghost use Rattle.record_making.specs.Texts.{payload_of};
 ghost use Rattle.text_reading.specs.Reading.{HasTwoFree};
 ghost use Rattle.weak_intern.specs.Costs.{TakesBy};
 ghost use Rattle.weak_intern.specs.Knowing.{KnowsRecord};
@@ -47,7 +48,8 @@ pub fn find<R: Wait, S, P: HasDirectory<S>>(
     ensures knows { IfOk result (λ found. IfSome found (λ strong.
         KnowsRecord P.seen text.now strong.slot seat.new)) }
     ensures takes { length text.now ≤ 120 → IfOk result (λ found. IfSome found (λ strong.
-        TakesBy strong.slot seat.old.view.core seat.new.view.core)) }
+        TakesBy (payload_of (length text.now) (take 120 text.now)) strong.slot
+        seat.old.view.core seat.new.view.core)) }
     ensures spent { IsErr result → IsSpent seat.new.view.core }
     ensures short { IsErr result → seat.old.view.core.quota.adds
         ≤ seat.old.view.core.adds + directory.now.cells }

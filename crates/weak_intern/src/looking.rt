@@ -66,7 +66,7 @@ pub(crate) fn look<R: Wait, S, P: HasDirectory<S>>(
         seat.old.view.core seat.new.view.core }
     ensures spent { IsErr result → IsSpent seat.new.view.core }
     ensures looks { length sought.now.text.now ≤ 120
-        → LooksBy ((P.part domain.now.protocol).first + cell) result
+        → LooksBy ((P.part domain.now.protocol).first + cell) sought.now.head result
         seat.old.view.core seat.new.view.core }
     ensures leaves { Leaves (with_found (met_by result) seat.old.view.core.owned)
         seat.old.view.core.weaks seat.old seat.new }
@@ -105,7 +105,7 @@ fn meet<S, P: HasDirectory<S>>(
     ensures head { IfOk result (λ found. found ≢ sight.Null) }
     ensures spent { IsErr result → IsSpent seat.new.view.core }
     ensures ends { length sought.now.text.now ≤ 120
-        → EndsBy sighted result seat.old.view.core seat.new.view.core }
+        → EndsBy sighted sought.now.head result seat.old.view.core seat.new.view.core }
     ensures leaves { Leaves (with_found (met_by result) seat.old.view.core.owned)
         seat.old.view.core.weaks (seat_without sighted seat.old) seat.new }
     ensures learns { LearnsIn P.seen P.with_seen (taken_by intern result)

@@ -52,7 +52,7 @@ pub(crate) fn seek<R: Wait, S, P: HasDirectory<S>>(
         (area_of (P.part domain.now.protocol)) (text_of sought.now.text.now) walk
         seat.old seat.new) }
     ensures costs { length sought.now.text.now ≤ 120
-        → IfOk result (λ walk. CostsBy walk seat.old.view.core seat.new.view.core) }
+        → IfOk result (λ walk. CostsBy sought.now.head walk seat.old.view.core seat.new.view.core) }
     ensures spent { IsErr result → IsSpent seat.new.view.core }
     ensures leaves { Leaves (with_found (walked_by result) seat.old.view.core.owned)
         seat.old.view.core.weaks seat.old seat.new }

@@ -1,5 +1,6 @@
-use Rattle.std.proofs.Common.{refl, arith, ◌+◌}
+use Rattle.std.proofs.Common.{refl, arith, ◌+◌, ◌≡◌}
 use Rattle.weak_intern.proofs.Compared.{all_same, one_read, one_same, read_compares, read_leaves, read_makes}
+use Rattle.directory_law.proofs.Kit.{false≢true}
 use Rattle.weak_intern.proofs.comparing.is_payload.Goals as goal
 
 pub returns-then-read-payload-clause-compares : goal.returns-then-read-payload-clause-compares
@@ -9,7 +10,8 @@ returns-then-read-payload-clause-compares g c =
     c.args.seat.now c.loop-word.word
     c.read.result c.loop-word.seat c.read.new.seat c.loop-word.invariant c.requires.holds
     c.read.ensures.read c.read.ensures.seen c.read.ensures.client c.read.ensures.objects
-    c.read.ensures.room c.read.ensures.rest) (omega (arith, c.loop-word-test.true))
+    c.read.ensures.room c.read.ensures.rest) c.args.payload.now _
+    (λ is. absurd (false≢true is)) (omega (arith, c.loop-word-test.true))
 
 pub returns-then-read-payload-clause-objects : goal.returns-then-read-payload-clause-objects
 returns-then-read-payload-clause-objects g c =
@@ -57,7 +59,13 @@ returns-clause-same g c = (
 pub returns-clause-compares : goal.returns-clause-compares
 returns-clause-compares g c =
     read_compares c.args.domain.now c.args.slot c.loop-word.word c.args.seat.now c.loop-word.seat
-    c.loop-word.invariant.so_far (omega (arith, c.loop-word.auto.word-end))
+    c.loop-word.invariant.so_far c.args.payload.now _
+    (λ is. let whole : c.loop-word.word ≡ 16 =
+    omega (arith, c.loop-word-test.false, c.loop-word.auto.word-end) in (
+      whole,
+      all_same g.P.Kind.PayloadKind.fits c.args.domain.now c.args.slot c.args.payload.now
+          c.args.seat.now c.loop-word.word c.loop-word.seat c.loop-word.invariant whole,
+    )) (omega (arith, c.loop-word.auto.word-end))
 
 pub returns-clause-leaves : goal.returns-clause-leaves
 returns-clause-leaves g c =

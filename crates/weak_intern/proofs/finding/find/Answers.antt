@@ -1,6 +1,6 @@
-use Rattle.std.proofs.Common.{ap, arith, refl, subst}
+use Rattle.std.proofs.Common.{ap, arith, length, refl, subst, take}
 use Rattle.directory_calls.specs.Directories.{area_of}
-use Rattle.record_making.specs.Texts.{text_of}
+use Rattle.record_making.specs.Texts.{payload_of, text_of}
 use Rattle.record_making.proofs.Packed.{is_text_of}
 use Rattle.weak_intern.specs.Walking.{CostsBy}
 use Rattle.weak_intern.proofs.Heads.{sought_is}
@@ -44,8 +44,10 @@ returns-in-Record-clause-knows g c =
 
 pub returns-in-Record-clause-takes : goal.returns-in-Record-clause-takes
 returns-in-Record-clause-takes g c =
-    λ short. subst (λ w. CostsBy w c.args.seat.now.view.core c.seek.new.seat.view.core)
-    c.in-Record.is (c.in_ok-strong.ensures.costs short)
+    λ short. subst (λ w. CostsBy (payload_of (length c.args.text.now) (take 120 c.args.text.now)) w
+    c.args.seat.now.view.core c.seek.new.seat.view.core) c.in-Record.is
+    (subst (λ head. CostsBy head c.in_ok-strong.field-0 c.args.seat.now.view.core
+    c.seek.new.seat.view.core) c.head_of.ensures (c.in_ok-strong.ensures.costs short))
 
 pub returns-in_err-strong-clause-short : goal.returns-in_err-strong-clause-short
 returns-in_err-strong-clause-short g c = λ err.

@@ -52,7 +52,7 @@ pub returns-in-Some-clause-looks : goal.returns-in-Some-clause-looks
 returns-in-Some-clause-looks g c =
     λ short. look_by ((g.P.Part.part c.args.domain.now.protocol).first + c.args.cell)
     c.args.seat.now c.see.new.seat c.see.result c.see.ensures.sights c.see.ensures.objects
-    c.in-Some.sighted c.in-Some.is c.meet.new.seat
+    c.in-Some.sighted c.in-Some.is c.meet.new.seat c.args.sought.now.head
     c.meet.result (c.meet.ensures.ends short)
 
 pub returns-in-Some-clause-leaves : goal.returns-in-Some-clause-leaves

@@ -1,4 +1,4 @@
-use Rattle.std.proofs.Common.{ap, inl, ◌∙◌, None, arith}
+use Rattle.std.proofs.Common.{ap, inl, ◌∙◌, None, arith, refl}
 use Rattle.directory_calls.specs.Directories.{area_of}
 use Rattle.directory_calls.proofs.Parts.{place_of}
 use Rattle.record_making.specs.Texts.{text_of}
@@ -38,7 +38,7 @@ returns-then-not-is_payload-clause-ends g c =
     g.P.Part.puts_over)
     c.args.sighted c.args.seat.now c.is_payload.new.seat c.requires.sighted
     c.is_payload.ensures.compares c.is_payload.ensures.objects c.is_payload.ensures.client
-    c.let_go.new.seat None c.let_go.ensures.core)
+    c.let_go.new.seat None (λ some. absurd (some refl)) c.let_go.ensures.core)
 
 pub returns-then-not-is_payload-clause-leaves : goal.returns-then-not-is_payload-clause-leaves
 returns-then-not-is_payload-clause-leaves g c =
@@ -91,7 +91,8 @@ returns-then-sought-le120-clause-ends g c =
     g.P.Part.puts_over)
     c.args.sighted c.args.seat.now c.is_payload.new.seat c.requires.sighted
     c.is_payload.ensures.compares c.is_payload.ensures.objects c.is_payload.ensures.client
-    c.meet_short.new.seat c.meet_short.result c.meet_short.ensures.raises
+    c.meet_short.new.seat c.meet_short.result c.if-not-is_payload.false
+    c.meet_short.ensures.raises
 
 pub returns-then-sought-le120-clause-leaves : goal.returns-then-sought-le120-clause-leaves
 returns-then-sought-le120-clause-leaves g c =
@@ -158,18 +159,18 @@ returns-clause-makes g c =
 pub returns-then-not-is_payload-clause-adds : goal.returns-then-not-is_payload-clause-adds
 returns-then-not-is_payload-clause-adds g c =
     let gone = ap (λ (v : CoreView). v.adds) c.let_go.ensures.core in
-    let compared = compared_adds c.args.sighted.slot c.args.seat.now.view.core
+    let compared = compared_adds c.args.sighted.slot c.args.sought.now.head _ c.args.seat.now.view.core
     c.is_payload.new.seat.view.core c.is_payload.ensures.compares in
     omega (arith, gone, compared)
 
 pub returns-then-sought-le120-clause-adds : goal.returns-then-sought-le120-clause-adds
 returns-then-sought-le120-clause-adds g c =
-    let compared = compared_adds c.args.sighted.slot c.args.seat.now.view.core
+    let compared = compared_adds c.args.sighted.slot c.args.sought.now.head _ c.args.seat.now.view.core
     c.is_payload.new.seat.view.core c.is_payload.ensures.compares in
     omega (arith, c.meet_short.ensures.adds, compared)
 
 pub returns-clause-adds : goal.returns-clause-adds
 returns-clause-adds g c =
-    let compared = compared_adds c.args.sighted.slot c.args.seat.now.view.core
+    let compared = compared_adds c.args.sighted.slot c.args.sought.now.head _ c.args.seat.now.view.core
     c.is_payload.new.seat.view.core c.is_payload.ensures.compares in
     omega (arith, c.meet_long.ensures.adds, compared)

@@ -14,7 +14,7 @@ returns-in_err-look-clause-learns g c =
     (place_of g.P.Part.seen g.P.Part.with_seen g.P.Part.reads g.P.Part.puts_back
     g.P.Part.puts_over)
     (area_of (g.P.Part.part c.args.domain.now.protocol)) (text_of c.args.sought.now.text.now)
-    (length c.args.sought.now.text.now ≤ 120) c.args.seat.now
+    c.args.sought.now.head (length c.args.sought.now.text.now ≤ 120) c.args.seat.now
     c.loop-passed.passed c.loop-passed.seat
     c.look.new.seat c.loop-passed.invariant c.args.intern c.from_residual.result p.0 p.1
     c.in_err-look.ensures.learns
@@ -25,7 +25,7 @@ returns-in-Null-clause-comes g c =
     (place_of g.P.Part.seen g.P.Part.with_seen g.P.Part.reads g.P.Part.puts_back
     g.P.Part.puts_over)
     (area_of (g.P.Part.part c.args.domain.now.protocol)) (text_of c.args.sought.now.text.now)
-    (length c.args.sought.now.text.now ≤ 120) c.args.seat.now
+    c.args.sought.now.head (length c.args.sought.now.text.now ≤ 120) c.args.seat.now
     c.loop-passed.passed c.loop-passed.seat
     c.look.new.seat c.loop-passed.invariant c.args.intern c.cell_on-cell.result
     c.in_ok-look.field-0 c.in-Null.is
@@ -42,7 +42,7 @@ returns-in-Null-clause-leaves g c =
     (place_of g.P.Part.seen g.P.Part.with_seen g.P.Part.reads g.P.Part.puts_back
     g.P.Part.puts_over)
     (area_of (g.P.Part.part c.args.domain.now.protocol)) (text_of c.args.sought.now.text.now)
-    (length c.args.sought.now.text.now ≤ 120) c.args.seat.now
+    c.args.sought.now.head (length c.args.sought.now.text.now ≤ 120) c.args.seat.now
     c.loop-passed.passed c.loop-passed.seat
     c.look.new.seat c.loop-passed.invariant c.in_ok-look.field-0 c.in-Null.is
     c.in_ok-look.ensures.leaves
@@ -53,7 +53,7 @@ returns-in-Null-clause-learns g c =
     (place_of g.P.Part.seen g.P.Part.with_seen g.P.Part.reads g.P.Part.puts_back
     g.P.Part.puts_over)
     (area_of (g.P.Part.part c.args.domain.now.protocol)) (text_of c.args.sought.now.text.now)
-    (length c.args.sought.now.text.now ≤ 120) c.args.seat.now
+    c.args.sought.now.head (length c.args.sought.now.text.now ≤ 120) c.args.seat.now
     c.loop-passed.passed c.loop-passed.seat
     c.look.new.seat c.loop-passed.invariant c.args.intern c.cell_on-cell.result
     c.in_ok-look.field-0 c.in-Null.is
@@ -70,7 +70,7 @@ returns-in-Record-clause-comes g c =
     (place_of g.P.Part.seen g.P.Part.with_seen g.P.Part.reads g.P.Part.puts_back
     g.P.Part.puts_over)
     (area_of (g.P.Part.part c.args.domain.now.protocol)) (text_of c.args.sought.now.text.now)
-    (length c.args.sought.now.text.now ≤ 120) c.args.seat.now
+    c.args.sought.now.head (length c.args.sought.now.text.now ≤ 120) c.args.seat.now
     c.loop-passed.passed c.loop-passed.seat
     c.look.new.seat c.loop-passed.invariant c.args.intern c.cell_on-cell.result
     c.in_ok-look.field-0 c.in-Record.strong c.in-Record.is c.in_ok-look.ensures.meets
@@ -82,7 +82,7 @@ returns-in-Record-clause-leaves g c =
     (place_of g.P.Part.seen g.P.Part.with_seen g.P.Part.reads g.P.Part.puts_back
     g.P.Part.puts_over)
     (area_of (g.P.Part.part c.args.domain.now.protocol)) (text_of c.args.sought.now.text.now)
-    (length c.args.sought.now.text.now ≤ 120) c.args.seat.now
+    c.args.sought.now.head (length c.args.sought.now.text.now ≤ 120) c.args.seat.now
     c.loop-passed.passed c.loop-passed.seat
     c.look.new.seat c.loop-passed.invariant c.in_ok-look.field-0 c.in-Record.strong c.in-Record.is
     c.in_ok-look.ensures.leaves
@@ -93,7 +93,7 @@ returns-in-Record-clause-learns g c =
     (place_of g.P.Part.seen g.P.Part.with_seen g.P.Part.reads g.P.Part.puts_back
     g.P.Part.puts_over)
     (area_of (g.P.Part.part c.args.domain.now.protocol)) (text_of c.args.sought.now.text.now)
-    (length c.args.sought.now.text.now ≤ 120) c.args.seat.now
+    c.args.sought.now.head (length c.args.sought.now.text.now ≤ 120) c.args.seat.now
     c.loop-passed.passed c.loop-passed.seat
     c.look.new.seat c.loop-passed.invariant c.args.intern c.cell_on-cell.result
     c.in_ok-look.field-0 c.in-Record.strong c.in-Record.is c.in_ok-look.ensures.meets
@@ -105,7 +105,7 @@ loop-passed-preserved g c =
     (place_of g.P.Part.seen g.P.Part.with_seen g.P.Part.reads g.P.Part.puts_back
     g.P.Part.puts_over)
     (area_of (g.P.Part.part c.args.domain.now.protocol)) (text_of c.args.sought.now.text.now)
-    (length c.args.sought.now.text.now ≤ 120) c.args.seat.now
+    c.args.sought.now.head (length c.args.sought.now.text.now ≤ 120) c.args.seat.now
     c.loop-passed.passed c.loop-passed.seat
     c.look.new.seat c.loop-passed.invariant c.args.intern c.cell_on-cell.result
     c.in_ok-look.field-0 c.in-Other.is
@@ -123,7 +123,7 @@ returns-clause-comes g c =
     (place_of g.P.Part.seen g.P.Part.with_seen g.P.Part.reads g.P.Part.puts_back
     g.P.Part.puts_over)
     (area_of (g.P.Part.part c.args.domain.now.protocol)) (text_of c.args.sought.now.text.now)
-    (length c.args.sought.now.text.now ≤ 120) c.args.seat.now
+    c.args.sought.now.head (length c.args.sought.now.text.now ≤ 120) c.args.seat.now
     c.loop-passed.passed c.loop-passed.seat
     c.come_around.new.seat c.loop-passed.invariant
     (omega (arith, c.loop-passed-test.false, c.requires.over.cells))
@@ -157,7 +157,7 @@ returns-in_err-look-clause-leaves g c =
     (place_of g.P.Part.seen g.P.Part.with_seen g.P.Part.reads g.P.Part.puts_back
     g.P.Part.puts_over)
     (area_of (g.P.Part.part c.args.domain.now.protocol)) (text_of c.args.sought.now.text.now)
-    (length c.args.sought.now.text.now ≤ 120) c.args.seat.now
+    c.args.sought.now.head (length c.args.sought.now.text.now ≤ 120) c.args.seat.now
     c.loop-passed.passed c.loop-passed.seat
     c.look.new.seat c.loop-passed.invariant c.from_residual.result p.0 p.1
     c.in_err-look.ensures.leaves
@@ -168,7 +168,7 @@ returns-clause-leaves g c =
     (place_of g.P.Part.seen g.P.Part.with_seen g.P.Part.reads g.P.Part.puts_back
     g.P.Part.puts_over)
     (area_of (g.P.Part.part c.args.domain.now.protocol)) (text_of c.args.sought.now.text.now)
-    (length c.args.sought.now.text.now ≤ 120) c.args.seat.now
+    c.args.sought.now.head (length c.args.sought.now.text.now ≤ 120) c.args.seat.now
     c.loop-passed.passed c.loop-passed.seat
     c.come_around.new.seat c.loop-passed.invariant None c.come_around.ensures.leaves
 
@@ -178,7 +178,7 @@ returns-in-Record-clause-costs g c =
     (place_of g.P.Part.seen g.P.Part.with_seen g.P.Part.reads g.P.Part.puts_back
     g.P.Part.puts_over)
     (area_of (g.P.Part.part c.args.domain.now.protocol)) (text_of c.args.sought.now.text.now)
-    (length c.args.sought.now.text.now ≤ 120) c.args.seat.now
+    c.args.sought.now.head (length c.args.sought.now.text.now ≤ 120) c.args.seat.now
     c.loop-passed.passed c.loop-passed.seat
     c.look.new.seat c.loop-passed.invariant
     ((g.P.Part.part c.args.domain.now.protocol).first + c.cell_on-cell.result)
@@ -190,7 +190,7 @@ loop-passed-init g c =
     (place_of g.P.Part.seen g.P.Part.with_seen g.P.Part.reads g.P.Part.puts_back
     g.P.Part.puts_over)
     (area_of (g.P.Part.part c.args.domain.now.protocol)) (text_of c.args.sought.now.text.now)
-    (length c.args.sought.now.text.now ≤ 120) c.args.seat.now c.requires.rest c.requires.room
+    c.args.sought.now.head (length c.args.sought.now.text.now ≤ 120) c.args.seat.now c.requires.rest c.requires.room
 
 pub returns-in_err-look-clause-adds : goal.returns-in_err-look-clause-adds
 returns-in_err-look-clause-adds g c =
