@@ -3,8 +3,9 @@ ghost use Rattle.plain_protocol.specs.Laws.{Starts, KeptByCalm, KeptByLeave, Kep
 
 use crate::{
     AdvanceTail, AttachSeat, CarryItem, EmptyDummy, ExchangeTail, FindEnded, FindPassed, FindSet,
-    HasQueue, HelpLink, LandPush, LayHead, LayTail, LearnBefore, LearnHead, LearnItem, LearnNext, LearnTail,
-    LinkBack, LinkNode, LookAhead, MakeNode, NodeKind, QueueLaw, ShutHead, ShutTail, TakeItem,
+    HasQueue, HelpLink, LandPush, LayHead, LayTail, LearnBefore, LearnHead, LearnItem, LearnNext,
+    LearnTail, LinkBack, LinkNode, LookAhead, MakeNode, NodeKind, QueueLaw, ShutHead, ShutTail,
+    TakeItem,
 };
 use plain_protocol::{Deed, NoLaw, Protocol, Still, fits_stay};
 use protocol_pairs::Pair;

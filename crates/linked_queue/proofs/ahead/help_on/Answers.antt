@@ -2,7 +2,6 @@ use Rattle.std.proofs.Common.{ap, refl, subst, arith, ℕ}
 use Rattle.std.specs.Prelude.{Option}
 use Rattle.plain_state.specs.declared.slot.SlotId.{SlotId}
 use Rattle.core_events.specs.declared.view.CoreView.{CoreView}
-use Rattle.counted_handles.specs.declared.refusal.LoadError.{LoadError}
 use Rattle.acquire_retire.proofs.Wholes.{then_ok}
 use Rattle.part_calls.specs.Parts.{as_part, seen_by}
 use Rattle.linked_queue.specs.Pushes.{Helps, HelpsOn, IsWhyUnlinked, LooksAhead}

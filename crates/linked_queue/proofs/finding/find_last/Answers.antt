@@ -1,5 +1,5 @@
 use Rattle.part_calls.specs.Parts.{as_part, seen_by}
-use Rattle.std.proofs.Common.{rules, false, inl, inr, ◌++◌, [], ◌∷◌, refl, ap, subst, arith, ◌∙◌, ℕ}
+use Rattle.std.proofs.Common.{rules, false, inl, inr, ◌++◌, [], ◌∷◌, refl, ap, subst, arith, ◌∙◌}
 use Rattle.std.specs.Prelude.{IfSome, None, Option, Some}
 use Rattle.core_events.specs.declared.view.CoreView.{CoreView}
 use Rattle.counted_handles.specs.Handles.{Handle}

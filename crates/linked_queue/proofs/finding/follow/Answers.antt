@@ -1,7 +1,6 @@
-use Rattle.std.proofs.Common.{[], ◌∷◌, ◌++◌, inl, inr, refl, ap, subst, arith, ◌∙◌, ◌+◌, ℕ}
-use Rattle.std.specs.Prelude.{None, Option, Some}
+use Rattle.std.proofs.Common.{[], ◌∷◌, ◌++◌, inl, inr, refl, ap, subst, arith, ◌∙◌}
+use Rattle.std.specs.Prelude.{None, Option}
 use Rattle.plain_state.specs.declared.act.EventPlace.TheVariants.{Field}
-use Rattle.plain_state.specs.declared.slot.SlotId.{SlotId}
 use Rattle.core_events.specs.declared.view.CoreView.{CoreView}
 use Rattle.counted_handles.specs.Handles.{Handle}
 use Rattle.atomic_shared.specs.Places.{named}
