@@ -17,6 +17,7 @@ pub mod Losings
 pub mod Poppings
 pub mod Carryings
 pub mod Linkings
+pub mod TailLooks
 pub mod Pushings
 pub mod Shortages
 pub mod Attached

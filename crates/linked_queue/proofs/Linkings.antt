@@ -1,5 +1,5 @@
 -- The exchanges at the end of a queue: what their deeds ask, and what they leave.
-use Rattle.std.proofs.Common.{◌≡◌, ℕ, ◌-◌, ◌<◌, true, [], ◌∷◌, ◌++◌, refl, ap, sym, ◌∙◌, subst, arith, ◌+◌, ◌≤◌, List}
+use Rattle.std.proofs.Common.{◌≡◌, ℕ, ◌-◌, ◌<◌, Bool, true, [], ◌∷◌, ◌++◌, refl, ap, sym, ◌∙◌, subst, arith, ◌+◌, ◌≤◌, List}
 use Rattle.std.specs.Prelude.{◌==◌, Option, Some, None, cond}
 use Rattle.plain_state.specs.declared.act.EventPlace.{EventPlace}
 use Rattle.plain_state.specs.declared.act.EventPlace.TheVariants.{Field}
@@ -104,13 +104,16 @@ module _ (fits : List ℕ → Type 0) (d : DomainState QueueLaw) (last next : Sl
     inside = inside;
   }
 
--- what is seen behind a node of the tail cell is seen still
-pub behind_still : (last next : SlotId) (old new : SeatState View) → SeesBehind last next old
+-- what is seen behind a node of the tail cell is seen still, whatever is noted of where the tail cell has gone
+pub behind_noted : (last next : SlotId) (old new : SeatState View) (passed : Bool)
+    → SeesBehind last next old
     → ((x : SlotId) → 0 < times x old.view.core.owned → 0 < times x new.view.core.owned)
     → ((x : SlotId) → 0 < times x old.view.core.owned → object_in new.view x ≡ object_in old.view x)
-    → new.view.core.shape ≡ old.view.core.shape → new.view.client ≡ old.view.client
+    → new.view.core.shape ≡ old.view.core.shape
+    → new.view.client
+    ≡ record old.view.client { eyes = record old.view.client.eyes { passed = passed } }
     → SeesBehind last next new
-behind_still last next old new sees owns knows shape client = record {
+behind_noted last next old new passed sees owns knows shape client = record {
   tail = record {
     owns = owns last sees.tail.owns;
     node = ap (λ (v : View). v.eyes.node) client ∙ sees.tail.node;
@@ -124,6 +127,14 @@ behind_still last next old new sees owns knows shape client = record {
   following = ap (λ (v : View). v.eyes.following) client ∙ sees.following;
   is_node = ap (λ (o : Object). o.payload) (knows next sees.owns) ∙ sees.is_node;
 }
+
+pub behind_still : (last next : SlotId) (old new : SeatState View) → SeesBehind last next old
+    → ((x : SlotId) → 0 < times x old.view.core.owned → 0 < times x new.view.core.owned)
+    → ((x : SlotId) → 0 < times x old.view.core.owned → object_in new.view x ≡ object_in old.view x)
+    → new.view.core.shape ≡ old.view.core.shape → new.view.client ≡ old.view.client
+    → SeesBehind last next new
+behind_still last next old new sees owns knows shape client =
+    behind_noted last next old new old.view.client.eyes.passed sees owns knows shape client
 
 -- LINK
 module _ (fits : List ℕ → Type 0) (d : DomainState QueueLaw) (last node : SlotId) (old copied : SeatState View)

@@ -95,6 +95,7 @@ item_deed u slots p q views n v step found lawful law is stays_on r d =
                   ∙ (ap (λ z. (slot_at p z).second) node ∙ sym f.0));
               before = a.before;
               helped = a.helped;
+              passed = a.passed;
             },
           )),
     )

@@ -1,23 +1,26 @@
 -- How a push was lost to another seat: all events of such a try in order. A check of the tail cell, or of field 0 of
--- the node there, found another word than the look before it; or the exchange of field 0 of the last node didn't find
--- null.
-use Rattle.std.specs.Prelude.{ℕ, ◌≡◌, ◌⊎◌, false, Some, None, List}
+-- the node there, found another word than the look before it; or a look at the tail cell did so, which had gone on; or
+-- the exchange of field 0 of the last node didn't find null, as a look before it had.
+use Rattle.std.specs.Prelude.{ℕ, ◌≡◌, ◌≢◌, ◌⊎◌, ◌+◌, false, Some, None, List}
 use Rattle.plain_state.specs.declared.act.EventPlace.TheVariants.{Cell, Field}
 use Rattle.plain_state.specs.declared.slot.SlotId.{SlotId}
-use Rattle.acquire_retire.specs.Calls.{IsSameView, same_view}
+use Rattle.core_events.specs.declared.act.Act.TheVariants as act
+use Rattle.core_events.specs.declared.outcome.Outcome.TheVariants as outcome
+use Rattle.core_events.specs.Words.{slot_in}
+use Rattle.acquire_retire.specs.Calls.{IsSameView, Steps, same_view}
 use Rattle.acquire_retire.specs.Domains.{DomainState}
 use Rattle.acquire_retire.specs.Seats.{SeatState}
 use Rattle.control_word.specs.Calls.{DropsStrong, GainsStrong}
 use Rattle.protected_loads.specs.References.{Refers}
 use Rattle.retiring_stores.specs.Exchanging.{LosesTo}
-use Rattle.queue_law.specs.Lessons.{NextTells, TellsNothing, learn_next, next_next}
+use Rattle.queue_law.specs.Lessons.{NextTells, PassedTells, TellsNothing, learn_next, next_next, passed_next}
 use Rattle.queue_law.specs.Pushes.{link_next}
 use Rattle.queue_law.specs.declared.view.View.{View}
 use Rattle.queue_protocol.specs.declared.law.QueueLaw.{QueueLaw}
 use Rattle.linked_queue.specs.declared.queue.PushError.{PushError}
 use Rattle.linked_queue.specs.declared.queue.PushError.TheVariants as unpushed
 use Rattle.linked_queue.specs.Cells.{TailTells}
-use Rattle.linked_queue.specs.Pushes.{FindsEnd, IsWhyRefused, LoadsNode}
+use Rattle.linked_queue.specs.Pushes.{FindsEnd, IsWhyRefused, LoadsNode, LooksAhead}
 use Rattle.linked_queue.specs.Queues.{ends_of}
 use Rattle.linked_queue.specs.Seeing.{MissesAt}
 
@@ -29,20 +32,56 @@ module _ (fits : List ℕ → Type 0) (d : DomainState QueueLaw) where
   abbrev pub MissesBehind : SlotId → ℕ → ℕ → SeatState View → SeatState View → Type 0
   MissesBehind x = MissesAt fits d (Field x 0) next_next (NextTells (ends_of d))
 
-  -- The seat found the tail cell's node, whose field 0 changed, and gave it up.
-  pub record MissesFirst (seen now : ℕ) (old new : SeatState View) : Type 0 where
+  -- a look at the tail cell, which has gone past a node that the seat saw there, found this word
+  abbrev pub LooksAtTail : ℕ → SeatState View → SeatState View → Type 0
+  LooksAtTail now old new =
+      Steps fits d passed_next (PassedTells (ends_of d)) (act.Look (Cell d.protocol.tail)) old
+      new (outcome.Found (slot_in now))
+
+  -- The seat's look at field 0 of the node behind `first` found another node; so the tail cell had gone past `first`
+  -- then. Its look at the tail cell found `now`, which isn't `first`.
+  pub record FindsPassed (first next : SlotId) (now : ℕ) (old new : SeatState View) : Type 0
+    where
+      pub mid : SeatState View
+      pub more : SlotId
+      pub ahead : LooksAhead fits d next (Some more) old mid
+      pub looks : LooksAtTail now mid new
+      pub other : now ≢ first.0 + 1
+
+  abbrev pub LosesPassed : SlotId → SlotId → ℕ → ℕ → SeatState View → SeatState View → Type 0
+  LosesPassed first next seen now old new =
+      (seen ≡ first.0 + 1) × FindsPassed first next now old new
+
+  -- It did so with a reference to the node behind `first`, which it gave up again.
+  pub record LosesFollowing (first : SlotId) (seen now : ℕ) (old new : SeatState View) : Type 0
+    where
+      pub next : SlotId
+      pub loaded : SeatState View
+      pub lost : SeatState View
+      pub loads :
+          Refers fits d (Field first 0) next_next (NextTells (ends_of d)) next old loaded
+      pub loses : LosesPassed first next seen now loaded lost
+      pub drops : DropsStrong fits d next lost new
+
+  -- Field 0 of the tail cell's node changed, or it held a node, and the tail cell had gone on.
+  abbrev pub LosesBehind : SlotId → ℕ → ℕ → SeatState View → SeatState View → Type 0
+  LosesBehind first seen now old new =
+      MissesBehind first seen now old new ⊎ LosesFollowing first seen now old new
+
+  -- It did so with a reference to the tail cell's node, which it gave up again.
+  pub record LosesFirst (seen now : ℕ) (old new : SeatState View) : Type 0 where
     pub first : SlotId
     pub loaded : SeatState View
-    pub missed : SeatState View
+    pub lost : SeatState View
     pub loads :
         Refers fits d (Cell d.protocol.tail) (learn_next false) (TailTells (ends_of d)) first
         old loaded
-    pub misses : MissesBehind first seen now loaded missed
-    pub drops : DropsStrong fits d first missed new
+    pub loses : LosesBehind first seen now loaded lost
+    pub drops : DropsStrong fits d first lost new
 
   -- It didn't find the last node.
   abbrev pub LosesEnd : ℕ → ℕ → SeatState View → SeatState View → Type 0
-  LosesEnd seen now old new = MissesTail seen now old new ⊎ MissesFirst seen now old new
+  LosesEnd seen now old new = MissesTail seen now old new ⊎ LosesFirst seen now old new
 
   -- It counted a reference to its node, expected null in field 0 of the last node, found `now` there, and gave the
   -- reference up.

@@ -4,13 +4,15 @@ use Rattle.plain_state.specs.declared.act.EventPlace.TheVariants.{Cell, Field}
 use Rattle.plain_state.specs.declared.slot.SlotId.{SlotId}
 use Rattle.plain_state.specs.Lists.{times}
 use Rattle.plain_state.specs.State.{no_payload}
+use Rattle.core_events.specs.declared.act.Act.TheVariants as act
+use Rattle.core_events.specs.declared.outcome.Outcome.TheVariants as outcome
 use Rattle.core_events.specs.declared.view.CoreView.{CoreView}
 use Rattle.core_events.specs.Views.{without}
 use Rattle.counted_handles.specs.Handles.{Handle}
 use Rattle.counted_handles.specs.declared.refusal.LoadError.{LoadError}
 use Rattle.counted_handles.specs.declared.refusal.LoadError.TheVariants as unloaded
 use Rattle.domain_rule.specs.Views.{object_in}
-use Rattle.acquire_retire.specs.Calls.{IsSameView, same_view}
+use Rattle.acquire_retire.specs.Calls.{IsSameView, Steps, same_view}
 use Rattle.acquire_retire.specs.Domains.{DomainState}
 use Rattle.acquire_retire.specs.Seats.{SeatState}
 use Rattle.control_word.specs.Calls.{DropsStrong, GainsStrong}
@@ -25,7 +27,7 @@ use Rattle.linked_queue.specs.UnlessRipe.{next_unless}
 use Rattle.queue_law.specs.Nodes.{carry_next, make_next}
 use Rattle.queue_law.specs.declared.view.Item.{Item}
 use Rattle.queue_law.specs.declared.view.View.{View}
-use Rattle.queue_law.specs.Lessons.{NextTells, TellsNothing, learn_next, next_next}
+use Rattle.queue_law.specs.Lessons.{NextTells, TellsNothing, ahead_next, learn_next, next_next}
 use Rattle.queue_law.specs.Pushes.{advance_next, link_next}
 use Rattle.queue_law.specs.Views.{sees_node}
 use Rattle.queue_protocol.specs.declared.law.QueueLaw.{QueueLaw}
@@ -121,26 +123,45 @@ module _ (fits : List ℕ → Type 0) (d : DomainState QueueLaw) where
         Stores fits d (next_unless carry_next) TellsNothing (Field node 1) (Some item)
         copied new
 
+  -- Its look at field 0 of the node behind one that it saw in the tail cell found this.
+  abbrev pub LooksAhead : SlotId → Option SlotId → SeatState View → SeatState View → Type 0
+  LooksAhead next found old new =
+      Steps fits d ahead_next TellsNothing (act.Look (Field next 0)) old new
+      (outcome.Found found)
+
   -- It counted a reference to the next node, with which it advanced the tail cell, or found it advanced already.
   pub record Helps (last next : SlotId) (old new : SeatState View) : Type 0 where
     pub copied : SeatState View
     pub copies : GainsStrong fits d same_view IsSameView next old copied
     pub advances : Advances last next copied new
 
-  -- Behind a node of the tail cell it found another, to which it helped the tail cell on.
-  pub record GoesOn (first last : SlotId) (old new : SeatState View) : Type 0 where
+  -- Behind the next node it found none, and it helped the tail cell on to that one.
+  pub record HelpsOn (first next : SlotId) (old new : SeatState View) : Type 0 where
+    pub looked : SeatState View
+    pub null : LooksAhead next None old looked
+    pub helps : Helps first next looked new
+
+  -- Behind a node of the tail cell it found none; or another, to which it helped the tail cell on.
+  pub record Follows (first next : SlotId) (old new : SeatState View) : Type 0 where
     pub seen : SeatState View
-    pub helped : SeatState View
     pub loads :
-        Refers fits d (Field first 0) next_next (NextTells (ends_of d)) last old seen
-    pub helps : Helps first last seen helped
-    pub drops : DropsStrong fits d first helped new
+        Refers fits d (Field first 0) next_next (NextTells (ends_of d)) next old seen
+    pub helps : HelpsOn first next seen new
+
+  abbrev pub FindsBehind : SlotId → Option SlotId → SeatState View → SeatState View → Type 0
+  FindsBehind first None old new =
+      FindsNull fits d (Field first 0) next_next (NextTells (ends_of d)) old new
+  FindsBehind first (Some next) old new = Follows first next old new
 
   -- behind it there was none
   abbrev pub Stays : SlotId → SlotId → SeatState View → SeatState View → Type 0
-  Stays first last old new =
-      (last ≡ first)
-      × FindsNull fits d (Field first 0) next_next (NextTells (ends_of d)) old new
+  Stays first last old new = (last ≡ first) × FindsBehind first None old new
+
+  -- there was another, and the first one was given up
+  pub record GoesOn (first last : SlotId) (old new : SeatState View) : Type 0 where
+    pub helped : SeatState View
+    pub follows : FindsBehind first (Some last) old helped
+    pub drops : DropsStrong fits d first helped new
 
   -- It found the last node by the tail cell.
   pub record FindsEnd (last : SlotId) (old new : SeatState View) : Type 0 where

@@ -12,7 +12,8 @@ ghost use Rattle.linked_queue.specs.Pushes.{HasLoad, IsWhyUnlinked, LinksLast, S
 ghost use Rattle.linked_queue.specs.PushLosses.{LosesLast};
 ghost use Rattle.linked_queue.specs.Queues.{IsAttached, beside_eyes, deeds_in};
 
-use crate::linking::{find_last, link};
+use crate::finding::find_last;
+use crate::linking::link;
 use acquire_retire::{Domain, Seat, SlotId};
 use atomic_shared::LoadError;
 use counted_handles::Strong;

@@ -20,10 +20,12 @@
 //! ```
 #![tactic(auto)]
 
+mod ahead;
 mod attaching;
 mod carrying;
 mod chaining;
 mod deeds;
+mod finding;
 mod laying;
 mod linking;
 mod popping;

@@ -70,6 +70,7 @@ module _ (u : Ends) (cells : u.head ≢ u.tail) (p q : Plain) (views : List View
       item = λ f. absurd (f refl);
       before = λ f. absurd (f refl);
       helped = λ f. absurd (false≢true f);
+      passed = λ f. absurd (false≢true f);
     },
   )
 

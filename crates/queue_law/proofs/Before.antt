@@ -73,6 +73,7 @@ before_deed u p q views n v step found lawful law is stays_on ready d =
                   (cases_eq i 0);
               helped = λ none j e. let x = leads_to j e in let y = eqb_true found none in
                   absurd (omega arith);
+              passed = a.passed;
             },
           )),
     )

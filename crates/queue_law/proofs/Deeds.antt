@@ -9,7 +9,7 @@ use Rattle.queue_law.specs.Law.{WholeLaw}
 use Rattle.queue_law.specs.Nodes.{MakeReady, make_next, CarryReady, carry_next, BackReady, back_next}
 use Rattle.queue_law.specs.Pushes.{LinkReady, link_next, AdvanceReady, advance_next, ExchangeReady, exchange_next, LandReady, land_next, HelpReady, help_next}
 use Rattle.queue_law.specs.Pops.{TakeReady, take_next, EmptyReady, empty_next}
-use Rattle.queue_law.specs.Lessons.{Reads, LearnReady, learn_next, NextReady, next_next, AheadReady, ahead_next, ItemReady, item_next, BeforeReady, before_next, EndedReady, ended_next, SetReady, set_next, AttachReady, attach_next, CellTells, NextTells, EndedTells, AheadTells, ItemTells, AttachTells, TellsNothing}
+use Rattle.queue_law.specs.Lessons.{Reads, LearnReady, learn_next, NextReady, next_next, AheadReady, ahead_next, PassedReady, passed_next, ItemReady, item_next, BeforeReady, before_next, EndedReady, ended_next, SetReady, set_next, AttachReady, attach_next, CellTells, NextTells, EndedTells, PassedTells, ItemTells, AttachTells, TellsNothing}
 use Rattle.queue_law.specs.Opening.{LayTailReady, lay_tail_next, LayHeadReady, lay_head_next, ShutHeadReady, shut_head_next, ShutTailReady, shut_tail_next}
 use Rattle.plain_protocol.specs.Laws as laws
 use Rattle.queue_law.proofs.Exchange.{exchange_deed}
@@ -18,12 +18,12 @@ use Rattle.queue_law.proofs.Advance.{advance_deed}
 use Rattle.queue_law.proofs.Land.{land_deed, help_deed}
 use Rattle.queue_law.proofs.Take.{take_deed}
 use Rattle.queue_law.proofs.Fields.{carry_deed, back_deed, empty_deed}
-use Rattle.queue_law.proofs.Lessons.{learn_head_deed, learn_tail_deed, next_deed, ahead_deed, item_deed, attach_deed}
+use Rattle.queue_law.proofs.Lessons.{learn_head_deed, learn_tail_deed, next_deed, ahead_deed, passed_deed, item_deed, attach_deed}
 use Rattle.queue_law.proofs.Before.{before_deed, ended_deed, set_deed}
 use Rattle.queue_law.proofs.Make.{make_deed}
 use Rattle.queue_law.proofs.Lays.{lay_tail_deed, lay_head_deed}
 use Rattle.queue_law.proofs.Whole.{whole_told, whole_deed, whole_shut}
-use Rattle.queue_law.proofs.Told.{learn_head_tells, learn_tail_tells, next_tells, ended_tells, ahead_tells, item_tells, attach_tells}
+use Rattle.queue_law.proofs.Told.{learn_head_tells, learn_tail_tells, next_tells, ended_tells, passed_tells, item_tells, attach_tells}
 use Rattle.queue_law.proofs.Shut.{shut_head_deed, shut_tail_deed}
 
 reads_no_leave : (at : EventPlace) (step : PlainAct) → Reads at step → (j : ℕ) → step ≢ act.Leave j
@@ -124,11 +124,17 @@ module _ (u : Ends) (cells : u.head ≢ u.tail) where
       (λ own v step r j e. reads_no_leave _ step r.reads j e)
       (next_deed u) (next_tells u)
 
-  pub ahead : laws.Keeps (WholeLaw u) first_view (AheadReady u) ahead_next (AheadTells u)
+  pub ahead : laws.Keeps (WholeLaw u) first_view (AheadReady u) ahead_next TellsNothing
   ahead =
-      whole_told u (AheadReady u) ahead_next (AheadTells u)
+      whole_deed u (AheadReady u) ahead_next
       (λ own v step r j e. reads_no_leave _ step r.reads j e)
-      (ahead_deed u) (ahead_tells u)
+      (ahead_deed u)
+
+  pub passed : laws.Keeps (WholeLaw u) first_view (PassedReady u) passed_next (PassedTells u)
+  passed =
+      whole_told u (PassedReady u) passed_next (PassedTells u)
+      (λ own v step r j e. reads_no_leave _ step r.reads j e)
+      (passed_deed u) (passed_tells u)
 
   pub item : laws.Keeps (WholeLaw u) first_view ItemReady item_next (ItemTells u)
   item =

@@ -138,6 +138,7 @@ helped_now p h k t v i j a e l = record {
   before = a.before;
   helped = λ is j' e'. let same : j ≡ j' = omega arith in
       subst (λ z. Present p (sent h z) → Leads p h z) same l;
+  passed = a.passed;
 }
 
 -- HELP

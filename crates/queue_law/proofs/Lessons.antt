@@ -13,16 +13,16 @@ use Rattle.plain_protocol.specs.Owns.{OwnPart, own_part}
 use Rattle.plain_protocol.specs.Acts.{IsCalm}
 use Rattle.queue_law.specs.Words.{slot_at, cell_at, held_times, life_in, first_of, second_of}
 use Rattle.queue_law.specs.Views.{Taken, View, first_view, view_at}
-use Rattle.queue_law.specs.Chain.{Ends, Sent, sent, Present, Leads}
+use Rattle.queue_law.specs.Chain.{Ends, Sent, sent, Present, Leads, Chain}
 use Rattle.queue_law.specs.Notes.{Sees, Emptied, Carries, Flies}
 use Rattle.queue_law.specs.Law.{Queue, QueueLaw}
 use Rattle.queue_law.specs.Owned.{Keeps}
-use Rattle.queue_law.specs.Lessons.{Reads, LearnReady, learnt, learn_next, NextReady, next_next, AheadReady, ahead_next, ItemReady, item_next, AttachReady, attach_next}
+use Rattle.queue_law.specs.Lessons.{Reads, LearnReady, learnt, learn_next, NextReady, next_next, AheadReady, ahead_next, PassedReady, passed_next, ItemReady, item_next, AttachReady, attach_next}
 use Rattle.std.proofs.lemmas.List.{set-get_or}
 use Rattle.std.specs.Prelude.{not}
 use Rattle.queue_law.proofs.Kit.{own_life}
 use Rattle.queue_law.proofs.Effects.{calm_quiet}
-use Rattle.queue_law.proofs.Chain.{the_head, leads_some}
+use Rattle.queue_law.proofs.Chain.{lag_short, the_head, leads_some}
 use Rattle.queue_law.proofs.ChainCalm.{quiet_leads}
 use Rattle.queue_law.proofs.Notes.{unchanged, leads_stay, sees_at_on, carry_stay}
 use Rattle.queue_law.proofs.Seen.{rewrite_keeps, flights_same, same_objects, reseen, seen_here}
@@ -79,6 +79,7 @@ learn_case u head p views n v s law low at is true e =
               item = λ f. absurd (f refl);
               before = λ f. absurd (f refl);
               helped = λ f. absurd (false≢true f);
+              passed = λ f. absurd (false≢true f);
             },
           )),
     )
@@ -178,14 +179,69 @@ next_deed u p q views n v step found lawful law is stays_on ready d =
               item = λ g k. absurd (k refl);
               before = a.before;
               helped = a.helped;
+              passed = a.passed;
             },
           )),
     )
 
--- AHEAD: the view stays
+-- where something is linked behind the node after one that is there, the tail has gone past that one
+tail_past : (u : Ends) (p : Plain) (h : List Sent) (k t i node : ℕ) → Chain u p h k t → i + 1 < length h → (sent h (i + 1)).node ≡ node → Present p (sent h (i + 1))
+    → (slot_at p node).first ≢ 0 → i < t
+tail_past u p h k t i node c low is there more =
+    let past : i + 2 < length h =
+    ⊎_elim
+    (λ z. z)
+    (λ le.
+    absurd (more (ap (λ z. (slot_at p z).first) (sym is) ∙ c.ends (i + 1) (omega arith) there)))
+    (cases_lt (i + 2) (length h)) in
+    let lag = lag_short u.form (length h) t (c.lag (omega arith)) in
+    omega arith
+
+-- AHEAD: where field 0 of the next node isn't null, the tail has gone past the node that was seen
 pub ahead_deed : (u : Ends) → Keeps (QueueLaw u) (AheadReady u) ahead_next
-ahead_deed u p q views n v step found lawful law is stays_on r d =
+ahead_deed u p q views n v step found lawful law is stays_on ready d =
+    let r = ready in
+    let here = is in
+    let f = reads_found p q n found (first_of r.node) step r.reads d in
+    let h = law.0 in let ts = law.1 in let t = law.2 in let c = law.3.chain in
     let w = calm_quiet p q n step found lawful (reads_calm (first_of r.node) step r.reads) d in
+    let after = calm_queue u p q views h ts t w law.3 in
+    let s = seen_here u p views n v r.old h ts t lawful law.3 here.1 r.held r.seen r.seen_life in
+    let i = s.0.0 in
+    let on = quiet_on u p q h (length ts) t c w in
+    let a = sees_at_on p q h h (length ts) (length ts) t t v.eyes i (unchanged h) (omega arith)
+    (omega arith) on s.0.1 in
+    let next = s.0.1.next (λ z. let y = r.following in omega arith) in
+    let there = (s.0.1.leads (λ z. let y = r.following in omega arith) s.2).1 in
+    let node : (sent h (i + 1)).node ≡ r.node = let y = r.following in let x = next.1 in omega arith in (
+      h,
+      ts,
+      t,
+      reseen u q views n v (record v.eyes { passed = nat_lt 0 found }) h ts t after here.0 here.1
+          (λ z. (
+            i,
+            record {
+              inside = a.inside;
+              node = a.node;
+              life = a.life;
+              was_head = a.was_head;
+              was_tail = a.was_tail;
+              next = a.next;
+              leads = a.leads;
+              item = a.item;
+              before = a.before;
+              helped = a.helped;
+              passed = λ more.
+                  tail_past u p h (length ts) t i r.node c next.0 node there
+                  (λ null. let y = ltb-true 0 found more in absurd (omega arith));
+            },
+          )),
+    )
+
+-- PASSED: the view stays
+pub passed_deed : (u : Ends) → Keeps (QueueLaw u) (PassedReady u) passed_next
+passed_deed u p q views n v step found lawful law is stays_on r d =
+    let w = calm_quiet p q n step found lawful (reads_calm (Cell u.tail) step r.reads) d in
     same_view u q views n v is.1 (law.0, law.1, law.2, calm_queue u p q views law.0 law.1 law.2 w law.3)
 
 -- ITEM: what field 1 of the next node holds is its item, for as long as it waits
@@ -227,6 +283,7 @@ item_deed u p q views n v step found lawful law is stays_on ready d =
                   ∙ (ap (λ z. (slot_at p z).second) node ∙ sym f.0);
               before = a.before;
               helped = a.helped;
+              passed = a.passed;
             },
           )),
     )

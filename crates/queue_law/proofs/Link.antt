@@ -98,6 +98,7 @@ module _ (u : Ends) (p q : Plain) (views : List View) (n : ℕ) (v : View) (last
           item = λ f found. absurd (found refl);
           before = λ f. absurd (f refl);
           helped = λ f. absurd (false≢true f);
+          passed = λ f. absurd (false≢true f);
         },
       )
 

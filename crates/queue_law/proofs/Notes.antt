@@ -48,6 +48,7 @@ sees_at_on p q h h' k k' t t' v i x le later on a =
       before = λ some_slot. let b = a.before some_slot in
           (b.0, b.1, ap (λ (z : Sent). z.node + 1) (x.same b.0 (let z = b.1 in omega arith)) ∙ b.2);
       helped = λ is j e. on j (omega arith) (a.helped is j e);
+      passed = λ e. let b = a.passed e in omega arith;
     }
 
 pub sees_on : (p q : Plain) (h h' : List Sent) (k k' t t' : ℕ) (v : Eyes) → Extends h h' → k ≤ k' → t ≤ t'

@@ -1,5 +1,5 @@
 -- What lessons tell: why nothing is there to pop, and why a place has changed.
-use Rattle.std.proofs.Common.{◌≡◌, ◌≢◌, ⊎_elim, ℕ, zero, suc, ◌+◌, ◌-◌, ◌<◌, true, false, List, length, ap, sym, ◌∙◌, subst, arith}
+use Rattle.std.proofs.Common.{◌≡◌, ◌≢◌, ⊎_elim, ℕ, zero, suc, ◌+◌, ◌<◌, true, false, List, length, ap, sym, ◌∙◌, subst, arith}
 use Rattle.std.proofs.lemmas.Bool.{cases_lt}
 use Rattle.plain_state.specs.State.{Plain, seat_at, no_payload}
 use Rattle.plain_state.specs.Lawful.{Lawful}
@@ -9,13 +9,13 @@ use Rattle.plain_state.specs.declared.act.PlainAct.{PlainAct}
 use Rattle.plain_state.specs.declared.act.PlainAct.TheVariants as act
 use Rattle.plain_protocol.specs.Owns.{OwnPart, own_part}
 use Rattle.queue_law.specs.Words.{slot_at, cell_at, Live, held_times, life_in, id, first_of, second_of}
-use Rattle.queue_law.specs.Views.{Linked, View, view_at}
+use Rattle.queue_law.specs.Views.{View, view_at}
 use Rattle.queue_law.specs.Chain.{Ends, sent, TailAt}
 use Rattle.queue_law.specs.Law.{QueueLaw}
 use Rattle.queue_law.specs.Writes.{Quiet}
-use Rattle.queue_law.specs.Lessons.{LearnReady, learn_next, NextReady, next_next, AheadReady, ahead_next, ItemReady, item_next, EndedReady, ended_next, AttachReady, attach_next, NothingLinked, CellTells, NextTells, EndedTells, AheadTells, ItemTells, AttachTells}
+use Rattle.queue_law.specs.Lessons.{LearnReady, learn_next, NextReady, next_next, PassedReady, passed_next, ItemReady, item_next, EndedReady, ended_next, AttachReady, attach_next, NothingLinked, CellTells, NextTells, EndedTells, PassedTells, ItemTells, AttachTells}
 use Rattle.queue_law.proofs.Effects.{calm_quiet}
-use Rattle.queue_law.proofs.Chain.{lag_short, the_head, leads_passed, leads_some, same_node}
+use Rattle.queue_law.proofs.Chain.{the_head, leads_passed, leads_some, same_node}
 use Rattle.queue_law.proofs.ChainCalm.{calm_chain}
 use Rattle.queue_law.proofs.ChainGrows.{was}
 use Rattle.queue_law.proofs.Seen.{seen_here, before_here, before_present}
@@ -52,36 +52,6 @@ module _ (u : Ends) (p q : Plain) (views : List View) (n : ℕ) (v : View) (lawf
         w.cells u.head ∙ at_head.holds,
         w.first _ here.0 ∙ subst (λ z. (slot_at p (sent h z).node).first ≡ 0) same field,
       )
-
-  -- where the node after the next one isn't null, the tail has gone on
-  pub ahead_told : (old node : ℕ) → u.form ≡ Linked → 0 < held_times old (seat_at p n)
-      → v.eyes.node ≡ old + 1 → life_in (own_part p n) old ≡ v.eyes.life → v.eyes.following ≡ node + 1
-      → (slot_at p (v.eyes.following - 1)).first ≢ 0 → cell_at q u.tail ≢ v.eyes.node
-  ahead_told old node linked held seen life following more is =
-      let h = law.0 in let ts = law.1 in let t = law.2 in
-      let c = law.3.chain in
-      let s = seen_here u p views n v old h ts t lawful law.3 at held seen life in
-      let i = s.0.0 in
-      let next = s.0.1.next (λ z. omega arith) in
-      let pr = (s.0.1.leads (λ z. omega arith) s.2).1 in
-      let slot : v.eyes.following - 1 ≡ (sent h (i + 1)).node = let z = next.1 in omega arith in
-      let past : i + 2 < length h =
-      ⊎_elim
-      (λ z. z)
-      (λ le.
-      let l = next.0 in
-      absurd (more (ap (λ z. (slot_at p z).first) slot ∙ c.ends (i + 1) (omega arith) pr)))
-      (cases_lt (i + 2) (length h)) in
-      let lag = lag_short u.form (length h) t (c.lag (omega arith)) in
-      let cell : cell_at p u.tail ≡ v.eyes.node = sym (w.cells u.tail) ∙ is in
-      ⊎_elim
-      (λ z. let x = z.0 in absurd (omega arith))
-      (λ b.
-      let x = b.holds in
-      let y = s.1 in
-      let same = same_node u p h (length ts) t c i t s.0.1.inside b.inside s.2 b.is (omega arith) in
-      absurd (omega arith))
-      c.tail
 
   -- where the next node has no item, the head has gone on
   pub item_told : (old node found : ℕ) → v.attached ≡ true → 0 < held_times old (seat_at p n)
@@ -174,10 +144,22 @@ ended_tells u p q views n v step found lawful law at r d s is live =
     r.at_before r.form lv in
     w.payload s live ∙ (ap (λ z. (slot_at p z).payload) (same ∙ sym b.2) ∙ pr.2)
 
-pub ahead_tells : (u : Ends) → Tells u (AheadReady u) ahead_next (AheadTells u)
-ahead_tells u p q views n v step found lawful law at r d =
-    let w = calm_quiet p q n step found lawful (reads_calm (first_of r.node) step r.reads) d in
-    ahead_told u p q views n v lawful law at w r.old r.node r.form r.held r.seen r.seen_life r.following
+-- where the tail has gone past a node that is there, the tail cell holds another one
+pub passed_tells : (u : Ends) → Tells u (PassedReady u) passed_next (PassedTells u)
+passed_tells u p q views n v step found lawful law at r d cell =
+    let h = law.0 in let ts = law.1 in let t = law.2 in
+    let c = law.3.chain in
+    let seen = r.seen in
+    let s = seen_here u p views n v r.old h ts t lawful law.3 at r.held seen r.seen_life in
+    let past = s.0.1.passed r.passed in
+    ⊎_elim
+    (λ null. let x = null.0 in absurd (omega arith))
+    (λ b.
+    let x = b.holds in
+    let y = s.1 in
+    let same = same_node u p h (length ts) t c s.0.0 t s.0.1.inside b.inside s.2 b.is (omega arith) in
+    absurd (omega arith))
+    c.tail
 
 pub item_tells : (u : Ends) → Tells u ItemReady item_next (ItemTells u)
 item_tells u p q views n v step found lawful law at r d none =

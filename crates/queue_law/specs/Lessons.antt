@@ -52,8 +52,22 @@ pub record AheadReady (u : Ends) (own : OwnPart) (v : View) (step : PlainAct) : 
   pub seen_life : life_in own old ≡ v.eyes.life
   pub following : v.eyes.following ≡ node + 1
 
+-- where it isn't null, the tail cell has gone past the node that was seen
 abbrev pub ahead_next : OwnPart → OwnPart → View → PlainAct → ℕ → View
-ahead_next own after v step found = v
+ahead_next own after v step found =
+    record v { eyes = record v.eyes { passed = nat_lt 0 found } }
+
+-- PASSED. The tail cell, where it has gone past a node that was seen
+pub record PassedReady (u : Ends) (own : OwnPart) (v : View) (step : PlainAct) : Type 0 where
+  pub old : ℕ
+  pub reads : Reads (Cell u.tail) step
+  pub held : 0 < held_times old own.seat
+  pub seen : v.eyes.node ≡ old + 1
+  pub seen_life : life_in own old ≡ v.eyes.life
+  pub passed : v.eyes.passed ≡ true
+
+abbrev pub passed_next : OwnPart → OwnPart → View → PlainAct → ℕ → View
+passed_next own after v step found = v
 
 -- ITEM. The item of the node after one that was seen
 pub record ItemReady (own : OwnPart) (v : View) (step : PlainAct) : Type 0 where
@@ -141,10 +155,9 @@ abbrev pub EndedTells : Plain → Plain → ℕ → View → View → Type 0
 EndedTells p q n v w =
     (s : ℕ) → v.eyes.before ≡ s + 1 → Live p s → (slot_at q s).payload ≡ no_payload
 
--- where the node after the next one isn't null, the tail cell doesn't hold the node that was seen
-abbrev pub AheadTells : Ends → Plain → Plain → ℕ → View → View → Type 0
-AheadTells u p q n v w =
-    (slot_at p (v.eyes.following - 1)).first ≢ 0 → cell_at q u.tail ≢ v.eyes.node
+-- the tail cell held another node than the one that was seen, or none
+abbrev pub PassedTells : Ends → Plain → Plain → ℕ → View → View → Type 0
+PassedTells u p q n v w = cell_at p u.tail ≢ v.eyes.node
 
 -- where the next node has no item, the head cell doesn't hold the node that was seen
 abbrev pub ItemTells : Ends → Plain → Plain → ℕ → View → View → Type 0

@@ -18,6 +18,7 @@ pub record SeesAt (p : Plain) (h : List Sent) (k t : ℕ) (v : Eyes) (i : ℕ) :
   pub item : v.following ≢ 0 → v.found ≢ 0 → k ≤ i → (sent h (i + 1)).item.slot + 1 ≡ v.found
   pub before : v.before ≢ 0 → (j : ℕ) × (j + 1 ≡ i) × ((sent h j).node + 1 ≡ v.before)
   pub helped : v.helped ≡ true → (j : ℕ) → j + 1 ≡ i → Present p (sent h j) → Leads p h j
+  pub passed : v.passed ≡ true → i < t
 
 abbrev pub Sees : Plain → List Sent → ℕ → ℕ → Eyes → Type 0
 Sees p h k t v = v.node ≢ 0 → (i : ℕ) × SeesAt p h k t v i

@@ -26,6 +26,7 @@ no_eyes = record {
   found = 0;
   before = 0;
   helped = false;
+  passed = false;
 }
 
 -- a node in a life, and nothing else that is known of it

@@ -43,6 +43,8 @@ pub struct Eyes {
     pub before: u64,
     /// The node before it leads on to it, or is gone.
     pub helped: bool,
+    /// The tail cell has gone past it.
+    pub passed: bool,
 }
 
 /// A node of the seat's own that isn't linked yet, with the item and the weak reference that were put into it.

@@ -1,8 +1,8 @@
 //! The deeds by which a seat learns.
 ghost use Rattle.std.specs.Prelude.{true, false};
 ghost use Rattle.queue_law.specs.Chain.{ends};
-ghost use Rattle.queue_law.specs.Lessons.{AheadReady, AttachReady, ItemReady, LearnReady, NextReady, ahead_next, attach_next, item_next, learn_next, next_next};
-ghost use Rattle.queue_law.specs.Lessons.{AheadTells, AttachTells, CellTells, ItemTells, NextTells};
+ghost use Rattle.queue_law.specs.Lessons.{AheadReady, AttachReady, ItemReady, LearnReady, NextReady, PassedReady, ahead_next, attach_next, item_next, learn_next, next_next, passed_next};
+ghost use Rattle.queue_law.specs.Lessons.{AttachTells, CellTells, ItemTells, NextTells, PassedTells, TellsNothing};
 ghost use Rattle.queue_law.proofs.Deeds as deeds;
 
 use crate::law::QueueLaw;
@@ -51,8 +51,8 @@ impl Deed<QueueLaw> for LearnNext {
     ghost keeps = { λ it of. deeds.next (ends of.form of.head of.tail) of.apart };
 }
 
-/// In a linked queue: field 0 of the node after one that was seen. Where it isn't null, the tail cell holds another
-/// node than the one that was seen.
+/// In a linked queue: field 0 of the node after one that was seen. Where it isn't null, the tail cell has gone past the
+/// one that was seen.
 #[derive(Clone, Copy, Drop)]
 pub struct LookAhead;
 
@@ -61,9 +61,23 @@ impl Deed<QueueLaw> for LookAhead {
 
     ghost next = { λ it of. ahead_next };
 
-    ghost allows = { λ it of. AheadTells (ends of.form of.head of.tail) };
+    ghost allows = { λ it of. TellsNothing };
 
     ghost keeps = { λ it of. deeds.ahead (ends of.form of.head of.tail) of.apart };
+}
+
+/// What the tail cell held, where it has gone past a node that was seen. It isn't that node.
+#[derive(Clone, Copy, Drop)]
+pub struct FindPassed;
+
+impl Deed<QueueLaw> for FindPassed {
+    ghost ready = { λ it of. PassedReady (ends of.form of.head of.tail) };
+
+    ghost next = { λ it of. passed_next };
+
+    ghost allows = { λ it of. PassedTells (ends of.form of.head of.tail) };
+
+    ghost keeps = { λ it of. deeds.passed (ends of.form of.head of.tail) of.apart };
 }
 
 /// The item of the node after one that was seen. Where there is none, the head cell holds another node than the one

@@ -31,7 +31,7 @@ mod tests;
 pub use has_queue::HasQueue;
 pub use helps::{FindEnded, FindSet, LearnBefore};
 pub use law::QueueLaw;
-pub use lessons::{AttachSeat, LearnHead, LearnItem, LearnNext, LearnTail, LookAhead};
+pub use lessons::{AttachSeat, FindPassed, LearnHead, LearnItem, LearnNext, LearnTail, LookAhead};
 pub use node_kind::NodeKind;
 pub use nodes::{CarryItem, LinkBack, MakeNode};
 pub use opening::{LayHead, LayTail, ShutHead, ShutTail};

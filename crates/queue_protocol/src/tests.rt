@@ -2,9 +2,10 @@ ghost use Rattle.queue_protocol.specs.Pushable.{AcceptsKept, AcceptsPush, StaysP
 ghost use Rattle.plain_protocol.specs.Laws.{Starts, KeptByCalm, KeptByLeave, KeptByForeign, Keeps};
 
 use crate::{
-    AdvanceTail, AttachSeat, CarryItem, EmptyDummy, ExchangeTail, FindEnded, FindSet, HasQueue,
-    HelpLink, LandPush, LayHead, LayTail, LearnBefore, LearnHead, LearnItem, LearnNext, LearnTail,
-    LinkBack, LinkNode, LookAhead, MakeNode, NodeKind, QueueLaw, ShutHead, ShutTail, TakeItem,
+    AdvanceTail, AttachSeat, CarryItem, EmptyDummy, ExchangeTail, FindEnded, FindPassed, FindSet,
+    HasQueue, HelpLink, LandPush, LayHead, LayTail, LearnBefore, LearnHead, LearnItem, LearnNext,
+    LearnTail, LinkBack, LinkNode, LookAhead, MakeNode, NodeKind, QueueLaw, ShutHead, ShutTail,
+    TakeItem,
 };
 use plain_protocol::{Deed, NoLaw, Protocol, Still, fits_stay};
 use protocol_pairs::Pair;
@@ -42,6 +43,7 @@ fn each_deed_goes_with_the_protocol(rt: HostRuntime) {
     let (of, _) = cite(of, LearnTail);
     let (of, _) = cite(of, LearnNext);
     let (of, _) = cite(of, LookAhead);
+    let (of, _) = cite(of, FindPassed);
     let (of, _) = cite(of, LearnItem);
     let (of, _) = cite(of, AttachSeat);
     let (of, _) = cite(of, LearnBefore);

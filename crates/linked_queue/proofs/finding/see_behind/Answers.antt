@@ -17,7 +17,7 @@ use Rattle.linked_queue.proofs.Sights.{sights}
 use Rattle.counted_handles.specs.declared.refusal.LoadError.TheVariants as unloaded
 use Rattle.linked_queue.proofs.Leavings.{spent_still}
 use Rattle.linked_queue.proofs.Making.{load_makes}
-use Rattle.linked_queue.proofs.linking.see_behind.Goals as goal
+use Rattle.linked_queue.proofs.finding.see_behind.Goals as goal
 
 pub returns : goal.returns
 returns g c =

@@ -13,7 +13,7 @@ use Rattle.counted_handles.specs.declared.place.Place.TheVariants as place
 use Rattle.counted_handles.specs.declared.refusal.LoadError.TheVariants as unloaded
 use Rattle.linked_queue.proofs.Leavings.{spent_still}
 use Rattle.linked_queue.proofs.Making.{load_makes}
-use Rattle.linked_queue.proofs.linking.load_tail.Goals as goal
+use Rattle.linked_queue.proofs.finding.load_tail.Goals as goal
 
 pub returns : goal.returns
 returns g c =
