@@ -14,6 +14,7 @@
 //! ```
 #![tactic(auto)]
 
+mod calls;
 mod enclosing;
 mod laying;
 mod letters;
@@ -30,10 +31,11 @@ mod tests_contents;
 mod tests_threads;
 mod tidying;
 
+pub use calls::{attach, give_up, look, open, pop, push, try_pop, try_pop_with, try_push, write};
 pub use enclosing::enclose;
-pub use laying::{lay, law_of};
+pub use laying::{law_of, lay};
 pub use letters::{HandleLetter, Letter, LetterKind, Letters, Mail};
-pub use sending::{send, send_all, try_send, write};
-pub use taking::{read_letter, take, take_all, try_take};
+pub use sending::{send, send_all, try_send};
+pub use taking::{take, take_all, try_take};
 pub use tallies::Tally;
 pub use tidying::{clear_out, shut_and_settle, tidy};

@@ -1,36 +1,17 @@
 //! Letters that a seat writes and sends.
-ghost use Rattle.std.specs.Prelude.{◌≡◌, ◌<◌, IfOk};
-ghost use Rattle.plain_state.specs.Lists.{times};
 ghost use Rattle.part_calls.specs.Parts.{as_part};
 ghost use Rattle.queue_trials.specs.Ready.{IsReady, StandsAs};
 
-use crate::letters::{HandleLetter, Letter, Letters, Mail};
+use crate::calls::{give_up, push, try_push, write};
+use crate::letters::{Letter, Mail};
 use crate::tidying::tidy;
 use acquire_retire::{Domain, Seat};
-use control_word::drop_strong;
-use counted_handles::Strong;
 use crossbeam_utils::Backoff;
-use hand_queues::{HandQueue, PushError, PushRefused};
-use protocol_pairs::{Left, Part, Right};
+use hand_queues::{HandQueue, PushError};
+use protocol_pairs::{Left, Part};
 use queue_protocol::QueueLaw;
 use slot_store::MakeError;
 use std::sync::Wait;
-
-/// Makes a letter.
-pub fn write(
-    domain: &Domain<Mail>,
-    seat: &mut Seat<Mail>,
-    letter: Letter,
-) -> Result<Strong, MakeError>
-    requires ready { IsReady domain.now seat.old }
-    ensures owned { IfOk result (λ item. 0 < times item.slot seat.new.view.core.owned) }
-    ensures stands { StandsAs seat.old seat.new }
-    ensures ready { IsReady domain.now seat.new }
-{
-    let Letter { sender, number } = letter;
-    let payload = [1, sender, number, 0, 0, 0, 0, 0, 0, 0, 0, 0, 0, 0, 0, 0];
-    part_calls::make::<Letters, Right, Mail, _>(domain, seat, &payload, HandleLetter)
-}
 
 /// Writes a letter and pushes it, however often another seat is quicker. Where it is refused, the letter is given up.
 pub fn send<H: HandQueue, R: Wait>(
@@ -47,34 +28,17 @@ pub fn send<H: HandQueue, R: Wait>(
     ensures ready { IsReady domain.now seat.new }
 {
     let item = write(domain, seat, letter)?;
-    push(rt, domain, seat, queue, item)
-}
-
-/// Pushes a letter, or gives it up.
-fn push<H: HandQueue, R: Wait>(
-    rt: &R,
-    domain: &Domain<Mail>,
-    seat: &mut Seat<Mail>,
-    queue: &H,
-    item: Strong,
-) -> Result<(), MakeError>
-    requires ready { IsReady domain.now seat.old }
-    requires queue { H.is_on queue.now
-        (as_part ⟦<Mail as Part<QueueLaw, Left>>⟧.part domain.now) }
-    requires owned { 0 < times item.slot seat.old.view.core.owned }
-    ensures stands { StandsAs seat.old seat.new }
-    ensures ready { IsReady domain.now seat.new }
-{
-    match queue.push::<Left, Mail, R>(rt, domain, seat, item) {
+    match push(rt, domain, seat, queue, item) {
         Ok(()) => Ok(()),
-        Err(PushRefused { why, back }) => {
-            drop_strong(domain, seat, back);
+        Err(refused) => {
+            let why = refused.why;
+            give_up(domain, seat, refused.back);
             Err(why)
         }
     }
 }
 
-/// Writes a letter and pushes it, in one try. Whether it was pushed; else the letter is given up.
+/// The same in one try. Whether it was pushed.
 pub fn try_send<H: HandQueue>(
     domain: &Domain<Mail>,
     seat: &mut Seat<Mail>,
@@ -87,34 +51,17 @@ pub fn try_send<H: HandQueue>(
     ensures stands { StandsAs seat.old seat.new }
     ensures ready { IsReady domain.now seat.new }
 {
-    match write(domain, seat, letter) {
-        Ok(item) => try_push(domain, seat, queue, item),
-        Err(_) => false,
-    }
-}
-
-/// Pushes a letter in one try, or gives it up. Whether it was pushed.
-fn try_push<H: HandQueue>(
-    domain: &Domain<Mail>,
-    seat: &mut Seat<Mail>,
-    queue: &H,
-    item: Strong,
-) -> bool
-    requires ready { IsReady domain.now seat.old }
-    requires queue { H.is_on queue.now
-        (as_part ⟦<Mail as Part<QueueLaw, Left>>⟧.part domain.now) }
-    requires owned { 0 < times item.slot seat.old.view.core.owned }
-    ensures stands { StandsAs seat.old seat.new }
-    ensures ready { IsReady domain.now seat.new }
-{
-    match queue.try_push::<Left, Mail>(domain, seat, item) {
+    let Ok(item) = write(domain, seat, letter) else {
+        return false;
+    };
+    match try_push(domain, seat, queue, item) {
         Ok(()) => true,
         Err(PushError::Again { back, .. }) => {
-            drop_strong(domain, seat, back);
+            give_up(domain, seat, back);
             false
         }
         Err(PushError::Refused(refused)) => {
-            drop_strong(domain, seat, refused.back);
+            give_up(domain, seat, refused.back);
             false
         }
     }

@@ -1,20 +1,17 @@
 //! Letters that a seat takes off the queue and reads.
-ghost use Rattle.std.specs.Prelude.{◌≡◌, ◌<◌};
-ghost use Rattle.plain_state.specs.Lists.{times};
 ghost use Rattle.part_calls.specs.Parts.{as_part};
 ghost use Rattle.queue_trials.specs.Ready.{IsReady, StandsAs};
 
+use crate::calls::{open, pop, try_pop};
 use crate::letters::{Letter, Mail};
 use crate::tallies::Tally;
 use crate::tidying::tidy;
 use acquire_retire::{Domain, Seat};
-use control_word::drop_strong;
-use counted_handles::{Spent, Strong};
+use counted_handles::Spent;
 use crossbeam_utils::Backoff;
 use hand_queues::{HandQueue, PopError};
 use protocol_pairs::{Left, Part};
 use queue_protocol::QueueLaw;
-use slot_store::read;
 use std::sync::Wait;
 use std::sync::atomic::{AtomicU64, Ordering};
 
@@ -32,8 +29,8 @@ pub fn take<H: HandQueue, R: Wait>(
     ensures stands { StandsAs seat.old seat.new }
     ensures ready { IsReady domain.now seat.new }
 {
-    match queue.pop::<Left, Mail, R>(rt, domain, seat) {
-        Ok(Some(item)) => Ok(Some(read_letter(domain, seat, item))),
+    match pop(rt, domain, seat, queue) {
+        Ok(Some(item)) => Ok(Some(open(domain, seat, item))),
         Ok(None) => Ok(None),
         Err(Spent) => Err(Spent),
     }
@@ -51,24 +48,11 @@ pub fn try_take<H: HandQueue>(
     ensures stands { StandsAs seat.old seat.new }
     ensures ready { IsReady domain.now seat.new }
 {
-    match queue.try_pop::<Left, Mail>(domain, seat) {
-        Ok(Some(item)) => Ok(Some(read_letter(domain, seat, item))),
+    match try_pop(domain, seat, queue) {
+        Ok(Some(item)) => Ok(Some(open(domain, seat, item))),
         Ok(None) => Ok(None),
         Err(error) => Err(error),
     }
-}
-
-/// What a letter says. The reference is given up.
-pub fn read_letter(domain: &Domain<Mail>, seat: &mut Seat<Mail>, item: Strong) -> Letter
-    requires ready { IsReady domain.now seat.old }
-    requires owned { 0 < times item.slot seat.old.view.core.owned }
-    ensures stands { StandsAs seat.old seat.new }
-    ensures ready { IsReady domain.now seat.new }
-{
-    let sender = read(domain, seat, item.slot(), 1);
-    let number = read(domain, seat, item.slot(), 2);
-    drop_strong(domain, seat, item);
-    Letter { sender, number }
 }
 
 /// Takes letters and tallies them, until it finds none after so many senders have finished.
@@ -89,7 +73,7 @@ pub fn take_all<H: HandQueue, R: Wait>(
 {
     let backoff = Backoff::new();
     for _turn in rt.forever() {
-        // Asked before the look: what is pushed later is no longer overlooked then.
+        // Asked before the look, so that nothing is pushed after a look that ends the loop.
         let last = finished.load(Ordering::SeqCst) >= senders;
         match take(rt, domain, seat, queue) {
             Ok(Some(letter)) => tally.note(letter),

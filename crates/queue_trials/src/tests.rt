@@ -34,7 +34,7 @@ pub(crate) struct Opened {
 }
 
 /// A domain of so many seats and slots for a queue of this form, and these seats.
-fn open_all(
+fn open_seats(
     alloc: Global,
     form: Form,
     seats: u32,
@@ -62,7 +62,7 @@ fn open_all(
 }
 
 /// The same, with seat 0 by itself.
-pub(crate) fn open(
+pub(crate) fn open_mail(
     alloc: Global,
     form: Form,
     seats: u32,
@@ -76,7 +76,7 @@ pub(crate) fn open(
     ensures unlaid { IfOk result (λ opened. CanLay opened.root.view.client.0) }
     ensures others { IfOk result (λ opened. All (IsNew opened.domain) opened.others.items) }
 {
-    let (domain, mut others) = open_all(alloc, form, seats, slots, quotas)?;
+    let (domain, mut others) = open_seats(alloc, form, seats, slots, quotas)?;
     let root = others.remove(0);
     Ok(Opened {
         domain,
@@ -215,7 +215,7 @@ fn both_forms_answer_as_written(rt: HostRuntime) -> Result<(), Fail> {
             domain,
             mut root,
             others: _others,
-        } = open(rt.alloc(), form, 1, 64, &[WIDE])?;
+        } = open_mail(rt.alloc(), form, 1, 64, &[WIDE])?;
         let queue = lay(&domain, &mut root, form)?;
         assert_eq!(rt; first_difference(&rt, &domain, &mut root, &queue), None);
     }
@@ -268,7 +268,7 @@ fn nodes_give_their_slots_back(rt: HostRuntime) -> Result<(), Fail> {
             domain,
             mut root,
             others: _others,
-        } = open(rt.alloc(), form, 1, 16, &[WIDE])?;
+        } = open_mail(rt.alloc(), form, 1, 16, &[WIDE])?;
         let queue = lay(&domain, &mut root, form)?;
         let back = send_and_take(&rt, &domain, &mut root, &queue, TURNS);
         assert_eq!(rt; back, TURNS);
@@ -311,7 +311,7 @@ fn what_waits_at_a_shut_is_destroyed(rt: HostRuntime) -> Result<(), Fail> {
             domain,
             mut root,
             others: _others,
-        } = open(rt.alloc(), form, 1, 16, &[WIDE])?;
+        } = open_mail(rt.alloc(), form, 1, 16, &[WIDE])?;
         let queue = lay(&domain, &mut root, form)?;
         let taken = leave_three(&rt, &domain, &mut root, &queue);
         assert_eq!(rt; taken, [Said::Got(0), Said::Got(1)]);

@@ -4,8 +4,8 @@ ghost use Rattle.plain_state.specs.Lists.{times};
 ghost use Rattle.part_calls.specs.Parts.{as_part};
 ghost use Rattle.queue_trials.specs.Ready.{IsNew, IsReady};
 
-use crate::tests::{BOTH, Opened, WIDE, open};
-use crate::{Letter, Mail, lay, read_letter, send, take, write};
+use crate::tests::{BOTH, Opened, WIDE, open_mail};
+use crate::{Letter, Mail, attach, lay, open, push, send, take, write};
 use acquire_retire::{Domain, Quota, Seat};
 use counted_handles::{Spent, Strong};
 use hand_queues::{Form, HandQueue};
@@ -35,21 +35,6 @@ pub(crate) fn take_last(domain: &Domain<Mail>, seats: &mut Vec<Seat<Mail>>) -> O
     seats.pop()
 }
 
-/// Attaches a new seat to a queue that is laid.
-pub(crate) fn attach<H: HandQueue, R: Wait>(
-    rt: &R,
-    domain: &Domain<Mail>,
-    seat: &mut Seat<Mail>,
-    queue: &H,
-)
-    requires new { IsNew domain.now seat.old }
-    requires queue { H.is_on queue.now
-        (as_part ⟦<Mail as Part<QueueLaw, Left>>⟧.part domain.now) }
-    ensures ready { IsReady domain.now seat.new }
-{
-    queue.attach::<Left, Mail, R>(rt, domain, seat);
-}
-
 /// Why a push was refused, and the letter that it handed back.
 type NotSent = Option<(MakeError, Letter)>;
 
@@ -67,11 +52,11 @@ fn push_or_read<H: HandQueue, R: Wait>(
     requires owned { 0 < times item.slot seat.old.view.core.owned }
     ensures ready { IsReady domain.now seat.new }
 {
-    match queue.push::<Left, Mail, R>(rt, domain, seat, item) {
+    match push(rt, domain, seat, queue, item) {
         Ok(()) => None,
         Err(refused) => {
             let why = refused.why;
-            Some((why, read_letter(domain, seat, refused.back)))
+            Some((why, open(domain, seat, refused.back)))
         }
     }
 }
@@ -119,7 +104,7 @@ fn push_with<R: Wait>(rt: &R, alloc: Global, form: Form, adds: u64) -> Result<Op
         domain,
         mut root,
         mut others,
-    } = open(alloc, form, 2, 64, &[WIDE, few])?;
+    } = open_mail(alloc, form, 2, 64, &[WIDE, few])?;
     let queue = lay(&domain, &mut root, form)?;
     let Some(mut poor) = take_last(&domain, &mut others) else {
         return Ok(None);
@@ -199,7 +184,7 @@ fn pop_with<R: Wait>(rt: &R, alloc: Global, form: Form, adds: u64) -> Result<Opt
         domain,
         mut root,
         mut others,
-    } = open(alloc, form, 2, 64, &[WIDE, few])?;
+    } = open_mail(alloc, form, 2, 64, &[WIDE, few])?;
     let queue = lay(&domain, &mut root, form)?;
     let Some(mut poor) = take_last(&domain, &mut others) else {
         return Ok(None);

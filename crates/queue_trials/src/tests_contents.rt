@@ -3,8 +3,8 @@ ghost use Rattle.std.specs.Prelude.{◌<◌};
 ghost use Rattle.part_calls.specs.Parts.{as_part};
 ghost use Rattle.queue_trials.specs.Ready.{IsReady};
 
-use crate::tests::{BOTH, Opened, WIDE, open};
-use crate::{Letter, Mail, enclose, lay, read_letter, write};
+use crate::tests::{BOTH, Opened, WIDE, open_mail};
+use crate::{Letter, Mail, enclose, lay, look, try_pop_with, try_push, write};
 use acquire_retire::{Domain, Seat};
 use hand_queues::HandQueue;
 use protocol_pairs::{Left, Part};
@@ -43,7 +43,7 @@ fn push_filled<H: HandQueue>(
     let Ok(item) = enclose(domain, seat, OUTER, filled, content) else {
         return false;
     };
-    queue.try_push::<Left, Mail>(domain, seat, item).is_ok()
+    try_push(domain, seat, queue, item).is_ok()
 }
 
 /// Pops a letter with what its field `read` held.
@@ -59,14 +59,14 @@ fn pop_filled<H: HandQueue>(
     requires read { read < 2 }
     ensures ready { IsReady domain.now seat.new }
 {
-    let Ok(Some((item, content))) = queue.try_pop_with::<Left, Mail>(domain, seat, read) else {
+    let Ok(Some((item, content))) = try_pop_with(domain, seat, queue, read) else {
         return None;
     };
     let inner = match content {
-        Some(content) => Some(read_letter(domain, seat, content)),
+        Some(content) => Some(look(domain, seat, content.slot())),
         None => None,
     };
-    Some((read_letter(domain, seat, item), inner))
+    Some((look(domain, seat, item.slot()), inner))
 }
 
 /// A letter with another one in field `filled`, popped with what its field `read` held.
@@ -98,7 +98,7 @@ fn the_content_of_a_field_is_handed_out_too(rt: HostRuntime) -> Result<(), Fail>
             domain,
             mut root,
             others: _others,
-        } = open(rt.alloc(), form, 1, 64, &[WIDE])?;
+        } = open_mail(rt.alloc(), form, 1, 64, &[WIDE])?;
         let queue = lay(&domain, &mut root, form)?;
         let [zero, one] = [Some((OUTER, Some(INNER))), Some((OUTER, None))];
         assert_eq!(rt; hand_over(&domain, &mut root, &queue, 0, 0), zero);

@@ -5,9 +5,8 @@ ghost use Rattle.part_calls.specs.Parts.{as_part};
 ghost use Rattle.hand_queues.specs.Queues.{IsAnyOf, queue_in};
 ghost use Rattle.queue_trials.specs.Ready.{IsFree, IsNew, IsReady};
 
-use crate::tests::{Opened, WIDE, busy_slots, open};
-use crate::tests_adds::{attach, take_last};
-use crate::{Mail, Tally, clear_out, lay, send_all, shut_and_settle, take_all};
+use crate::tests::{Opened, WIDE, busy_slots, open_mail};
+use crate::{Mail, Tally, attach, clear_out, lay, send_all, shut_and_settle, take_all};
 use acquire_retire::{Domain, Seat};
 use hand_queues::{Form, HandQueue};
 use out_of_memory::OutOfMemory;
@@ -271,7 +270,7 @@ fn pass_all<R: Threads + Wait + Sync>(
         domain,
         mut root,
         mut others,
-    } = open(alloc, form, seats, SLOTS, &quotas)?;
+    } = open_mail(alloc, form, seats, SLOTS, &quotas)?;
     let queue = lay(&domain, &mut root, form)?;
     let jobs = give_jobs(alloc, &domain, &mut others, senders)?;
     let done = work_all(rt, &domain, &queue, senders, jobs)?;
