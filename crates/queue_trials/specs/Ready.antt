@@ -1,6 +1,8 @@
 -- What a seat has between two calls of a trial, and what a call leaves of it.
-use Rattle.std.specs.Prelude.{◌≡◌, true}
+use Rattle.std.specs.Prelude.{◌≡◌, ◌≢◌, true, slice_index}
+use Rattle.plain_state.specs.declared.slot.SlotId.{SlotId}
 use Rattle.core_events.specs.Steps.{HasRoom}
+use Rattle.domain_rule.specs.Views.{object_in}
 use Rattle.acquire_retire.specs.Domains.{DomainState}
 use Rattle.acquire_retire.specs.Seats.{SeatState}
 use Rattle.control_word.specs.Resting.{IsAtRest, IsUnderNone}
@@ -30,3 +32,7 @@ StandsAs old new = new.view.client.0.stand ≡ old.view.client.0.stand
 pub record IsNew {P : Type 0} (d : DomainState P) (s : SeatState View) : Type 0 where
   pub free : IsFree d s
   pub here : s.view.client.0.here ≡ true
+
+-- what it has in this slot is a letter
+abbrev pub IsLetterIn : SlotId → SeatState View → Type 0
+IsLetterIn s seat = slice_index (object_in seat.view s).payload 0 ≢ 0

@@ -1,10 +1,10 @@
 //! Single calls on a queue and on letters, for a seat that is ready, and is ready again afterwards.
-ghost use Rattle.std.specs.Prelude.{◌≡◌, ◌<◌, IfErr, IfOk, IfSome};
+ghost use Rattle.std.specs.Prelude.{◌≡◌, ◌<◌, ◌++◌, ◌∷◌, [], IfErr, IfOk, IfSome};
 ghost use Rattle.plain_state.specs.Lists.{times};
 ghost use Rattle.part_calls.specs.Parts.{as_part};
 ghost use Rattle.linked_queue.specs.Pops.{OwnsBoth};
 ghost use Rattle.linked_queue.specs.Pushes.{back_of};
-ghost use Rattle.queue_trials.specs.Ready.{IsNew, IsReady, StandsAs};
+ghost use Rattle.queue_trials.specs.Ready.{IsLetterIn, IsNew, IsReady, StandsAs};
 
 use crate::letters::{HandleLetter, Letter, Letters, Mail};
 use acquire_retire::{Domain, Seat, SlotId};
@@ -26,6 +26,7 @@ pub fn attach<H: HandQueue, R: Wait>(
     requires new { IsNew domain.now seat.old }
     requires queue { H.is_on queue.now
         (as_part ⟦<Mail as Part<QueueLaw, Left>>⟧.part domain.now) }
+    ensures stands { StandsAs seat.old seat.new }
     ensures ready { IsReady domain.now seat.new }
 {
     queue.attach::<Left, Mail, R>(rt, domain, seat);
@@ -39,6 +40,9 @@ pub fn write(
 ) -> Result<Strong, MakeError>
     requires ready { IsReady domain.now seat.old }
     ensures owned { IfOk result (λ item. 0 < times item.slot seat.new.view.core.owned) }
+    ensures more { IfOk result (λ item. seat.new.view.core.owned
+        ≡ seat.old.view.core.owned ++ item.slot ∷ []) }
+    ensures letter { IfOk result (λ item. IsLetterIn item.slot seat.new) }
     ensures stands { StandsAs seat.old seat.new }
     ensures ready { IsReady domain.now seat.new }
 {

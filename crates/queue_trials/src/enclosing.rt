@@ -1,12 +1,14 @@
 //! Letters with something in one of their fields.
 ghost use Rattle.std.specs.Prelude.{◌≡◌, ◌<◌, IfOk};
 ghost use Rattle.plain_state.specs.Lists.{times};
-ghost use Rattle.queue_trials.specs.Ready.{IsReady, StandsAs};
+ghost use Rattle.core_events.specs.Views.{without};
+ghost use Rattle.queue_trials.specs.Ready.{IsLetterIn, IsReady, StandsAs};
 
+use crate::calls::write;
 use crate::letters::{HandleLetter, Letter, Letters, Mail};
-use acquire_retire::{Domain, Seat};
+use acquire_retire::{Domain, Seat, SlotId};
 use counted_handles::{Place, Strong};
-use part_calls::{make, store};
+use part_calls::store;
 use protocol_pairs::Right;
 use slot_store::MakeError;
 
@@ -25,10 +27,29 @@ pub fn enclose(
     ensures stands { StandsAs seat.old seat.new }
     ensures ready { IsReady domain.now seat.new }
 {
-    let Letter { sender, number } = letter;
-    let payload = [1, sender, number, 0, 0, 0, 0, 0, 0, 0, 0, 0, 0, 0, 0, 0];
-    let item = make::<Letters, Right, Mail, _>(domain, seat, &payload, HandleLetter)?;
-    let place = Place::Field(item.slot(), field);
-    store::<Letters, Right, Mail, _>(domain, seat, place, Some(content), HandleLetter);
+    let item = write(domain, seat, letter)?;
+    put_into(domain, seat, item.slot(), field, content);
     Ok(item)
+}
+
+/// Puts a letter into a field of another one, which the seat has besides.
+fn put_into(
+    domain: &Domain<Mail>,
+    seat: &mut Seat<Mail>,
+    item: SlotId,
+    field: u32,
+    content: Strong,
+)
+    requires ready { IsReady domain.now seat.old }
+    requires field { field < 2 }
+    requires letter { IsLetterIn item seat.old }
+    requires owned { 0 < times item seat.old.view.core.owned }
+    requires content { 0 < times content.slot seat.old.view.core.owned }
+    requires left { 0 < times item (without content.slot seat.old.view.core.owned) }
+    ensures owned { 0 < times item seat.new.view.core.owned }
+    ensures stands { StandsAs seat.old seat.new }
+    ensures ready { IsReady domain.now seat.new }
+{
+    let place = Place::Field(item, field);
+    store::<Letters, Right, Mail, _>(domain, seat, place, Some(content), HandleLetter);
 }

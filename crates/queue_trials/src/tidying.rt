@@ -78,8 +78,5 @@ pub fn shut_and_settle<H: HandQueue>(
         return None;
     }
     queue.shut::<Left, Mail>(domain, root);
-    if !domain.alone(root) {
-        return None;
-    }
     Some(settle(domain, root, &deleter))
 }
