@@ -26,6 +26,10 @@ is_letter s seat n m ns is =
     subst (λ (words : List ℕ). slice_index words 0 ≢ 0) (sym is)
     (λ (e : 1 ≡ 0). omega arith)
 
+-- what was owned beside a slot that was made is owned still
+pub made_more : (x s : SlotId) (xs : List SlotId) → 0 < times x xs → 0 < times x (xs ++ s ∷ [])
+made_more x s xs some' = let push = times_push x s xs in omega arith
+
 -- of a slot that was made beside others one reference is left when one of the others is given
 pub made_left : (x s : SlotId) (xs : List SlotId) → 0 < times x xs
     → 0 < times s (without x (xs ++ s ∷ []))

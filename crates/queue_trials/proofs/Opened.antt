@@ -1,6 +1,7 @@
 -- The seats of a domain that was just opened are new, and the first of them is seat 0.
-use Rattle.std.proofs.Common.{ℕ, zero, suc, ◌+◌, ◌<◌, ap, refl, subst, sym, arith}
-use Rattle.std.specs.Prelude.{◌≡◌, All, slice_index_or}
+use Rattle.std.proofs.Common.{Bool, true, false, List, [], ◌∷◌, ◌++◌, ℕ, zero, suc, ◌+◌, ◌<◌, ap, refl, subst, sym, arith}
+use Rattle.std.specs.Prelude.{◌≡◌, All, slice_index_or, if◌then◌else◌}
+use Rattle.std.proofs.lemmas.List.Elements.{All-push}
 use Rattle.core_events.specs.Runs.{IsShape}
 use Rattle.core_law.proofs.Each.{get_each, length_each}
 use Rattle.acquire_retire.specs.Domains.{DomainState}
@@ -50,3 +51,9 @@ module _ {P : Type 0} (form : Form) (d : DomainState P) (shape : IsShape d.shape
     first_can_lay =
         subst (λ (s : SeatState View). CanLay s.view.client.0) (sym first_is)
         (record { root = refl; here = refl; unlaid = refl })
+
+-- one more element, if there was memory for it
+pub all_pushed : {X : Type 0} (P : X → Type 0) (b : Bool) (xs ys : List X) (x : X)
+    → ys ≡ (if b then xs ++ x ∷ [] else xs) → All P xs → P x → All P ys
+all_pushed P true xs ys x is all it = subst (All P) (sym is) (All-push P xs x all it)
+all_pushed P false xs ys x is all it = subst (All P) (sym is) all

@@ -33,13 +33,7 @@ pub fn enclose(
 }
 
 /// Puts a letter into a field of another one, which the seat has besides.
-fn put_into(
-    domain: &Domain<Mail>,
-    seat: &mut Seat<Mail>,
-    item: SlotId,
-    field: u32,
-    content: Strong,
-)
+fn put_into(domain: &Domain<Mail>, seat: &mut Seat<Mail>, item: SlotId, field: u32, content: Strong)
     requires ready { IsReady domain.now seat.old }
     requires field { field < 2 }
     requires letter { IsLetterIn item seat.old }

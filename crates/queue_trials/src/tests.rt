@@ -5,9 +5,12 @@ ghost use Rattle.acquire_retire.specs.Seats.{SeatState};
 ghost use Rattle.part_calls.specs.Parts.{as_part};
 ghost use Rattle.linked_queue.specs.Queues.{CanLay};
 ghost use Rattle.hand_queues.specs.Queues.{IsAnyOf, queue_in};
-ghost use Rattle.queue_trials.specs.Ready.{IsFree, IsNew, IsReady, View};
+ghost use Rattle.queue_trials.specs.Ready.{IsNew, IsReady, View};
 
-use crate::{Letter, Mail, clear_out, law_of, lay, send, send_all, shut_and_settle, take, tidy, try_send, try_take};
+use crate::{
+    Letter, Mail, clear_out, law_of, lay, send, send_all, shut_and_settle, take, tidy, try_send,
+    try_take,
+};
 use acquire_retire::{Domain, OpenError, Quota, Seat, Shape, open_domain};
 use hand_queues::{Form, HandQueue};
 use plain_state::Heap;
@@ -71,7 +74,7 @@ pub(crate) fn open_mail(
 ) -> Result<Opened, OpenError>
     ensures queue { IfOk result (λ opened. IsAnyOf (queue_in form 0 1)
         (as_part ⟦<Mail as Part<QueueLaw, Left>>⟧.part opened.domain)) }
-    ensures root { IfOk result (λ opened. IsFree opened.domain opened.root) }
+    ensures root { IfOk result (λ opened. IsNew opened.domain opened.root) }
     ensures first { IfOk result (λ opened. opened.root.view.core.seat ≡ 0) }
     ensures unlaid { IfOk result (λ opened. CanLay opened.root.view.client.0) }
     ensures others { IfOk result (λ opened. All (IsNew opened.domain) opened.others.items) }

@@ -98,7 +98,12 @@ fn push_with_few<H: HandQueue, R: Wait>(
 }
 
 /// The same in a new domain, where the seat has so many adds.
-fn push_with<R: Wait>(rt: &R, alloc: Global, form: Form, adds: u64) -> Result<Option<Pushed>, Fail> {
+fn push_with<R: Wait>(
+    rt: &R,
+    alloc: Global,
+    form: Form,
+    adds: u64,
+) -> Result<Option<Pushed>, Fail> {
     let few = Quota { makes: 4, adds };
     let Opened {
         domain,
@@ -130,16 +135,22 @@ fn a_push_that_runs_out_of_adds_pushes_nothing(rt: HostRuntime) -> Result<(), Fa
         let enough = adds_of_push(form);
         for adds in 1..enough {
             let pushed = push_with(&rt, rt.alloc(), form, adds)?;
-            assert_eq!(rt; pushed, Some(Pushed {
-                refused: Some((MakeError::AddsSpent, POOR)),
-                found: [Some(RICH), None],
-            }));
+            assert_eq!(rt;
+                pushed,
+                Some(Pushed {
+                    refused: Some((MakeError::AddsSpent, POOR)),
+                    found: [Some(RICH), None],
+                })
+            );
         }
         let pushed = push_with(&rt, rt.alloc(), form, enough)?;
-        assert_eq!(rt; pushed, Some(Pushed {
-            refused: None,
-            found: [Some(POOR), Some(RICH)],
-        }));
+        assert_eq!(rt;
+            pushed,
+            Some(Pushed {
+                refused: None,
+                found: [Some(POOR), Some(RICH)],
+            })
+        );
     }
     Ok(())
 }
@@ -199,16 +210,22 @@ fn a_pop_that_runs_out_of_adds_takes_nothing(rt: HostRuntime) -> Result<(), Fail
     for form in BOTH {
         for adds in 0..4 {
             let popped = pop_with(&rt, rt.alloc(), form, adds)?;
-            assert_eq!(rt; popped, Some(Popped {
-                taken: Err(Spent),
-                found: [Some(RICH), None],
-            }));
+            assert_eq!(rt;
+                popped,
+                Some(Popped {
+                    taken: Err(Spent),
+                    found: [Some(RICH), None],
+                })
+            );
         }
         let popped = pop_with(&rt, rt.alloc(), form, 4)?;
-        assert_eq!(rt; popped, Some(Popped {
-            taken: Ok(Some(RICH)),
-            found: [None, None],
-        }));
+        assert_eq!(rt;
+            popped,
+            Some(Popped {
+                taken: Ok(Some(RICH)),
+                found: [None, None],
+            })
+        );
     }
     Ok(())
 }

@@ -78,7 +78,7 @@ fn give_jobs(
     domain: &Domain<Mail>,
     seats: &mut Vec<Seat<Mail>>,
     senders: u64,
-) -> Result<Vec<Job>, Fail>
+) -> Result<Vec<Job>, OutOfMemory>
     requires seats { All (IsNew domain.now) seats.old.items }
     ensures jobs { IfOk result (λ jobs. All (λ job. IsNew domain.now job.seat) jobs.items) }
     ensures seats { OnOk result (All (IsNew domain.now) seats.new.items) }
@@ -176,9 +176,11 @@ fn work_all<H: HandQueue + Sync, R: Threads + Wait + Sync>(
     ensures { IfOk result (λ done. All (λ d. IsFree domain.now d.seat) done.items) }
 {
     let finished = AtomicU64::new(0);
-    thread::map_vec(rt, jobs, &|job| {
-        work(rt, domain, queue, &finished, senders, job)
-    })
+    thread::map_vec(
+        rt,
+        jobs,
+        &|job| { work(rt, domain, queue, &finished, senders, job) },
+    )
     .map_err(OutOfMemory::from)
 }
 
@@ -200,12 +202,7 @@ impl Sums {
 }
 
 /// The seat of the last thread leaves, and what it did is added up.
-fn leave_last(
-    domain: &Domain<Mail>,
-    root: &mut Seat<Mail>,
-    done: &mut Vec<Done>,
-    sums: &mut Sums,
-)
+fn leave_last(domain: &Domain<Mail>, root: &mut Seat<Mail>, done: &mut Vec<Done>, sums: &mut Sums)
     requires ready { IsReady domain.now root.old }
     requires first { root.old.view.core.seat ≡ 0 }
     requires laid { root.old.view.client.0.stand.laid ≡ 2 }
@@ -222,12 +219,7 @@ fn leave_last(
 }
 
 /// All threads' seats leave, and what they did is added up.
-fn leave_all(
-    domain: &Domain<Mail>,
-    root: &mut Seat<Mail>,
-    mut done: Vec<Done>,
-    sums: &mut Sums,
-)
+fn leave_all(domain: &Domain<Mail>, root: &mut Seat<Mail>, mut done: Vec<Done>, sums: &mut Sums)
     requires ready { IsReady domain.now root.old }
     requires first { root.old.view.core.seat ≡ 0 }
     requires laid { root.old.view.client.0.stand.laid ≡ 2 }

@@ -28,10 +28,9 @@ pub fn tidy(domain: &Domain<Mail>, seat: &mut Seat<Mail>)
     ensures stands { StandsAs seat.old seat.new }
     ensures ready { IsReady domain.now seat.new }
 {
-    let deleter: Deleter<PairKind<NodeKind, LetterKind>, _> =
-        Deleter::keep(|payload: &[u64; 16]| {
-            <PairKind<NodeKind, LetterKind> as PayloadKind>::weigh(payload)
-        });
+    let deleter: Deleter<PairKind<NodeKind, LetterKind>, _> = Deleter::keep(|payload: &[u64; 16]| {
+        <PairKind<NodeKind, LetterKind> as PayloadKind>::weigh(payload)
+    });
     collect(domain, seat);
     for _turn in 0..MOST_REAPS {
         if reap(domain, seat, &deleter).is_none() {
@@ -70,10 +69,9 @@ pub fn shut_and_settle<H: HandQueue>(
     ensures alone { IfSome result (λ weight. IsAlone root.new.view) }
     ensures rest { IsAtRest domain.now root.new }
 {
-    let deleter: Deleter<PairKind<NodeKind, LetterKind>, _> =
-        Deleter::keep(|payload: &[u64; 16]| {
-            <PairKind<NodeKind, LetterKind> as PayloadKind>::weigh(payload)
-        });
+    let deleter: Deleter<PairKind<NodeKind, LetterKind>, _> = Deleter::keep(|payload: &[u64; 16]| {
+        <PairKind<NodeKind, LetterKind> as PayloadKind>::weigh(payload)
+    });
     if !domain.alone(root) {
         return None;
     }

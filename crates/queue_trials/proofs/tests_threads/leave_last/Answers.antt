@@ -28,14 +28,14 @@ returns-in-Some-clause-ready c = record {
     none = c.leave.ensures.none;
     room = c.leave.ensures.room;
   };
-  attached = attached_joined _ c.args.domain.now c.args.root.now c.in-Some.seat c.leave.new.root
+  attached = attached_joined _ c.args.domain.now c.args.root.now c.in-Some.field-0.seat c.leave.new.root
       c.leave.ensures.leaves c.requires.ready.attached;
 }
 
 pub returns-in-Some-clause-laid : goal.returns-in-Some-clause-laid
 returns-in-Some-clause-laid c =
     ap (λ (x : Stand). x.laid)
-    (stands_joined _ c.args.domain.now c.args.root.now c.in-Some.seat c.leave.new.root
+    (stands_joined _ c.args.domain.now c.args.root.now c.in-Some.field-0.seat c.leave.new.root
     c.leave.ensures.leaves)
     ∙ c.requires.laid
 
