@@ -1,4 +1,4 @@
-//! Trials of both forms of a queue: seats that send letters to one another by one queue of a heap, in threads and alone.
+//! Trials of both forms of a queue: seats that send letters to one another by one queue, in threads and alone.
 //!
 //! A letter says who sent it, and which of that sender's letters it is. A taker tallies what it takes, so that after
 //! the join the tallies of all takers, added up, tell whether each letter was taken once, and each whether the letters

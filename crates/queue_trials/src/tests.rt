@@ -226,7 +226,7 @@ fn both_forms_answer_as_written(rt: HostRuntime) -> Result<(), Fail> {
 }
 
 /// How many letters go on the queue and come back, one after another, in the test of memory.
-const TURNS: u64 = 100;
+const TURNS: u64 = 100_000;
 
 /// Sends so many letters, each of which it takes at once. How many came back as they were sent.
 fn send_and_take<H: HandQueue, R: Wait>(

@@ -1,5 +1,5 @@
-//! Senders and takers in threads, on one queue. Each letter is taken once, each taker takes the letters of one sender in
-//! that sender's order, and once the queue is shut nothing is left.
+//! Senders and takers in threads, on one queue. Each letter is taken once, each taker takes the letters of one sender
+//! in that sender's order, and once the queue is shut nothing is left.
 ghost use Rattle.std.specs.Prelude.{◌≡◌, All, IfOk, OnOk};
 ghost use Rattle.part_calls.specs.Parts.{as_part};
 ghost use Rattle.hand_queues.specs.Queues.{IsAnyOf, queue_in};
@@ -21,7 +21,7 @@ use std::thread;
 use std::thread::Threads;
 
 /// How many letters each sender sends.
-const LETTERS: u64 = 20;
+const LETTERS: u64 = 100_000;
 
 /// Fewer than the letters that are sent, so senders wait for takers now and then.
 const SLOTS: u32 = 1 << 16;

@@ -13,7 +13,8 @@ put_into-requires-clause-content c =
 
 pub put_into-requires-clause-left : goal.put_into-requires-clause-left
 put_into-requires-clause-left c =
-    subst (λ (s : SlotId). 0 < times s (without c.args.content.slot c.write.new.seat.view.core.owned))
+    subst (λ (s : SlotId).
+    0 < times s (without c.args.content.slot c.write.new.seat.view.core.owned))
     (sym c.slot.ensures)
     (subst (λ (xs : List SlotId).
     0 < times c.in_ok-item.item.slot (without c.args.content.slot xs))

@@ -28,8 +28,8 @@ returns-in-Some-clause-ready c = record {
     none = c.leave.ensures.none;
     room = c.leave.ensures.room;
   };
-  attached = attached_joined _ c.args.domain.now c.args.root.now c.in-Some.field-0.seat c.leave.new.root
-      c.leave.ensures.leaves c.requires.ready.attached;
+  attached = attached_joined _ c.args.domain.now c.args.root.now c.in-Some.field-0.seat
+      c.leave.new.root c.leave.ensures.leaves c.requires.ready.attached;
 }
 
 pub returns-in-Some-clause-laid : goal.returns-in-Some-clause-laid
