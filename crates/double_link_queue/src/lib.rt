@@ -39,8 +39,6 @@ mod queue;
 mod shutting;
 #[cfg(test)]
 mod tests;
-#[cfg(test)]
-mod tests_threads;
 mod waiting;
 
 pub use counted_handles::{Spent, Strong};

@@ -40,8 +40,6 @@ mod taking;
 mod tests;
 #[cfg(test)]
 mod tests_pair;
-#[cfg(test)]
-mod tests_threads;
 mod unless_ripe;
 mod waiting;
 mod walking;

@@ -1,0 +1,330 @@
+//! One seat on a queue of either form: a script whose answers were written by hand, the memory of nodes, and what is
+//! left after a shut.
+ghost use Rattle.std.specs.Prelude.{◌≡◌, ◌<◌, true, All, IfOk, IfSome, length, slice_index_or};
+ghost use Rattle.acquire_retire.specs.Seats.{SeatState};
+ghost use Rattle.part_calls.specs.Parts.{as_part};
+ghost use Rattle.linked_queue.specs.Queues.{CanLay};
+ghost use Rattle.hand_queues.specs.Queues.{IsAnyOf, queue_in};
+ghost use Rattle.queue_trials.specs.Ready.{IsNew, IsReady, View};
+
+use crate::{
+    Letter, Mail, clear_out, law_of, lay, send, send_all, shut_and_settle, take, tidy, try_send,
+    try_take,
+};
+use acquire_retire::{Domain, OpenError, Quota, Seat, Shape, open_domain};
+use hand_queues::{Form, HandQueue};
+use plain_state::Heap;
+use protocol_pairs::{Left, Part};
+use queue_protocol::QueueLaw;
+use std::alloc::Global;
+use std::sync::Wait;
+use std::test::Fail;
+
+pub(crate) const BOTH: [Form; 2] = [Form::Linked, Form::Double];
+
+pub(crate) const WIDE: Quota = Quota {
+    makes: 1 << 40,
+    adds: 1 << 40,
+};
+
+const ZERO: u64 = 9_223_372_036_854_775_808;
+
+/// A domain with a queue, its seat 0, and its other seats.
+pub(crate) struct Opened {
+    pub(crate) domain: Domain<Mail>,
+    pub(crate) root: Seat<Mail>,
+    pub(crate) others: Vec<Seat<Mail>>,
+}
+
+/// A domain of so many seats and slots for a queue of this form, and these seats.
+fn open_seats(
+    alloc: Global,
+    form: Form,
+    seats: u32,
+    slots: u32,
+    quotas: &[Quota],
+) -> Result<(Domain<Mail>, Vec<Seat<Mail>>), OpenError>
+    ensures queue { IfOk result (λ opened. IsAnyOf (queue_in form 0 1)
+        (as_part ⟦<Mail as Part<QueueLaw, Left>>⟧.part opened.0)) }
+    ensures new { IfOk result (λ opened. All (IsNew opened.0) opened.1.items) }
+    ensures first { IfOk result (λ opened. (d : SeatState View)
+        → (slice_index_or opened.1.items 0 d).view.core.seat ≡ 0) }
+    ensures unlaid { IfOk result (λ opened. (d : SeatState View)
+        → CanLay (slice_index_or opened.1.items 0 d).view.client.0) }
+    ensures some { IfOk result (λ opened. 0 < length opened.1.items) }
+{
+    let shape = Shape {
+        seats,
+        slots,
+        cells: 2,
+        weak_cells: 0,
+        batch: 16,
+    };
+    let opened = open_domain(alloc, shape, quotas, law_of(form))?;
+    Ok(opened)
+}
+
+/// The same, with seat 0 by itself.
+pub(crate) fn open_mail(
+    alloc: Global,
+    form: Form,
+    seats: u32,
+    slots: u32,
+    quotas: &[Quota],
+) -> Result<Opened, OpenError>
+    ensures queue { IfOk result (λ opened. IsAnyOf (queue_in form 0 1)
+        (as_part ⟦<Mail as Part<QueueLaw, Left>>⟧.part opened.domain)) }
+    ensures root { IfOk result (λ opened. IsNew opened.domain opened.root) }
+    ensures first { IfOk result (λ opened. opened.root.view.core.seat ≡ 0) }
+    ensures unlaid { IfOk result (λ opened. CanLay opened.root.view.client.0) }
+    ensures others { IfOk result (λ opened. All (IsNew opened.domain) opened.others.items) }
+{
+    let (domain, mut others) = open_seats(alloc, form, seats, slots, quotas)?;
+    let root = others.remove(0);
+    Ok(Opened {
+        domain,
+        root,
+        others,
+    })
+}
+
+/// How many slots aren't free.
+pub(crate) fn busy_slots(heap: &Heap) -> usize {
+    heap.slots
+        .iter()
+        .filter(|slot| slot.strong != ZERO || slot.weak != 0)
+        .count()
+}
+
+/// A call on a queue, by the number of a letter of sender 3.
+#[derive(Clone, Copy, Debug, Drop)]
+enum Step {
+    Send(u64),
+    TrySend(u64),
+    Take,
+    TryTake,
+}
+
+/// What a call answered.
+#[derive(Clone, Copy, Debug, PartialEq, Eq, Drop)]
+enum Said {
+    Sent,
+    Got(u64),
+    Nothing,
+    Refused,
+}
+
+/// A script, and what each call answers.
+const SCRIPT: [(Step, Said); 32] = [
+    (Step::Take, Said::Nothing),
+    (Step::Send(10), Said::Sent),
+    (Step::Take, Said::Got(10)),
+    (Step::TryTake, Said::Nothing),
+    (Step::TrySend(11), Said::Sent),
+    (Step::Send(12), Said::Sent),
+    (Step::TrySend(13), Said::Sent),
+    (Step::TryTake, Said::Got(11)),
+    (Step::Send(14), Said::Sent),
+    (Step::Take, Said::Got(12)),
+    (Step::Take, Said::Got(13)),
+    (Step::TryTake, Said::Got(14)),
+    (Step::TryTake, Said::Nothing),
+    (Step::Take, Said::Nothing),
+    (Step::TrySend(15), Said::Sent),
+    (Step::TryTake, Said::Got(15)),
+    (Step::Take, Said::Nothing),
+    (Step::Send(17), Said::Sent),
+    (Step::Send(16), Said::Sent),
+    (Step::Send(17), Said::Sent),
+    (Step::TrySend(18), Said::Sent),
+    (Step::TrySend(19), Said::Sent),
+    (Step::Take, Said::Got(17)),
+    (Step::TryTake, Said::Got(16)),
+    (Step::Send(20), Said::Sent),
+    (Step::TryTake, Said::Got(17)),
+    (Step::Take, Said::Got(18)),
+    (Step::Take, Said::Got(19)),
+    (Step::TrySend(21), Said::Sent),
+    (Step::Take, Said::Got(20)),
+    (Step::TryTake, Said::Got(21)),
+    (Step::TryTake, Said::Nothing),
+];
+
+/// What was taken, as an answer. A letter of another sender than 3 is refused.
+fn told<E: Drop>(taken: Result<Option<Letter>, E>) -> Said {
+    match taken {
+        Ok(Some(letter)) if letter.sender == 3 => Said::Got(letter.number),
+        Ok(Some(_)) => Said::Refused,
+        Ok(None) => Said::Nothing,
+        Err(_) => Said::Refused,
+    }
+}
+
+/// Makes one call, and tells what it answered.
+fn make_step<H: HandQueue, R: Wait>(
+    rt: &R,
+    domain: &Domain<Mail>,
+    seat: &mut Seat<Mail>,
+    queue: &H,
+    step: Step,
+) -> Said
+    requires ready { IsReady domain.now seat.old }
+    requires queue { H.is_on queue.now
+        (as_part ⟦<Mail as Part<QueueLaw, Left>>⟧.part domain.now) }
+    ensures ready { IsReady domain.now seat.new }
+{
+    match step {
+        Step::Send(number) => match send(rt, domain, seat, queue, Letter { sender: 3, number }) {
+            Ok(()) => Said::Sent,
+            Err(_) => Said::Refused,
+        },
+        Step::TrySend(number) => {
+            if try_send(domain, seat, queue, Letter { sender: 3, number }) {
+                Said::Sent
+            } else {
+                Said::Refused
+            }
+        }
+        Step::Take => told(take(rt, domain, seat, queue)),
+        Step::TryTake => told(try_take(domain, seat, queue)),
+    }
+}
+
+/// Runs the script, and tells the first call that answered something else than what is written there.
+fn first_difference<H: HandQueue, R: Wait>(
+    rt: &R,
+    domain: &Domain<Mail>,
+    seat: &mut Seat<Mail>,
+    queue: &H,
+) -> Option<(usize, Said)>
+    requires ready { IsReady domain.now seat.old }
+    requires queue { H.is_on queue.now
+        (as_part ⟦<Mail as Part<QueueLaw, Left>>⟧.part domain.now) }
+{
+    for (index, (step, written)) in SCRIPT.iter().enumerate() {
+        let answer = make_step(rt, domain, seat, queue, *step);
+        if answer != *written {
+            return Some((index, answer));
+        }
+    }
+    None
+}
+
+/// Both forms answer the same, since each answers what is written.
+#[test]
+fn both_forms_answer_as_written(rt: HostRuntime) -> Result<(), Fail> {
+    for form in BOTH {
+        let Opened {
+            domain,
+            mut root,
+            others: _others,
+        } = open_mail(rt.alloc(), form, 1, 64, &[WIDE])?;
+        let queue = lay(&domain, &mut root, form)?;
+        assert_eq!(rt; first_difference(&rt, &domain, &mut root, &queue), None);
+    }
+    Ok(())
+}
+
+/// How many letters go on the queue and come back, one after another, in the test of memory.
+const TURNS: u64 = 100_000;
+
+/// Sends so many letters, each of which it takes at once. How many came back as they were sent.
+fn send_and_take<H: HandQueue, R: Wait>(
+    rt: &R,
+    domain: &Domain<Mail>,
+    seat: &mut Seat<Mail>,
+    queue: &H,
+    turns: u64,
+) -> u64
+    requires ready { IsReady domain.now seat.old }
+    requires queue { H.is_on queue.now
+        (as_part ⟦<Mail as Part<QueueLaw, Left>>⟧.part domain.now) }
+    ensures ready { IsReady domain.now seat.new }
+{
+    let mut back: u64 = 0;
+    for number in 0..turns {
+        let letter = Letter { sender: 3, number };
+        let sent = send(rt, domain, seat, queue, letter);
+        if sent == Ok(()) && take(rt, domain, seat, queue) == Ok(Some(letter)) {
+            back = back.saturating_add(1);
+        }
+        tidy(domain, seat);
+    }
+    clear_out(rt, domain, seat);
+    back
+}
+
+/// How many slots an empty queue keeps: that of the dummy, and on a doubly linked queue that of the node before, to
+/// which the dummy has a weak reference.
+fn kept_slots(form: Form) -> usize {
+    match form {
+        Form::Linked => 1,
+        Form::Double => 2,
+    }
+}
+
+/// In a domain of 16 slots no push is ever refused, and at the end all other slots are free.
+#[test]
+fn nodes_give_their_slots_back(rt: HostRuntime) -> Result<(), Fail> {
+    for form in BOTH {
+        let Opened {
+            domain,
+            mut root,
+            others: _others,
+        } = open_mail(rt.alloc(), form, 1, 16, &[WIDE])?;
+        let queue = lay(&domain, &mut root, form)?;
+        let back = send_and_take(&rt, &domain, &mut root, &queue, TURNS);
+        assert_eq!(rt; back, TURNS);
+        if !domain.alone(&root) {
+            panic!(rt; "there is one seat")
+        }
+        let heap = domain.image(rt.alloc(), &mut root)?;
+        assert_eq!(rt; busy_slots(&heap), kept_slots(form));
+        assert_eq!(rt; heap.deferred.len(), 0);
+    }
+    Ok(())
+}
+
+/// Sends five letters, and takes two.
+fn leave_three<H: HandQueue, R: Wait>(
+    rt: &R,
+    domain: &Domain<Mail>,
+    root: &mut Seat<Mail>,
+    queue: &H,
+) -> [Said; 2]
+    requires ready { IsReady domain.now root.old }
+    requires queue { H.is_on queue.now
+        (as_part ⟦<Mail as Part<QueueLaw, Left>>⟧.part domain.now) }
+    requires laid { root.old.view.client.0.stand.laid ≡ 2 }
+    ensures laid { root.new.view.client.0.stand.laid ≡ 2 }
+    ensures ready { IsReady domain.now root.new }
+{
+    let _sent = send_all(rt, domain, root, queue, 3, 5);
+    let first = told(take(rt, domain, root, queue));
+    let second = told(take(rt, domain, root, queue));
+    clear_out(rt, domain, root);
+    [first, second]
+}
+
+/// The three letters that wait are destroyed, and all slots are free.
+#[test]
+fn what_waits_at_a_shut_is_destroyed(rt: HostRuntime) -> Result<(), Fail> {
+    for form in BOTH {
+        let Opened {
+            domain,
+            mut root,
+            others: _others,
+        } = open_mail(rt.alloc(), form, 1, 16, &[WIDE])?;
+        let queue = lay(&domain, &mut root, form)?;
+        let taken = leave_three(&rt, &domain, &mut root, &queue);
+        assert_eq!(rt; taken, [Said::Got(0), Said::Got(1)]);
+        let Some(weight) = shut_and_settle(&domain, &mut root, &queue) else {
+            panic!(rt; "there is one seat")
+        };
+        assert_eq!(rt; weight, 3);
+        let heap = domain.image(rt.alloc(), &mut root)?;
+        assert_eq!(rt; (busy_slots(&heap), heap.deferred.len()), (0, 0));
+        assert!(rt; heap.cells.iter().all(|cell| *cell == 0));
+    }
+    Ok(())
+}
