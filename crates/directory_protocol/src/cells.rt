@@ -20,8 +20,8 @@ impl Deed<DirectoryLaw> for LookAtCell {
     ghost allows = { λ it of. LookTells (area of.first of.cells of.interns.items of.to) };
 
     ghost keeps = { λ it of.
-      look_keeps (area of.first of.cells of.interns.items of.to)
-      (area_fits of.first of.cells of.interns.items of.to of.fits) };
+        look_keeps (area of.first of.cells of.interns.items of.to)
+        (area_fits of.first of.cells of.interns.items of.to of.fits) };
 }
 
 /// What a cell of the range held, if the seat then has it: it is a head, and noted as seen in its life. Where the

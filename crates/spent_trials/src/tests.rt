@@ -25,20 +25,27 @@ fn each_call_refuses_a_seat_without_adds_and_loses_nothing(rt: HostRuntime) -> R
     // Two adds for the queue's dummy and two for the record, of which one counts weakly, leave 36.
     assert!(rt; copy_until_spent(&domain, &mut seat, &item));
     assert_eq!(rt; strong_count(&domain, &mut seat, slot, Still), 37);
-    assert!(rt; matches!(
-        intern(&rt, &domain, &mut seat, &directory, b"b"),
-        Err(MakeError::AddsSpent)
-    ));
+    assert!(rt;
+        matches!(
+            intern(&rt, &domain, &mut seat, &directory, b"b"),
+            Err(MakeError::AddsSpent)
+        )
+    );
     assert!(rt; matches!(find(&rt, &domain, &mut seat, &directory, b"a"), Err(Spent)));
     assert!(rt; matches!(find(&rt, &domain, &mut seat, &directory, b"b"), Ok(None)));
-    assert!(rt; matches!(
-        try_load(&domain, &mut seat, Place::Cell(0), LearnHead),
-        Err(LoadError::Spent)
-    ));
+    assert!(rt;
+        matches!(
+            try_load(&domain, &mut seat, Place::Cell(0), LearnHead),
+            Err(LoadError::Spent)
+        )
+    );
     let Err(PushError::Refused(refused)) = queue.try_push(&domain, &mut seat, item) else {
         panic!(rt; "a refusal")
     };
-    assert_eq!(rt; (refused.why, refused.back.slot()), (MakeError::AddsSpent, slot));
+    assert_eq!(rt;
+        (refused.why, refused.back.slot()),
+        (MakeError::AddsSpent, slot)
+    );
     assert_eq!(rt; strong_count(&domain, &mut seat, slot, Still), 37);
     Ok(())
 }

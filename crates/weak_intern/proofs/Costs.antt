@@ -28,37 +28,37 @@ calm_visit (Some false) s v t not = refl
 
 module _ (payload : List ℕ) (u v w : CoreView) (i : ℕ) (s : SlotId) (how : Option Bool)
     (not : how ≢ Some true) (first : PassesBy payload u v) (last : Visits i s payload how v w)
-    where
-  abbrev one : Visit
-  one = record {
-    cell = i;
-    slot = s;
-    word = last.word;
-    lost = last.lost;
-    words = last.words;
-    how = how;
-  }
+  where
+    abbrev one : Visit
+    one = record {
+      cell = i;
+      slot = s;
+      word = last.word;
+      lost = last.lost;
+      words = last.words;
+      how = how;
+    }
 
-  sums : (u.adds + ended_in first.visits) + dead_by how
-      ≡ u.adds + (ended_in first.visits + dead_by how)
-  sums = omega arith
+    sums : (u.adds + ended_in first.visits) + dead_by how
+        ≡ u.adds + (ended_in first.visits + dead_by how)
+    sums = omega arith
 
-  pub passes_then : PassesBy payload u w
-  passes_then = record {
-    visits = one ∷ first.visits;
-    passing = ((last.few, not, last.all), first.passing);
-    core =
-        last.core
-        ∙ (calm_visit how s v (v.trail ++ visited_by one) not
-        ∙ (ap (λ (x : CoreView). record x {
-          adds = x.adds + dead_by how;
-          trail = x.trail ++ visited_by one;
-        }) first.core
-        ∙ (λ k. record u {
-          adds = sums k;
-          trail = append_assoc u.trail (moves_of first.visits) (visited_by one) k;
-        })));
-  }
+    pub passes_then : PassesBy payload u w
+    passes_then = record {
+      visits = one ∷ first.visits;
+      passing = ((last.few, not, last.all), first.passing);
+      core =
+          last.core
+          ∙ (calm_visit how s v (v.trail ++ visited_by one) not
+          ∙ (ap (λ (x : CoreView). record x {
+            adds = x.adds + dead_by how;
+            trail = x.trail ++ visited_by one;
+          }) first.core
+          ∙ (λ k. record u {
+            adds = sums k;
+            trail = append_assoc u.trail (moves_of first.visits) (visited_by one) k;
+          })));
+    }
 
 pub passes_either : (payload : List ℕ) (u v w : CoreView) (i : ℕ) (s : SlotId)
     → PassesBy payload u v

@@ -114,15 +114,15 @@ Raises it how v w =
 -- At most 16 words of a head were read, and then it was let go, after such an add: one was made only
 -- where the words were all of this payload.
 pub record Ends (it : Sighted) (payload : List ℕ) (how : Option Bool) (v w : CoreView) : Type 0
-    where
-  pub words : List ℕ
-  pub few : length words ≤ 16
-  pub all : how ≢ None → AreAllOf payload words
-  pub core :
-      w
-      ≡ record (with_added how it.slot (let_go_of it v)) {
-        trail = v.trail ++ (compared_by it.slot words ++ raised_moves it how);
-      }
+  where
+    pub words : List ℕ
+    pub few : length words ≤ 16
+    pub all : how ≢ None → AreAllOf payload words
+    pub core :
+        w
+        ≡ record (with_added how it.slot (let_go_of it v)) {
+          trail = v.trail ++ (compared_by it.slot words ++ raised_moves it how);
+        }
 
 -- A visit by word j to weak cell i, in which s stood: which tries it lost first, which words of s
 -- were read, the newest first, and whether an add counted, if there was one

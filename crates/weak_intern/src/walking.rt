@@ -77,7 +77,11 @@ pub(crate) fn seek<R: Wait, S, P: HasDirectory<S>>(
 
 /// A last look, at whichever cell, where a walk has passed them all: a seat that has an intern left
 /// doesn't come to that. One step.
-pub(crate) fn come_around<S, P: HasDirectory<S>>(domain: &Domain<P>, seat: &mut Seat<P>, directory: &Directory)
+pub(crate) fn come_around<S, P: HasDirectory<S>>(
+    domain: &Domain<P>,
+    seat: &mut Seat<P>,
+    directory: &Directory,
+)
     requires rest { IsAtRest domain.now seat.old }
     requires room { HasRoom seat.old.view.core }
     requires over { IsOver domain.now (P.part domain.now.protocol) directory.now }

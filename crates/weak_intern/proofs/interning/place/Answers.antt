@@ -12,14 +12,17 @@ use Rattle.weak_intern.proofs.Sights.{free_still}
 use Rattle.weak_intern.proofs.interning.place.Goals as goal
 
 pub loop-init : goal.loop-init
-loop-init g c =
-    (tt, tt, enters_none c.args.domain.now
-    (place_of g.P.Part.seen g.P.Part.with_seen g.P.Part.reads g.P.Part.puts_back
-    g.P.Part.puts_over)
-    (area_of (g.P.Part.part c.args.domain.now.protocol)) (text_of c.args.sought.now.text.now)
-    c.args.candidate.now.slot c.args.seat.now
-    c.args.from c.requires.passed c.requires.quota c.requires.owned c.requires.noted
-    c.requires.room c.requires.rest)
+loop-init g c = (
+  tt,
+  tt,
+  enters_none c.args.domain.now
+      (place_of g.P.Part.seen g.P.Part.with_seen g.P.Part.reads g.P.Part.puts_back
+      g.P.Part.puts_over)
+      (area_of (g.P.Part.part c.args.domain.now.protocol)) (text_of c.args.sought.now.text.now)
+      c.args.candidate.now.slot c.args.seat.now
+      c.args.from c.requires.passed c.requires.quota c.requires.owned c.requires.noted
+      c.requires.room c.requires.rest,
+)
 
 pub look-requires-clause-free : goal.look-requires-clause-free
 look-requires-clause-free g c =
@@ -249,35 +252,38 @@ returns-then-branch-clause-makes g c =
     c.bind.ensures.makes ∙ c.look.ensures.makes ∙ c.loop.invariant.2.makes
 
 pub loop-preserved-else-branch : goal.loop-preserved-else-branch
-loop-preserved-else-branch g c =
-    (tt, tt, enters_lost c.args.domain.now
-    (place_of g.P.Part.seen g.P.Part.with_seen g.P.Part.reads g.P.Part.puts_back
-    g.P.Part.puts_over)
-    (area_of (g.P.Part.part c.args.domain.now.protocol)) (text_of c.args.sought.now.text.now)
-    c.args.candidate.now.slot c.args.seat.now c.loop.passed
-    c.look.new.seat
-    (null_on c.args.domain.now
-    (place_of g.P.Part.seen g.P.Part.with_seen g.P.Part.reads g.P.Part.puts_back
-    g.P.Part.puts_over)
-    (area_of (g.P.Part.part c.args.domain.now.protocol)) (text_of c.args.sought.now.text.now)
-    c.args.candidate.now.slot c.args.seat.now c.loop.passed
-    c.loop.seat c.loop.invariant.2 c.look.new.seat
-    ((g.P.Part.part c.args.domain.now.protocol).first + c.cell_on-cell.result) c.in_ok-look.field-0
-    c.in-Null.is (c.in_ok-look.ensures.null (ap Ok c.in-Null.is)) c.in_ok-look.ensures.leaves
-    c.in_ok-look.ensures.learns c.look.ensures.makes c.look.ensures.room c.look.ensures.rest)
-    c.bind.new.seat
-    (race_before c.args.seat.now.view.core c.loop.seat.view.core c.bind.new.seat.view.core
-    c.loop.invariant.2.leaves.goes
-    (race_of ((g.P.Part.part c.args.domain.now.protocol).first + c.cell_on-cell.result)
-    (c.in_ok-look.ensures.null (ap Ok c.in-Null.is)).0 c.args.candidate.now.slot
-    c.loop.seat.view.core c.look.new.seat.view.core c.bind.new.seat.view.core
-    (c.in_ok-look.ensures.null (ap Ok c.in-Null.is)).1
-    (c.in_ok-bind-in-Null.ensures.lost (ap Ok c.if-branch.false))))
-    (not_bound g.P.Part.seen g.P.Part.with_seen c.args.domain.now
-    (area_of (g.P.Part.part c.args.domain.now.protocol)) (text_of c.args.sought.now.text.now)
-    c.args.candidate.now.slot c.look.new.seat c.bind.new.seat
-    c.in_ok-bind-in-Null.field-0 c.if-branch.false c.in_ok-bind-in-Null.ensures.binds)
-    c.bind.ensures.leaves c.bind.ensures.makes c.bind.ensures.room c.bind.ensures.rest)
+loop-preserved-else-branch g c = (
+  tt,
+  tt,
+  enters_lost c.args.domain.now
+      (place_of g.P.Part.seen g.P.Part.with_seen g.P.Part.reads g.P.Part.puts_back
+      g.P.Part.puts_over)
+      (area_of (g.P.Part.part c.args.domain.now.protocol)) (text_of c.args.sought.now.text.now)
+      c.args.candidate.now.slot c.args.seat.now c.loop.passed
+      c.look.new.seat
+      (null_on c.args.domain.now
+      (place_of g.P.Part.seen g.P.Part.with_seen g.P.Part.reads g.P.Part.puts_back
+      g.P.Part.puts_over)
+      (area_of (g.P.Part.part c.args.domain.now.protocol)) (text_of c.args.sought.now.text.now)
+      c.args.candidate.now.slot c.args.seat.now c.loop.passed
+      c.loop.seat c.loop.invariant.2 c.look.new.seat
+      ((g.P.Part.part c.args.domain.now.protocol).first + c.cell_on-cell.result) c.in_ok-look.field-0
+      c.in-Null.is (c.in_ok-look.ensures.null (ap Ok c.in-Null.is)) c.in_ok-look.ensures.leaves
+      c.in_ok-look.ensures.learns c.look.ensures.makes c.look.ensures.room c.look.ensures.rest)
+      c.bind.new.seat
+      (race_before c.args.seat.now.view.core c.loop.seat.view.core c.bind.new.seat.view.core
+      c.loop.invariant.2.leaves.goes
+      (race_of ((g.P.Part.part c.args.domain.now.protocol).first + c.cell_on-cell.result)
+      (c.in_ok-look.ensures.null (ap Ok c.in-Null.is)).0 c.args.candidate.now.slot
+      c.loop.seat.view.core c.look.new.seat.view.core c.bind.new.seat.view.core
+      (c.in_ok-look.ensures.null (ap Ok c.in-Null.is)).1
+      (c.in_ok-bind-in-Null.ensures.lost (ap Ok c.if-branch.false))))
+      (not_bound g.P.Part.seen g.P.Part.with_seen c.args.domain.now
+      (area_of (g.P.Part.part c.args.domain.now.protocol)) (text_of c.args.sought.now.text.now)
+      c.args.candidate.now.slot c.look.new.seat c.bind.new.seat
+      c.in_ok-bind-in-Null.field-0 c.if-branch.false c.in_ok-bind-in-Null.ensures.binds)
+      c.bind.ensures.leaves c.bind.ensures.makes c.bind.ensures.room c.bind.ensures.rest,
+)
 
 pub returns-in-Record-clause-places : goal.returns-in-Record-clause-places
 returns-in-Record-clause-places g c =
@@ -327,18 +333,21 @@ returns-in-Record-clause-makes g c =
     c.look.ensures.makes ∙ c.loop.invariant.2.makes
 
 pub loop-preserved : goal.loop-preserved
-loop-preserved g c =
-    (tt, tt, other_on c.args.domain.now
-    (place_of g.P.Part.seen g.P.Part.with_seen g.P.Part.reads g.P.Part.puts_back
-    g.P.Part.puts_over)
-    (area_of (g.P.Part.part c.args.domain.now.protocol)) (text_of c.args.sought.now.text.now)
-    c.args.candidate.now.slot c.args.seat.now c.loop.passed
-    c.loop.seat c.loop.invariant.2 c.look.new.seat
-    c.cell_on-cell.result c.in_ok-look.field-0 c.in-Other.is
-    (at_cell (area_of (g.P.Part.part c.args.domain.now.protocol)) (text_of
-    c.args.sought.now.text.now)
-    c.args.sought.now.hash c.loop.passed c.args.directory.now.cells c.cell_on-cell.result
-    c.requires.sought.place c.requires.over.cells c.cell_on-cell.ensures.cell)
-    (omega (arith, c.loop.invariant.2.low, c.if-passed-directory.false, c.requires.over.cells))
-    c.in_ok-look.ensures.meets c.in_ok-look.ensures.leaves c.in_ok-look.ensures.learns
-    c.look.ensures.makes c.look.ensures.adds c.look.ensures.room c.look.ensures.rest)
+loop-preserved g c = (
+  tt,
+  tt,
+  other_on c.args.domain.now
+      (place_of g.P.Part.seen g.P.Part.with_seen g.P.Part.reads g.P.Part.puts_back
+      g.P.Part.puts_over)
+      (area_of (g.P.Part.part c.args.domain.now.protocol)) (text_of c.args.sought.now.text.now)
+      c.args.candidate.now.slot c.args.seat.now c.loop.passed
+      c.loop.seat c.loop.invariant.2 c.look.new.seat
+      c.cell_on-cell.result c.in_ok-look.field-0 c.in-Other.is
+      (at_cell (area_of (g.P.Part.part c.args.domain.now.protocol)) (text_of
+      c.args.sought.now.text.now)
+      c.args.sought.now.hash c.loop.passed c.args.directory.now.cells c.cell_on-cell.result
+      c.requires.sought.place c.requires.over.cells c.cell_on-cell.ensures.cell)
+      (omega (arith, c.loop.invariant.2.low, c.if-passed-directory.false, c.requires.over.cells))
+      c.in_ok-look.ensures.meets c.in_ok-look.ensures.leaves c.in_ok-look.ensures.learns
+      c.look.ensures.makes c.look.ensures.adds c.look.ensures.room c.look.ensures.rest,
+)
