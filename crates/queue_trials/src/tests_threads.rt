@@ -1,13 +1,17 @@
 //! Senders and takers in threads, on one queue. Each letter is taken once, each taker takes the letters of one sender
 //! in that sender's order, and once the queue is shut nothing is left.
 ghost use Rattle.std.specs.Prelude.{◌≡◌, All};
+ghost use Rattle.part_calls.specs.Parts.{as_part};
 ghost use Rattle.queue_trials.specs.Ready.{IsFree, IsReady};
 
 use crate::tests_jobs::{Done, LETTERS, Told, give_jobs, work_all};
 use crate::tests_opening::{Opened, WIDE, busy_slots, open_mail};
 use crate::{Mail, Tally, lay, shut_and_settle};
 use acquire_retire::{Domain, Seat};
-use hand_queues::Form;
+use hand_queues::{Form, HandQueue};
+use out_of_memory::OutOfMemory;
+use protocol_pairs::{Left, Part};
+use queue_protocol::QueueLaw;
 use retiring_stores::leave;
 use std::alloc::Global;
 use std::sync::Wait;
@@ -81,6 +85,41 @@ struct Passed {
     busy: usize,
 }
 
+/// What became of the letters, once the threads are done: their seats leave, and seat 0 shuts the queue and settles.
+/// `None` where a seat hasn't left.
+fn sum_up<H: HandQueue>(
+    alloc: Global,
+    domain: &Domain<Mail>,
+    root: &mut Seat<Mail>,
+    queue: &H,
+    senders: u64,
+    done: Vec<Done>,
+) -> Result<Option<Passed>, OutOfMemory>
+    requires ready { IsReady domain.now root.old }
+    requires first { root.old.view.core.seat ≡ 0 }
+    requires laid { root.old.view.client.0.stand.laid ≡ 2 }
+    requires queue { H.is_on queue.now
+        (as_part ⟦<Mail as Part<QueueLaw, Left>>⟧.part domain.now) }
+    requires done { All (λ d. IsFree domain.now d.seat) done.items }
+{
+    let mut sums = Sums {
+        sent: 0,
+        taken: Tally::new(alloc, senders as usize, LETTERS as usize)?,
+    };
+    leave_all(domain, root, done, &mut sums);
+    let Some(left) = shut_and_settle(domain, root, queue) else {
+        return Ok(None);
+    };
+    let heap = domain.image(alloc, root)?;
+    Ok(Some(Passed {
+        sent: sums.sent,
+        once: sums.taken.has_each_once(),
+        ordered: sums.taken.is_ordered(),
+        left,
+        busy: busy_slots(&heap),
+    }))
+}
+
 /// So many senders and as many takers, each in a thread of its own, on a queue of this form. `None` where the queue
 /// wasn't laid, or a seat hasn't left.
 fn pass_all<R: Threads + Wait + Sync>(
@@ -99,22 +138,7 @@ fn pass_all<R: Threads + Wait + Sync>(
     let queue = lay(&domain, &mut root, form)?;
     let jobs = give_jobs(alloc, &domain, &mut others, senders)?;
     let done = work_all(rt, &domain, &queue, senders, jobs)?;
-    let mut sums = Sums {
-        sent: 0,
-        taken: Tally::new(alloc, senders as usize, LETTERS as usize)?,
-    };
-    leave_all(&domain, &mut root, done, &mut sums);
-    let Some(left) = shut_and_settle(&domain, &mut root, &queue) else {
-        return Ok(None);
-    };
-    let heap = domain.image(alloc, &mut root)?;
-    Ok(Some(Passed {
-        sent: sums.sent,
-        once: sums.taken.has_each_once(),
-        ordered: sums.taken.is_ordered(),
-        left,
-        busy: busy_slots(&heap),
-    }))
+    Ok(sum_up(alloc, &domain, &mut root, &queue, senders, done)?)
 }
 
 /// What is to become of the letters of so many senders.
