@@ -28,6 +28,10 @@ mod tests_adds;
 #[cfg(test)]
 mod tests_contents;
 #[cfg(test)]
+mod tests_jobs;
+#[cfg(test)]
+mod tests_opening;
+#[cfg(test)]
 mod tests_threads;
 mod tidying;
 

@@ -1,100 +1,19 @@
 //! One seat on a queue of either form: a script whose answers were written by hand, the memory of nodes, and what is
 //! left after a shut.
-ghost use Rattle.std.specs.Prelude.{◌≡◌, ◌<◌, true, All, IfOk, IfSome, length, slice_index_or};
-ghost use Rattle.acquire_retire.specs.Seats.{SeatState};
+ghost use Rattle.std.specs.Prelude.{◌≡◌};
 ghost use Rattle.part_calls.specs.Parts.{as_part};
-ghost use Rattle.linked_queue.specs.Queues.{CanLay};
-ghost use Rattle.hand_queues.specs.Queues.{IsAnyOf, queue_in};
-ghost use Rattle.queue_trials.specs.Ready.{IsNew, IsReady, View};
+ghost use Rattle.queue_trials.specs.Ready.{IsReady};
 
+use crate::tests_opening::{BOTH, Opened, WIDE, busy_slots, open_mail};
 use crate::{
-    Letter, Mail, clear_out, law_of, lay, send, send_all, shut_and_settle, take, tidy, try_send,
-    try_take,
+    Letter, Mail, clear_out, lay, send, send_all, shut_and_settle, take, tidy, try_send, try_take,
 };
-use acquire_retire::{Domain, OpenError, Quota, Seat, Shape, open_domain};
+use acquire_retire::{Domain, Seat};
 use hand_queues::{Form, HandQueue};
-use plain_state::Heap;
 use protocol_pairs::{Left, Part};
 use queue_protocol::QueueLaw;
-use std::alloc::Global;
 use std::sync::Wait;
 use std::test::Fail;
-
-pub(crate) const BOTH: [Form; 2] = [Form::Linked, Form::Double];
-
-pub(crate) const WIDE: Quota = Quota {
-    makes: 1 << 40,
-    adds: 1 << 40,
-};
-
-const ZERO: u64 = 9_223_372_036_854_775_808;
-
-/// A domain with a queue, its seat 0, and its other seats.
-pub(crate) struct Opened {
-    pub(crate) domain: Domain<Mail>,
-    pub(crate) root: Seat<Mail>,
-    pub(crate) others: Vec<Seat<Mail>>,
-}
-
-/// A domain of so many seats and slots for a queue of this form, and these seats.
-fn open_seats(
-    alloc: Global,
-    form: Form,
-    seats: u32,
-    slots: u32,
-    quotas: &[Quota],
-) -> Result<(Domain<Mail>, Vec<Seat<Mail>>), OpenError>
-    ensures queue { IfOk result (λ opened. IsAnyOf (queue_in form 0 1)
-        (as_part ⟦<Mail as Part<QueueLaw, Left>>⟧.part opened.0)) }
-    ensures new { IfOk result (λ opened. All (IsNew opened.0) opened.1.items) }
-    ensures first { IfOk result (λ opened. (d : SeatState View)
-        → (slice_index_or opened.1.items 0 d).view.core.seat ≡ 0) }
-    ensures unlaid { IfOk result (λ opened. (d : SeatState View)
-        → CanLay (slice_index_or opened.1.items 0 d).view.client.0) }
-    ensures some { IfOk result (λ opened. 0 < length opened.1.items) }
-{
-    let shape = Shape {
-        seats,
-        slots,
-        cells: 2,
-        weak_cells: 0,
-        batch: 16,
-    };
-    let opened = open_domain(alloc, shape, quotas, law_of(form))?;
-    Ok(opened)
-}
-
-/// The same, with seat 0 by itself.
-pub(crate) fn open_mail(
-    alloc: Global,
-    form: Form,
-    seats: u32,
-    slots: u32,
-    quotas: &[Quota],
-) -> Result<Opened, OpenError>
-    ensures queue { IfOk result (λ opened. IsAnyOf (queue_in form 0 1)
-        (as_part ⟦<Mail as Part<QueueLaw, Left>>⟧.part opened.domain)) }
-    ensures root { IfOk result (λ opened. IsNew opened.domain opened.root) }
-    ensures first { IfOk result (λ opened. opened.root.view.core.seat ≡ 0) }
-    ensures unlaid { IfOk result (λ opened. CanLay opened.root.view.client.0) }
-    ensures others { IfOk result (λ opened. All (IsNew opened.domain) opened.others.items) }
-{
-    let (domain, mut others) = open_seats(alloc, form, seats, slots, quotas)?;
-    let root = others.remove(0);
-    Ok(Opened {
-        domain,
-        root,
-        others,
-    })
-}
-
-/// How many slots aren't free.
-pub(crate) fn busy_slots(heap: &Heap) -> usize {
-    heap.slots
-        .iter()
-        .filter(|slot| slot.strong != ZERO || slot.weak != 0)
-        .count()
-}
 
 /// A call on a queue, by the number of a letter of sender 3.
 #[derive(Clone, Copy, Debug, Drop)]

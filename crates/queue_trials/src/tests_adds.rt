@@ -1,10 +1,10 @@
 //! Adds that run out in the middle of a push and of a pop: nothing is pushed and nothing taken then.
-ghost use Rattle.std.specs.Prelude.{◌<◌, All, IfSome};
+ghost use Rattle.std.specs.Prelude.{◌<◌};
 ghost use Rattle.plain_state.specs.Lists.{times};
 ghost use Rattle.part_calls.specs.Parts.{as_part};
 ghost use Rattle.queue_trials.specs.Ready.{IsNew, IsReady};
 
-use crate::tests::{BOTH, Opened, WIDE, open_mail};
+use crate::tests_opening::{BOTH, Opened, WIDE, open_mail, take_last};
 use crate::{Letter, Mail, attach, lay, open, push, send, take, write};
 use acquire_retire::{Domain, Quota, Seat};
 use counted_handles::{Spent, Strong};
@@ -25,15 +25,6 @@ const RICH: Letter = Letter {
     sender: 0,
     number: 8,
 };
-
-/// The last of these seats.
-pub(crate) fn take_last(domain: &Domain<Mail>, seats: &mut Vec<Seat<Mail>>) -> Option<Seat<Mail>>
-    requires { All (IsNew domain.now) seats.old.items }
-    ensures seats { All (IsNew domain.now) seats.new.items }
-    ensures last { IfSome result (IsNew domain.now) }
-{
-    seats.pop()
-}
 
 /// Why a push was refused, and the letter that it handed back.
 type NotSent = Option<(MakeError, Letter)>;

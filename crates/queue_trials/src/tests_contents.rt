@@ -3,7 +3,7 @@ ghost use Rattle.std.specs.Prelude.{◌<◌};
 ghost use Rattle.part_calls.specs.Parts.{as_part};
 ghost use Rattle.queue_trials.specs.Ready.{IsReady};
 
-use crate::tests::{BOTH, Opened, WIDE, open_mail};
+use crate::tests_opening::{BOTH, Opened, WIDE, open_mail};
 use crate::{Letter, Mail, enclose, lay, look, try_pop_with, try_push, write};
 use acquire_retire::{Domain, Seat};
 use hand_queues::HandQueue;

@@ -1,12 +1,12 @@
 //! Senders and takers in threads, on one queue. Each letter is taken once, each taker takes the letters of one sender
 //! in that sender's order, and once the queue is shut nothing is left.
-ghost use Rattle.std.specs.Prelude.{◌≡◌, All, IfOk, OnOk};
+ghost use Rattle.std.specs.Prelude.{◌≡◌, All};
 ghost use Rattle.part_calls.specs.Parts.{as_part};
-ghost use Rattle.hand_queues.specs.Queues.{IsAnyOf, queue_in};
-ghost use Rattle.queue_trials.specs.Ready.{IsFree, IsNew, IsReady};
+ghost use Rattle.queue_trials.specs.Ready.{IsFree, IsReady};
 
-use crate::tests::{Opened, WIDE, busy_slots, open_mail};
-use crate::{Mail, Tally, attach, clear_out, lay, send_all, shut_and_settle, take_all};
+use crate::tests_jobs::{Done, LETTERS, Told, give_jobs, work_all};
+use crate::tests_opening::{Opened, WIDE, busy_slots, open_mail};
+use crate::{Mail, Tally, lay, shut_and_settle};
 use acquire_retire::{Domain, Seat};
 use hand_queues::{Form, HandQueue};
 use out_of_memory::OutOfMemory;
@@ -15,174 +15,11 @@ use queue_protocol::QueueLaw;
 use retiring_stores::leave;
 use std::alloc::Global;
 use std::sync::Wait;
-use std::sync::atomic::{AtomicU64, Ordering};
 use std::test::Fail;
-use std::thread;
 use std::thread::Threads;
-
-/// How many letters each sender sends.
-const LETTERS: u64 = 100_000;
 
 /// Fewer than the letters that are sent, so senders wait for takers now and then.
 const SLOTS: u32 = 1 << 16;
-
-/// What a thread is to do with its seat.
-#[derive(Drop)]
-enum Role {
-    Sender(u64),
-    Taker(Tally),
-}
-
-/// A thread's seat, and its role.
-#[derive(Drop)]
-struct Job {
-    seat: Seat<Mail>,
-    role: Role,
-}
-
-/// What a thread did: how many letters it sent, or which it took.
-#[derive(Drop)]
-enum Told {
-    Sent(u64),
-    Taken(Tally),
-}
-
-/// What a thread is done with.
-#[derive(Drop)]
-struct Done {
-    seat: Seat<Mail>,
-    told: Told,
-}
-
-/// Adds a job for the last seat.
-fn give_job(
-    domain: &Domain<Mail>,
-    seats: &mut Vec<Seat<Mail>>,
-    jobs: &mut Vec<Job>,
-    role: Role,
-) -> Result<(), OutOfMemory>
-    requires seats { All (IsNew domain.now) seats.old.items }
-    requires jobs { All (λ job. IsNew domain.now job.seat) jobs.old.items }
-    ensures seats { OnOk result (All (IsNew domain.now) seats.new.items) }
-    ensures jobs { OnOk result (All (λ job. IsNew domain.now job.seat) jobs.new.items) }
-{
-    if let Some(seat) = seats.pop() {
-        jobs.push(Job { seat, role }).map_err(OutOfMemory::from)?;
-    }
-    Ok(())
-}
-
-/// Jobs for so many senders, and as many takers.
-fn give_jobs(
-    alloc: Global,
-    domain: &Domain<Mail>,
-    seats: &mut Vec<Seat<Mail>>,
-    senders: u64,
-) -> Result<Vec<Job>, OutOfMemory>
-    requires seats { All (IsNew domain.now) seats.old.items }
-    ensures jobs { IfOk result (λ jobs. All (λ job. IsNew domain.now job.seat) jobs.items) }
-    ensures seats { OnOk result (All (IsNew domain.now) seats.new.items) }
-{
-    let mut jobs = Vec::new(alloc);
-    for sender in 0..senders {
-        let tally = Tally::new(alloc, senders as usize, LETTERS as usize)?;
-        give_job(domain, seats, &mut jobs, Role::Taker(tally))?;
-        give_job(domain, seats, &mut jobs, Role::Sender(sender))?;
-    }
-    Ok(jobs)
-}
-
-/// The thread of a sender.
-fn work_as_sender<H: HandQueue, R: Wait>(
-    rt: &R,
-    domain: &Domain<Mail>,
-    queue: &H,
-    finished: &AtomicU64,
-    mut seat: Seat<Mail>,
-    sender: u64,
-) -> Done
-    requires new { IsNew domain.now seat }
-    requires queue { H.is_on queue.now
-        (as_part ⟦<Mail as Part<QueueLaw, Left>>⟧.part domain.now) }
-    ensures { IsFree domain.now result.seat }
-{
-    attach(rt, domain, &mut seat, queue);
-    let sent = send_all(rt, domain, &mut seat, queue, sender, LETTERS);
-    finished.fetch_add(1, Ordering::SeqCst);
-    clear_out(rt, domain, &mut seat);
-    Done {
-        seat,
-        told: Told::Sent(sent),
-    }
-}
-
-/// The thread of a taker.
-fn work_as_taker<H: HandQueue, R: Wait>(
-    rt: &R,
-    domain: &Domain<Mail>,
-    queue: &H,
-    finished: &AtomicU64,
-    senders: u64,
-    mut seat: Seat<Mail>,
-    tally: Tally,
-) -> Done
-    requires new { IsNew domain.now seat }
-    requires queue { H.is_on queue.now
-        (as_part ⟦<Mail as Part<QueueLaw, Left>>⟧.part domain.now) }
-    ensures { IsFree domain.now result.seat }
-{
-    attach(rt, domain, &mut seat, queue);
-    let mut tally = tally;
-    take_all(rt, domain, &mut seat, queue, finished, senders, &mut tally);
-    clear_out(rt, domain, &mut seat);
-    Done {
-        seat,
-        told: Told::Taken(tally),
-    }
-}
-
-/// What one thread does.
-fn work<H: HandQueue, R: Wait>(
-    rt: &R,
-    domain: &Domain<Mail>,
-    queue: &H,
-    finished: &AtomicU64,
-    senders: u64,
-    job: Job,
-) -> Done
-    requires new { IsNew domain.now job.seat }
-    requires queue { H.is_on queue.now
-        (as_part ⟦<Mail as Part<QueueLaw, Left>>⟧.part domain.now) }
-    ensures { IsFree domain.now result.seat }
-{
-    let Job { seat, role } = job;
-    match role {
-        Role::Sender(sender) => work_as_sender(rt, domain, queue, finished, seat, sender),
-        Role::Taker(tally) => work_as_taker(rt, domain, queue, finished, senders, seat, tally),
-    }
-}
-
-/// Each job in a thread of its own.
-fn work_all<H: HandQueue + Sync, R: Threads + Wait + Sync>(
-    rt: &R,
-    domain: &Domain<Mail>,
-    queue: &H,
-    senders: u64,
-    jobs: Vec<Job>,
-) -> Result<Vec<Done>, OutOfMemory>
-    requires new { All (λ job. IsNew domain.now job.seat) jobs.items }
-    requires queue { H.is_on queue.now
-        (as_part ⟦<Mail as Part<QueueLaw, Left>>⟧.part domain.now) }
-    ensures { IfOk result (λ done. All (λ d. IsFree domain.now d.seat) done.items) }
-{
-    let finished = AtomicU64::new(0);
-    thread::map_vec(
-        rt,
-        jobs,
-        &|job| { work(rt, domain, queue, &finished, senders, job) },
-    )
-    .map_err(OutOfMemory::from)
-}
 
 /// What all threads did: how many letters were sent, and which were taken.
 #[derive(Drop)]
@@ -248,6 +85,41 @@ struct Passed {
     busy: usize,
 }
 
+/// What became of the letters, once the threads are done: their seats leave, and seat 0 shuts the queue and settles.
+/// `None` where a seat hasn't left.
+fn sum_up<H: HandQueue>(
+    alloc: Global,
+    domain: &Domain<Mail>,
+    root: &mut Seat<Mail>,
+    queue: &H,
+    senders: u64,
+    done: Vec<Done>,
+) -> Result<Option<Passed>, OutOfMemory>
+    requires ready { IsReady domain.now root.old }
+    requires first { root.old.view.core.seat ≡ 0 }
+    requires laid { root.old.view.client.0.stand.laid ≡ 2 }
+    requires queue { H.is_on queue.now
+        (as_part ⟦<Mail as Part<QueueLaw, Left>>⟧.part domain.now) }
+    requires done { All (λ d. IsFree domain.now d.seat) done.items }
+{
+    let mut sums = Sums {
+        sent: 0,
+        taken: Tally::new(alloc, senders as usize, LETTERS as usize)?,
+    };
+    leave_all(domain, root, done, &mut sums);
+    let Some(left) = shut_and_settle(domain, root, queue) else {
+        return Ok(None);
+    };
+    let heap = domain.image(alloc, root)?;
+    Ok(Some(Passed {
+        sent: sums.sent,
+        once: sums.taken.has_each_once(),
+        ordered: sums.taken.is_ordered(),
+        left,
+        busy: busy_slots(&heap),
+    }))
+}
+
 /// So many senders and as many takers, each in a thread of its own, on a queue of this form. `None` where the queue
 /// wasn't laid, or a seat hasn't left.
 fn pass_all<R: Threads + Wait + Sync>(
@@ -266,22 +138,7 @@ fn pass_all<R: Threads + Wait + Sync>(
     let queue = lay(&domain, &mut root, form)?;
     let jobs = give_jobs(alloc, &domain, &mut others, senders)?;
     let done = work_all(rt, &domain, &queue, senders, jobs)?;
-    let mut sums = Sums {
-        sent: 0,
-        taken: Tally::new(alloc, senders as usize, LETTERS as usize)?,
-    };
-    leave_all(&domain, &mut root, done, &mut sums);
-    let Some(left) = shut_and_settle(&domain, &mut root, &queue) else {
-        return Ok(None);
-    };
-    let heap = domain.image(alloc, &mut root)?;
-    Ok(Some(Passed {
-        sent: sums.sent,
-        once: sums.taken.has_each_once(),
-        ordered: sums.taken.is_ordered(),
-        left,
-        busy: busy_slots(&heap),
-    }))
+    Ok(sum_up(alloc, &domain, &mut root, &queue, senders, done)?)
 }
 
 /// What is to become of the letters of so many senders.

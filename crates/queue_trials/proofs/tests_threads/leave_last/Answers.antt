@@ -2,7 +2,7 @@ use Rattle.std.proofs.Common.{◌∙◌, ap, subst}
 use Rattle.std.specs.Prelude.{IfSome}
 use Rattle.std.proofs.lemmas.List.Elements.{All-pop}
 use Rattle.queue_law.specs.declared.view.Stand.{Stand}
-use Rattle.queue_trials.specs.declared.tests_threads.Done.{Done}
+use Rattle.queue_trials.specs.declared.tests_jobs.Done.{Done}
 use Rattle.queue_trials.specs.Ready.{IsFree}
 use Rattle.queue_trials.proofs.Kept.{attached_joined, stands_joined}
 use Rattle.queue_trials.proofs.tests_threads.leave_last.Goals as goal

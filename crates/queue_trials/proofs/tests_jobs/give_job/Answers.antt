@@ -1,10 +1,10 @@
 use Rattle.std.proofs.Common.{subst}
 use Rattle.std.specs.Prelude.{IfSome}
 use Rattle.std.proofs.lemmas.List.Elements.{All-pop}
-use Rattle.queue_trials.specs.declared.tests_threads.Job.{Job}
+use Rattle.queue_trials.specs.declared.tests_jobs.Job.{Job}
 use Rattle.queue_trials.specs.Ready.{IsNew}
 use Rattle.queue_trials.proofs.Opened.{all_pushed}
-use Rattle.queue_trials.proofs.tests_threads.give_job.Goals as goal
+use Rattle.queue_trials.proofs.tests_jobs.give_job.Goals as goal
 
 pub returns-in_ok-map_err-clause-jobs : goal.returns-in_ok-map_err-clause-jobs
 returns-in_ok-map_err-clause-jobs c =

@@ -1,6 +1,6 @@
 use Rattle.std.proofs.lemmas.List.Elements.{All-pop}
 use Rattle.queue_trials.specs.Ready.{IsNew}
-use Rattle.queue_trials.proofs.tests_adds.take_last.Goals as goal
+use Rattle.queue_trials.proofs.tests_opening.take_last.Goals as goal
 
 pub returns : goal.returns
 returns c =

@@ -4,7 +4,7 @@ use Rattle.core_events.specs.Runs.{IsShape}
 use Rattle.linked_queue.specs.Queues.{CanLay}
 use Rattle.queue_trials.specs.Ready.{IsNew}
 use Rattle.queue_trials.proofs.Opened.{all_new, first_can_lay, first_is_first}
-use Rattle.queue_trials.proofs.tests.open_seats.Goals as goal
+use Rattle.queue_trials.proofs.tests_opening.open_seats.Goals as goal
 
 pub returns-clause-new : goal.returns-clause-new
 returns-clause-new c =

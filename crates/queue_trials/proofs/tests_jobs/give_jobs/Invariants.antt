@@ -1,6 +1,6 @@
 use Rattle.std.specs.Prelude.{All}
 use Rattle.queue_trials.specs.Ready.{IsNew}
-use Rattle.queue_trials.proofs.tests_threads.give_jobs.Given as goal
+use Rattle.queue_trials.proofs.tests_jobs.give_jobs.Given as goal
 
 abbrev pub invariant-loop-sender : goal.invariant-loop-sender
 invariant-loop-sender l =

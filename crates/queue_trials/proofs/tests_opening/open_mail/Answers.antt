@@ -1,6 +1,6 @@
 use Rattle.std.proofs.Common.{subst, sym}
 use Rattle.queue_trials.specs.Ready.{IsNew}
-use Rattle.queue_trials.proofs.tests.open_mail.Goals as goal
+use Rattle.queue_trials.proofs.tests_opening.open_mail.Goals as goal
 
 pub returns-clause-root : goal.returns-clause-root
 returns-clause-root c =
