@@ -1,5 +1,5 @@
 -- What a seat that was ready has after a call.
-use Rattle.std.proofs.Common.{◌≡◌, ⊎_elim, ℕ, List, ap, sym, ◌∙◌, subst}
+use Rattle.std.proofs.Common.{◌≡◌, ℕ, List, ap, sym, ◌∙◌, subst}
 use Rattle.std.specs.Prelude.{◌+◌, true, Err, IfOk, None, Ok, OnErr, Option, Result, Some, length}
 use Rattle.plain_state.specs.declared.slot.SlotId.{SlotId}
 use Rattle.core_events.specs.declared.view.CoreView.{CoreView}
@@ -23,7 +23,7 @@ use Rattle.retiring_stores.specs.Scanning.{Collected}
 use Rattle.retiring_stores.proofs.Afterwards.{scan_leaves}
 use Rattle.slot_store.specs.Calls.{SeesWord}
 use Rattle.slot_store.proofs.Passing.{passes_collect}
-use Rattle.queue_trials.specs.Ready.{IsFree, IsNew, IsReady, StandsAs, View}
+use Rattle.queue_trials.specs.Ready.{IsFree, IsReady, StandsAs, View}
 
 -- the seat, with what it knows of the queue
 abbrev pub of_queue : SeatState View → SeatState QueueView

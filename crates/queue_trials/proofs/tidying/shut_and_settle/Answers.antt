@@ -1,4 +1,3 @@
-use Rattle.queue_trials.proofs.Kept.{left_alone}
 use Rattle.queue_trials.proofs.tidying.shut_and_settle.Goals as goal
 
 pub shut-requires-clause-laid : goal.shut-requires-clause-laid
