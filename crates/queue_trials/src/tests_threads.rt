@@ -18,8 +18,9 @@ use std::sync::Wait;
 use std::test::Fail;
 use std::thread::Threads;
 
-/// Fewer than the letters that are sent, so senders wait for takers now and then.
-const SLOTS: u32 = 1 << 16;
+/// As many as all letters of eight senders take, and the nodes that carry them: takers may be slower than senders, and
+/// a search that finds no slot is as long as there are slots.
+const SLOTS: u32 = 1 << 21;
 
 /// What all threads did: how many letters were sent, and which were taken.
 #[derive(Drop)]

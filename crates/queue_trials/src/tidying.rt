@@ -17,12 +17,13 @@ use retiring_stores::collect;
 use slot_store::{reap, settle};
 use std::sync::Wait;
 
-/// The most objects that a seat destroys in one turn: what it takes leaves two, a letter and a node, so that it comes
-/// to an end with more.
-const MOST_REAPS: u32 = 4;
+/// The most objects that a seat destroys in one turn. A node that was popped keeps the next one until it is destroyed,
+/// so all that were popped since a seat was held up wait for that seat, one after another: it must destroy more in a
+/// turn than all seats leave behind meanwhile, or they only become more.
+const MOST_REAPS: u32 = 256;
 
-/// Collects, and destroys what is dying, four objects at most. A node that was popped keeps its reference to the next
-/// one until it is destroyed, so a seat that never collects keeps all later nodes.
+/// Collects, and destroys what is dying, up to a number of objects. A seat that never collects keeps all nodes after
+/// one that it popped.
 pub fn tidy(domain: &Domain<Mail>, seat: &mut Seat<Mail>)
     requires ready { IsReady domain.now seat.old }
     ensures stands { StandsAs seat.old seat.new }
