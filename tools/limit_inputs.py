@@ -119,9 +119,9 @@ def try_all(runs):
     runs.run("a folder", ["words", "folder"], refused(3))
     runs.run("a file that isn't there", ["words", "none"], refused(3))
     runs.run("a folder after a file", ["words", "one", "folder"], refused(3))
-    for command in ("script", "steps"):
-        runs.run(f"a folder as a {command}", [command, "folder"], refused(3))
-        runs.run(f"a {command} of one byte more than are read", [command, "above"], refused(5))
+    for command, what in (("script", "a script"), ("steps", "a list of steps")):
+        runs.run(f"a folder as {what}", [command, "folder"], refused(3))
+        runs.run(f"{what} of one byte more than are read", [command, "above"], refused(5))
 
     words = report(b"2 1 a", b"1 1 b", b"files 1 pieces 3 distinct 2", b"held live 2 deferred 0 cyclic 0 bytes 2")
     with fed("pipe", b"a b a") as pipe:
