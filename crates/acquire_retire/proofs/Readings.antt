@@ -21,10 +21,10 @@ use Rattle.acquire_retire.specs.Domains.{DomainState}
 use Rattle.acquire_retire.specs.Seats.{SeatState}
 use Rattle.acquire_retire.proofs.Collects.{goes_append, goes_by, is_idle_after}
 
-not_last : (z : Shape) (v : CoreView) → length v.seen + 1 < announcements z → is_last z v ≡ false
+pub not_last : (z : Shape) (v : CoreView) → length v.seen + 1 < announcements z → is_last z v ≡ false
 not_last z v more = grind (arith, nat_tests)
 
-comes_last : (z : Shape) (v : CoreView) → length v.seen + 1 ≡ announcements z → is_last z v ≡ true
+pub comes_last : (z : Shape) (v : CoreView) → length v.seen + 1 ≡ announcements z → is_last z v ≡ true
 comes_last z v all = grind (arith, nat_tests)
 
 -- what the seat has and answers after a word that isn't the last

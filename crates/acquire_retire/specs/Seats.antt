@@ -1,16 +1,15 @@
 -- What callers see of a seat, and what the seat stores of its view.
-use Rattle.std.specs.Prelude.{ℕ, ◌≡◌, ◌<◌, ◌≤◌, ◌*◌, ◌^◌, false, List, [], length}
+use Rattle.std.specs.Prelude.{ℕ, ◌≡◌, ◌<◌, ◌≤◌, ◌*◌, ◌^◌, false, List, [], map, length, Option}
 use Rattle.atomic_table.specs.Seated.{TableId}
 use Rattle.atomic_table.specs.Table.{Me}
 use Rattle.plain_state.specs.declared.slot.SlotId.{SlotId}
 use Rattle.plain_state.specs.Lists.{Entry}
 use Rattle.core_events.specs.declared.shape.Quota.{Quota}
 use Rattle.core_events.specs.declared.view.CoreView.{CoreView}
-use Rattle.core_events.specs.declared.view.Note.{Note}
 use Rattle.core_events.specs.declared.view.Phase.{Phase}
 use Rattle.core_events.specs.Good.{SeatLaw}
 use Rattle.core_events.specs.Runs.{IsShape}
-use Rattle.core_events.specs.Views.{granted, room_of}
+use Rattle.core_events.specs.Views.{granted, room_of, slot_noted}
 use Rattle.dying_slots.specs.Dying.{waiting_of}
 use Rattle.eject_scan.specs.Seen.{noted}
 use Rattle.eject_scan.specs.declared.seen.Row.{Row}
@@ -30,7 +29,7 @@ pub record Stored : Type 0 where
   pub makes : ℕ
   pub granted : ℕ
   pub phase : Phase
-  pub notes : List Note
+  pub announced : List (Option SlotId)
   pub retired : List Entry
   pub owed : List Entry
   pub seen : List Row
@@ -39,9 +38,9 @@ pub record Stored : Type 0 where
   pub ripe : List SlotId
   pub left : ℕ
 
--- of the words that its scan has read it stores how often it read each that announces something, of
--- its tickets how many makes they grant, of the seats that have left their number, and of its dying slots which are
--- ripe and which are not
+-- Of its notes it stores which slot each announces, of the words that its scan has read how often it
+-- read each that announces something, of its tickets how many makes they grant, of the seats that have
+-- left their number, and of its dying slots which are ripe and which are not.
 abbrev pub stored : CoreView → Stored
 stored v = record {
   number = v.seat;
@@ -50,7 +49,7 @@ stored v = record {
   makes = v.makes;
   granted = granted v.grants v.tickets;
   phase = v.phase;
-  notes = v.notes;
+  announced = map slot_noted v.notes;
   retired = v.retired;
   owed = v.owed;
   seen = noted v.seen;

@@ -41,8 +41,8 @@ impl<P: Protocol> Domain<P> {
         requires owes_nothing { seat.old.view.core.owed ≡ [] }
         ensures { ReadsAllButOne P.Kind.fits self.now seat.old seat.new }
     {
-        for _place in seat.read + 1..WORDS_OF_SEAT * self.shape.seats {
-            self.scan(seat);
+        for place in seat.read + 1..WORDS_OF_SEAT * self.shape.seats {
+            self.read_next(seat, place);
         }
     }
 
@@ -54,7 +54,7 @@ impl<P: Protocol> Domain<P> {
         ensures { Splits P.Kind.fits self.now seat.old seat.new result }
     {
         self.read_on(seat);
-        match self.scan(seat) {
+        match self.read_last(seat) {
             Outcome::Split(_, _, go) => go,
             _ => 0,
         }

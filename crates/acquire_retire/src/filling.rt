@@ -52,8 +52,9 @@ impl<P: Protocol> Domain<P> {
             unreachable!()
         };
         let word = self.counter_word(Kind::Weak, slot);
-        self.store_as::<Still, Brand>(&mut seat.seat, Act::Arm, Still, word, 1);
+        // Before the step, since the first fill would wait for a write that comes after it.
         seat.phase = Phase::Blank(slot);
+        self.store_as::<Still, Brand>(&mut seat.seat, Act::Arm, Still, word, 1);
         Outcome::Plain
     }
 

@@ -38,6 +38,7 @@ mod payment;
 mod places;
 mod protecting;
 mod reading;
+mod scanning;
 mod seat;
 mod site;
 mod splitting;

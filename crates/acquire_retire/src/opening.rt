@@ -15,7 +15,7 @@ use crate::errors::OpenError;
 use crate::seat::{Seat, SeatOf};
 use crate::site::Site;
 use atomic_table::{Split, Table};
-use core_events::{Note, Phase, Quota, Shape, SlotId};
+use core_events::{Phase, Quota, Shape, SlotId};
 use core_functions::{first_bad, first_words, slot_index};
 use domain_rule::{Charter, SeatView};
 use dying_slots::Dying;
@@ -69,7 +69,7 @@ fn new_seat<W>(
         makes: 0,
         granted: 0,
         phase: Phase::Idle,
-        notes: [Note::Idle, Note::Idle, Note::Idle, Note::Idle],
+        announced: [None; 4],
         batch,
         seen,
         read: 0,

@@ -1,5 +1,4 @@
-//! Calls that protect what a seat reads from a place, and the scan that reads all announcements. Each is one atomic
-//! step.
+//! Calls that protect what a seat reads from a place. Each is one atomic step.
 ghost use Rattle.std.specs.Prelude.{◌≡◌};
 ghost use Rattle.core_events.specs.declared.act.Act.TheVariants as act;
 ghost use Rattle.core_events.specs.Steps.{May};
@@ -7,13 +6,11 @@ ghost use Rattle.acquire_retire.specs.Calls.{IsOf, IsReady, IsSameView, Steps, s
 
 use crate::domain::Domain;
 use crate::seat::Seat;
-use crate::splitting::split;
 use announce_slots::announced_as;
-use core_events::{Act, EventPlace, Kind, Note, Outcome, Phase, SlotId};
-use core_functions::{found_in, held_as, note_index, note_of, slot_in_note, validated};
+use core_events::{Act, EventPlace, Kind, Outcome, SlotId};
+use core_functions::{found_in, held_as, note_index};
 use counter_word::value;
 use plain_protocol::{Deed, Protocol, Still};
-use plain_state::WORDS_OF_SEAT;
 use std::marker::Brand;
 
 impl<P: Protocol> Domain<P> {
@@ -26,6 +23,9 @@ impl<P: Protocol> Domain<P> {
     {
         let at = note_index(seat.number, note);
         let code = announced_as(kind, slot);
+        // Before the step, so that the seat writes nothing of its own between it and the next locked step, which would
+        // wait for that.
+        seat.announced[note as usize] = Some(slot);
         self.store_as::<Still, Brand>(
             &mut seat.seat,
             Act::Announce(note, kind, slot),
@@ -33,7 +33,6 @@ impl<P: Protocol> Domain<P> {
             at,
             code,
         );
-        seat.notes[note as usize] = Note::Announced(kind, slot);
         Outcome::Plain
     }
 
@@ -46,7 +45,7 @@ impl<P: Protocol> Domain<P> {
     {
         let at = note_index(seat.number, note);
         self.store_as::<Still, Brand>(&mut seat.seat, Act::Release(note), Still, at, 0);
-        seat.notes[note as usize] = Note::Idle;
+        seat.announced[note as usize] = None;
         Outcome::Plain
     }
 
@@ -84,11 +83,8 @@ impl<P: Protocol> Domain<P> {
         let _sizes = &self.shape;
         let at = self.place_word(place);
         let found = self.load_as::<D, Brand>(&mut seat.seat, Act::Check(note, place), deed, at);
-        if let Note::Announced(kind, slot) = seat.notes[note as usize] {
-            if found == held_as(Some(slot)) {
-                seat.notes[note as usize] = Note::Valid(kind, slot);
-                return Outcome::Valid;
-            }
+        if found == held_as(seat.announced[note as usize]) {
+            return Outcome::Valid;
         }
         Outcome::Moved(found_in(found))
     }
@@ -103,43 +99,14 @@ impl<P: Protocol> Domain<P> {
         ensures { Steps P.Kind.fits self.now (D.next deed self.now.protocol)
             (D.allows deed self.now.protocol) (act.Alive note) seat.old seat.new result }
     {
-        let announced = note_of(&seat.notes, note);
-        let Some(slot) = slot_in_note(announced) else {
+        let Some(slot) = seat.announced[note as usize] else {
             unreachable!()
         };
         let word = self.slot_word(slot);
         let found = self.load_as::<D, Brand>(&mut seat.seat, Act::Alive(note), deed, word);
         if value(found) > 0 {
-            seat.notes[note as usize] = validated(announced);
             return Outcome::Alive;
         }
         Outcome::Zeroed
-    }
-
-    /// Reads the next announcement word of the domain. The last one splits the retired entries: of equal ones as many
-    /// stay as were announced, and the others become owed; and the dying slots that no word announces for disposal
-    /// become ripe.
-    // A collect makes this call for each announcement word of the domain.
-    #[inline(always)]
-    pub fn scan(&self, seat: &mut Seat<P>) -> Outcome
-        requires seat { IsOf self.now seat.old }
-        requires may { May self.now.shape act.Scan seat.old.view.core }
-        ensures { Steps P.Kind.fits self.now same_view IsSameView act.Scan
-            seat.old seat.new result }
-    {
-        let at = 1 + seat.read as usize;
-        let found = self.load_as::<Still, Brand>(&mut seat.seat, Act::Scan, Still, at);
-        seat.seen.note(found);
-        if seat.read + 1 != WORDS_OF_SEAT * self.shape.seats {
-            seat.read += 1;
-            seat.phase = Phase::Scan;
-            return Outcome::Word(found);
-        }
-        let (stay, go) = split(&mut seat.batch, &seat.seen);
-        seat.dying.ripen(&seat.seen);
-        seat.seen.clear();
-        seat.read = 0;
-        seat.phase = Phase::Idle;
-        Outcome::Split(found, stay, go)
     }
 }

@@ -1,5 +1,5 @@
 //! A seat of a domain, with which one thread at a time steps.
-use core_events::{Note, Phase, Quota, SlotId};
+use core_events::{Phase, Quota, SlotId};
 use domain_rule::SeatView;
 use dying_slots::Dying;
 use eject_scan::Seen;
@@ -18,7 +18,8 @@ pub struct SeatOf<W> {
     /// How many makes its own tickets grant.
     pub(crate) granted: u64,
     pub(crate) phase: Phase,
-    pub(crate) notes: [Note; 4],
+    /// The slot that each of its announcement words announces.
+    pub(crate) announced: [Option<SlotId>; 4],
     pub(crate) batch: Batch,
     pub(crate) seen: Seen,
     /// How many words its scan has read.
@@ -47,7 +48,7 @@ impl<W> Model for SeatOf<W> {
       makes = s.makes;
       granted = s.granted;
       phase = s.phase;
-      notes = s.notes;
+      announced = s.announced;
       retired = s.batch.retired;
       owed = s.batch.owed;
       seen = s.seen.rows;

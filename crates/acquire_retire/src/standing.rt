@@ -5,23 +5,13 @@ ghost use Rattle.plain_state.specs.Lists.{times};
 ghost use Rattle.core_events.specs.Views.{allowed_makes};
 ghost use Rattle.domain_rule.specs.Views.{IsAlone, KnowsAll};
 ghost use Rattle.acquire_retire.specs.Calls.{IsOf};
-ghost use Rattle.acquire_retire.specs.Notes.{is_free, least_free};
+ghost use Rattle.acquire_retire.specs.Notes.{least_free};
 ghost use Rattle.acquire_retire.specs.Seats.{HasBatch};
 
 use crate::domain::Domain;
 use crate::seat::Seat;
-use core_events::{Note, Shape, SlotId};
+use core_events::{Shape, SlotId};
 use plain_protocol::Protocol;
-
-/// Whether a note stands for nothing.
-fn is_free(note: Note) -> bool
-    ensures { result ≡ is_free note }
-{
-    match note {
-        Note::Idle => true,
-        Note::Announced(_, _) | Note::Valid(_, _) => false,
-    }
-}
 
 impl<P: Protocol> Domain<P> {
     /// Whether the seat is seat 0, and every other one has left. It knows the whole core then.
@@ -112,11 +102,11 @@ impl<P: Protocol> Domain<P> {
         requires { IsOf self.now seat.now }
         ensures { result ≡ least_free seat.now.view.core }
     {
-        if is_free(seat.notes[1]) {
+        if seat.announced[1].is_none() {
             Some(1)
-        } else if is_free(seat.notes[2]) {
+        } else if seat.announced[2].is_none() {
             Some(2)
-        } else if is_free(seat.notes[3]) {
+        } else if seat.announced[3].is_none() {
             Some(3)
         } else {
             None

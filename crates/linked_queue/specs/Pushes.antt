@@ -141,13 +141,14 @@ module _ (fits : List ℕ → Type 0) (d : DomainState QueueLaw) where
     pub null : LooksAhead next None old looked
     pub helps : Helps first next looked new
 
-  -- Behind a node of the tail cell it found none; or another, to which it helped the tail cell on.
+  -- behind a node of the tail cell it found another one, to which it helped the tail cell on
   pub record Follows (first next : SlotId) (old new : SeatState View) : Type 0 where
     pub seen : SeatState View
     pub loads :
         Refers fits d (Field first 0) next_next (NextTells (ends_of d)) next old seen
     pub helps : HelpsOn first next seen new
 
+  -- it found none, or did so
   abbrev pub FindsBehind : SlotId → Option SlotId → SeatState View → SeatState View → Type 0
   FindsBehind first None old new =
       FindsNull fits d (Field first 0) next_next (NextTells (ends_of d)) old new

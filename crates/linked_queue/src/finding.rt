@@ -1,7 +1,7 @@
 //! The end of the queue: a seat finds the last node by the tail cell.
 //!
-//! The seat holds what it walks over: a reference to the node in the tail cell, then one to the node behind it. It gives
-//! up the one that isn't the last node.
+//! The seat holds what it walks over: a reference to the node in the tail cell, then one to the node behind it. It
+//! gives up the one that isn't the last node.
 ghost use Rattle.std.specs.Prelude.{◌≡◌, ◌≢◌, ◌<◌, ◌≤◌, ◌+◌, false, IfErr, IfOk, IfSome, None};
 ghost use Rattle.plain_state.specs.declared.act.EventPlace.TheVariants.{Cell, Field};
 ghost use Rattle.core_events.specs.Steps.{HasRoom};

@@ -35,12 +35,12 @@ use queue_protocol::{HasQueue, QueueLaw};
 use slot_store::MakeError;
 
 impl LinkedQueue {
-    /// Appends an item to the queue, in one try, and gives the seat's reference to it. `Again` only where a place of the
-    /// queue changed meanwhile, which this call didn't change: it showed `seen` and then `now` to events of this call.
-    /// `Refused` with the causes of `make`; `AddsSpent` may come of a later increment of the call, at most five adds
-    /// were left, and none is left then. Where it is refused nothing is pushed, and the item is handed back; a node
-    /// that was made is given up. One make at most, and none where `make` has refused for the makes or the slots. At
-    /// most 51 steps more than there are slots, and four collects.
+    /// Appends an item to the queue, in one try, and gives the seat's reference to it. `Again` only where a place of
+    /// the queue changed meanwhile, which this call didn't change: it showed `seen` and then `now` to events of this
+    /// call. `Refused` with the causes of `make`; `AddsSpent` may come of a later increment of the call, at most five
+    /// adds were left, and none is left then. Where it is refused nothing is pushed, and the item is handed back; a
+    /// node that was made is given up. One make at most, and none where `make` has refused for the makes or the slots.
+    /// At most 51 steps more than there are slots, and four collects.
     pub fn try_push<S, P: HasQueue<S>>(
         &self,
         domain: &Domain<P>,

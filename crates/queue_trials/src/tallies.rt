@@ -5,16 +5,16 @@ use std::alloc::{AllocError, Global};
 /// The letters of one sender: how often each was taken, the least number that may come next where they come in order,
 /// and whether they did.
 #[derive(Drop)]
-struct Line {
+struct SenderTally {
     times: Vec<u8>,
     next: u64,
     ordered: bool,
 }
 
-impl Line {
+impl SenderTally {
     /// None of so many letters was taken.
-    fn new(alloc: Global, letters: usize) -> Result<Line, AllocError> {
-        Ok(Line {
+    fn new(alloc: Global, letters: usize) -> Result<SenderTally, AllocError> {
+        Ok(SenderTally {
             times: vec![in alloc; 0; letters]?,
             next: 0,
             ordered: true,
@@ -32,7 +32,7 @@ impl Line {
     }
 
     /// What another taker took was taken too.
-    fn add(&mut self, other: &Line) {
+    fn add(&mut self, other: &SenderTally) {
         self.ordered &= other.ordered;
         for (times, more) in self.times.iter_mut().zip(other.times.iter()) {
             *times = times.saturating_add(*more);
@@ -43,27 +43,27 @@ impl Line {
 /// The letters of some senders that one taker took, or several.
 #[derive(Drop)]
 pub struct Tally {
-    lines: Vec<Line>,
+    tallies: Vec<SenderTally>,
     strange: bool,
 }
 
 impl Tally {
     /// Nothing was taken of so many senders, who send so many letters each.
     pub fn new(alloc: Global, senders: usize, letters: usize) -> Result<Tally, AllocError> {
-        let mut lines = Vec::new(alloc);
+        let mut tallies = Vec::new(alloc);
         for _sender in 0..senders {
-            lines.push(Line::new(alloc, letters)?)?;
+            tallies.push(SenderTally::new(alloc, letters)?)?;
         }
         Ok(Tally {
-            lines,
+            tallies,
             strange: false,
         })
     }
 
     /// One more letter was taken.
     pub fn note(&mut self, letter: Letter) {
-        match self.lines.get_mut(letter.sender as usize) {
-            Some(line) => line.note(letter.number),
+        match self.tallies.get_mut(letter.sender as usize) {
+            Some(sender) => sender.note(letter.number),
             None => self.strange = true,
         }
     }
@@ -71,19 +71,19 @@ impl Tally {
     /// What another taker took was taken too.
     pub fn add(&mut self, other: &Tally) {
         self.strange |= other.strange;
-        for (line, more) in self.lines.iter_mut().zip(other.lines.iter()) {
-            line.add(more);
+        for (sender, more) in self.tallies.iter_mut().zip(other.tallies.iter()) {
+            sender.add(more);
         }
     }
 
     /// Whether each letter of each sender was taken once, and no other one.
     pub fn has_each_once(&self) -> bool {
-        let once = |line: &Line| line.times.iter().all(|times| *times == 1);
-        !self.strange && self.lines.iter().all(once)
+        let once = |sender: &SenderTally| sender.times.iter().all(|times| *times == 1);
+        !self.strange && self.tallies.iter().all(once)
     }
 
     /// Whether each taker took the letters of each sender in that sender's order.
     pub fn is_ordered(&self) -> bool {
-        self.lines.iter().all(|line| line.ordered)
+        self.tallies.iter().all(|sender| sender.ordered)
     }
 }

@@ -1,13 +1,26 @@
-use Rattle.std.proofs.Common.{◌∙◌, ap, length-append, arith, [], ◌∷◌, ◌++◌}
+use Rattle.std.proofs.Common.{◌∙◌, ap, length, length-append, arith, [], ◌∷◌, ◌++◌}
 use Rattle.core_events.specs.declared.shape.Shape.{Shape}
 use Rattle.acquire_retire.specs.Domains.{DomainState}
 use Rattle.acquire_retire.proofs.Collects.{is_of_after}
-use Rattle.acquire_retire.proofs.Readings.{reads_more}
+use Rattle.acquire_retire.proofs.Readings.{not_last, reads_more}
 use Rattle.acquire_retire.proofs.domain.Domain.read_on.Goals as goal
 
-pub scan-requires-clause-seat : goal.scan-requires-clause-seat
-scan-requires-clause-seat g c = is_of_after c.args.self.now _ c.args.seat.now c.loop-place.seat
+pub read_next-requires-clause-seat : goal.read_next-requires-clause-seat
+read_next-requires-clause-seat g c = is_of_after c.args.self.now _ c.args.seat.now c.loop-place.seat
     c.requires.seat c.loop-place.invariant.2.goes
+
+pub read_next-requires-clause-place : goal.read_next-requires-clause-place
+read_next-requires-clause-place g c =
+    let len = c.loop-place.invariant.1 in
+    let read = ap length c.loop-place.invariant.2.reads in omega arith
+
+pub read_next-requires-clause-more : goal.read_next-requires-clause-more
+read_next-requires-clause-more g c =
+    let len = c.loop-place.invariant.1 in
+    let read = ap length c.loop-place.invariant.2.reads in
+    let shape = c.self.invariant.same ∙ ap (λ (d : DomainState _). d.shape) c.self.view_is in
+    let seats = ap (λ (z : Shape). z.seats) shape in
+    not_last c.args.self.now.shape c.loop-place.seat.view.core (omega arith)
 
 pub loop-place-preserved : goal.loop-place-preserved
 loop-place-preserved g c =
@@ -15,9 +28,9 @@ loop-place-preserved g c =
     let len = c.loop-place.invariant.1 in
     let shape = c.self.invariant.same ∙ ap (λ (d : DomainState _). d.shape) c.self.view_is in
     let seats = ap (λ (z : Shape). z.seats) shape in
-    let more = length-append seen (c.scan.ensures.word ∷ []) in (
-      seen ++ c.scan.ensures.word ∷ [],
+    let more = length-append seen (c.read_next.ensures.word ∷ []) in (
+      seen ++ c.read_next.ensures.word ∷ [],
       omega arith,
-      reads_more c.args.self.now seen c.args.seat.now c.loop-place.seat c.scan.new.seat c.scan.result
-          c.loop-place.invariant.2 (omega arith) c.scan.ensures,
+      reads_more c.args.self.now seen c.args.seat.now c.loop-place.seat c.read_next.new.seat c.read_next.result
+          c.loop-place.invariant.2 (omega arith) c.read_next.ensures,
     )

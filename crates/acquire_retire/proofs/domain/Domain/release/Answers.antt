@@ -1,6 +1,8 @@
-use Rattle.std.proofs.Common.{refl}
+use Rattle.std.proofs.Common.{refl, ap, ◌∙◌, None}
 use Rattle.core_events.specs.declared.act.Act.TheVariants as act
-use Rattle.acquire_retire.proofs.Calls.{call_tells, can_still}
+use Rattle.acquire_retire.specs.Seats.{SeatState}
+use Rattle.acquire_retire.proofs.Calls.{call_tells, can_still, seat_after}
+use Rattle.acquire_retire.proofs.Noting.{announces, released_kept}
 use Rattle.acquire_retire.proofs.domain.Domain.release.Goals as goal
 
 pub store_as-requires-clause-can : goal.store_as-requires-clause-can
@@ -12,3 +14,13 @@ pub returns : goal.returns
 returns g c =
     call_tells c.args.self.now _ _ (act.Release c.args.note) c.seat.inside.seat c.store_as.new.seat c.store_as.ensures.0 c.store_as.ensures.1
     c.args.seat.now c.seat.view_is _ refl
+
+pub invariant_of-seat : goal.invariant_of-seat
+invariant_of-seat g c =
+    let a = act.Release c.args.note in
+    let shape = ap (λ (s : SeatState _). s.view.core.shape) c.seat.view_is ∙ c.requires.seat.1 in
+    let found = c.store_as.ensures.0 in
+    seat_after c.args.self.now _ _ a c.seat.inside.seat c.store_as.new.seat found
+    c.store_as.ensures.1 (announces c.args.note None) _ _ _ _ shape c.seat.invariant.stores
+    c.seat.invariant.rooms
+    (released_kept c.args.self.now.shape c.args.note found c.seat.inside.seat.me.0.core)

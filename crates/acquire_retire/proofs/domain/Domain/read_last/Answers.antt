@@ -1,10 +1,11 @@
 use Rattle.std.proofs.Common.{rules, refl, ap, ◌∙◌}
 use Rattle.core_events.specs.declared.act.Act.TheVariants as act
-use Rattle.acquire_retire.specs.Domains.{DomainState}
+use Rattle.core_events.specs.Steps.{is_last}
+use Rattle.acquire_retire.specs.Seats.{SeatState}
 use Rattle.acquire_retire.proofs.Calls.{call_tells, can_still}
 use Rattle.acquire_retire.proofs.Dying.{room_for_ripe}
-use Rattle.acquire_retire.proofs.Scans.{reads_last, reads_on, reads_word, ripe_after, room_to_read, scan_ends, split_answers}
-use Rattle.acquire_retire.proofs.domain.Domain.scan.Goals as goal
+use Rattle.acquire_retire.proofs.Scans.{ripe_after, room_to_read, scan_ends, split_answers}
+use Rattle.acquire_retire.proofs.domain.Domain.read_last.Goals as goal
 
 pub load_as-found-requires-clause-can : goal.load_as-found-requires-clause-can
 load_as-found-requires-clause-can g c = can_still c.args.self.now _ act.Scan
@@ -17,14 +18,13 @@ note-requires g c =
     c.seat.invariant.stores c.seat.invariant.rooms in
     search rules
 
-pub invariant_of-seat-2 : goal.invariant_of-seat-2
-invariant_of-seat-2 g c =
+pub invariant_of-seat : goal.invariant_of-seat
+invariant_of-seat g c =
     let can = can_still c.args.self.now g.P.Kind.PayloadKind.fits act.Scan c.seat.inside.seat
     c.args.seat.now c.seat.view_is c.seat.invariant.seated c.requires.seat tt tt
     c.requires.may in
-    let shape = c.self.invariant.same ∙ ap (λ (d : DomainState _). d.shape) c.self.view_is in
-    let last = reads_last c.args.self.now.shape _ c.seat.inside.seat.me.0.core _ shape
-    c.seat.invariant.stores c.if-seat-self.false in
+    let last = ap (λ (s : SeatState _). is_last c.args.self.now.shape s.view.core) c.seat.view_is
+    ∙ c.requires.last in
     rw (
       c.split-stay.ensures.batch,
       c.ripen.ensures,
@@ -39,9 +39,8 @@ ripen-requires g c =
     let can = can_still c.args.self.now g.P.Kind.PayloadKind.fits act.Scan c.seat.inside.seat
     c.args.seat.now c.seat.view_is c.seat.invariant.seated c.requires.seat tt tt
     c.requires.may in
-    let shape = c.self.invariant.same ∙ ap (λ (d : DomainState _). d.shape) c.self.view_is in
-    let last = reads_last c.args.self.now.shape _ c.seat.inside.seat.me.0.core _ shape
-    c.seat.invariant.stores c.if-seat-self.false in
+    let last = ap (λ (s : SeatState _). is_last c.args.self.now.shape s.view.core) c.seat.view_is
+    ∙ c.requires.last in
     rw c.note.ensures
     (room_for_ripe c.args.self.now _ c.self.view_is _ c.self.invariant _ _ act.Scan
     c.seat.inside.seat c.load_as-found.new.seat _ c.load_as-found.ensures tt can.shape _ _ _ _
@@ -49,23 +48,13 @@ ripen-requires g c =
     (ripe_after c.args.self.now _ _ c.seat.inside.seat c.load_as-found.new.seat
     c.load_as-found.result c.load_as-found.ensures _ _ _ _ c.seat.invariant can.shape last))
 
-pub returns-then-seat-self : goal.returns-then-seat-self
-returns-then-seat-self g c =
-    let shape = c.self.invariant.same ∙ ap (λ (d : DomainState _). d.shape) c.self.view_is in
-    let on = reads_on c.args.self.now.shape _ c.seat.inside.seat.me.0.core _ shape
-    c.seat.invariant.stores c.if-seat-self.true in
-    call_tells c.args.self.now _ _ act.Scan c.seat.inside.seat c.load_as-found.new.seat
-    c.load_as-found.result c.load_as-found.ensures c.args.seat.now c.seat.view_is _
-    (reads_word c.args.self.now.shape c.seat.inside.seat.me.0.core c.load_as-found.result on)
-
 pub returns : goal.returns
 returns g c =
     let can = can_still c.args.self.now g.P.Kind.PayloadKind.fits act.Scan c.seat.inside.seat
     c.args.seat.now c.seat.view_is c.seat.invariant.seated c.requires.seat tt tt
     c.requires.may in
-    let shape = c.self.invariant.same ∙ ap (λ (d : DomainState _). d.shape) c.self.view_is in
-    let last = reads_last c.args.self.now.shape _ c.seat.inside.seat.me.0.core _ shape
-    c.seat.invariant.stores c.if-seat-self.false in
+    let last = ap (λ (s : SeatState _). is_last c.args.self.now.shape s.view.core) c.seat.view_is
+    ∙ c.requires.last in
     let e = c.split-stay.ensures in
     call_tells c.args.self.now _ _ act.Scan c.seat.inside.seat c.load_as-found.new.seat
     c.load_as-found.result c.load_as-found.ensures c.args.seat.now c.seat.view_is _
