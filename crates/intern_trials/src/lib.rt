@@ -18,6 +18,8 @@ mod tests;
 #[cfg(test)]
 mod tests_places;
 #[cfg(test)]
+mod tests_spent;
+#[cfg(test)]
 mod tests_threads;
 mod turns;
 

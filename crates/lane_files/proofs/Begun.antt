@@ -32,6 +32,7 @@ use Rattle.words_law.specs.Views.{View}
 use Rattle.words_protocol.specs.declared.law.WordsLaw.{WordsLaw}
 use Rattle.lane_files.specs.Passed.{begins}
 use Rattle.lane_files.specs.Ready.{HasPoppedIn, Owns}
+use Rattle.lane_files.proofs.Scanned.{more_scans}
 
 module _ (s : SlotId) (old : SeatState View) (owned : 0 < times s old.view.core.owned) where
   has : HasSlot (show_seat old.view.core) s
@@ -99,6 +100,7 @@ module _ (s : SlotId) (old : SeatState View) (owned : 0 < times s old.view.core.
             weakly = left.weakly;
             same = left.same;
             knows = left.knows;
+            scans = more_scans old new left.goes;
           }
 
       pub room : HasRoom old.view.core → HasRoom new.view.core

@@ -49,6 +49,7 @@ counts_nothing a before after tally kept = record {
       (λ x. ap (times x) (sym (append-nil a.view.core.owned)));
   interns = uses_none a.view.client a.view.client refl;
   makes = let n = makes_none in omega arith;
+  scans = omega arith;
 }
 
 -- so many words are counted, and the marks are those of what is kept
@@ -113,6 +114,8 @@ module _ (ws : List (List ℕ)) (w : List ℕ) (a b c : SeatState View) (la lb l
         (sym (length-append ws (w ∷ [])))
         (uses_then (length ws) 1 a.view.client b.view.client c.view.client so_far.interns next.interns);
     makes = let m = makes_more ws w in let f = so_far.makes in let n = next.makes in omega arith;
+    scans = let l = length-append ws (w ∷ []) in let f = so_far.scans in let n = next.scans in
+        omega arith;
   }
 
   marks_on : (s : SlotId) → has lc.keeper s ≡ nat_lt 0 (times s (slots_of all_more))
@@ -143,6 +146,7 @@ begun w b c lane turn lc next = record {
   owns = next.owns;
   interns = next.interns;
   makes = next.makes;
+  scans = next.scans;
 }
 
 pub stopped_begun : (fits : List ℕ → Type 0) (d : DomainState WordsLaw) (w : List ℕ) (error : FileError)

@@ -17,6 +17,7 @@ use Rattle.words_protocol.specs.declared.law.WordsLaw.{WordsLaw}
 use Rattle.lane_files.specs.Passed.{Takes, did}
 use Rattle.lane_files.specs.Ready.{Owns}
 use Rattle.lane_files.proofs.PiecesCounted.{none_more, tallies_none}
+use Rattle.lane_files.proofs.Scanned.{more_scans}
 use Rattle.lane_files.specs.Lanes.{OwnsAfter, beside_tickets}
 
 pub after_none : (a : SeatState View) → OwnsAfter a.view.core.owned a a
@@ -25,6 +26,7 @@ after_none a = record {
   weakly = λ x. refl;
   same = refl;
   knows = λ x was is. refl;
+  scans = omega arith;
 }
 
 pub after_owns : {os : List SlotId} (a b : SeatState View) → Owns os a b → OwnsAfter os a b
@@ -33,6 +35,7 @@ after_owns a b owns = record {
   weakly = owns.weakly;
   same = ap (λ (v : CoreView). record v { tickets = [] }) owns.same;
   knows = owns.knows;
+  scans = owns.scans;
 }
 
 pub after_as : {os : List SlotId} (xs : List SlotId) (a b : SeatState View) → OwnsAfter os a b
@@ -42,6 +45,7 @@ after_as xs a b owns same = record {
   weakly = owns.weakly;
   same = owns.same;
   knows = owns.knows;
+  scans = owns.scans;
 }
 
 holds_after : (x : SlotId) (v w : CoreView) → beside_tickets v ≡ beside_tickets w
@@ -63,6 +67,7 @@ after_then a b c first second more = record {
       let at = holds_after x a.view.core b.view.core (sym first.same)
       (let m = more x in let w = first.weakly x in omega arith) was in
       second.knows x at is ∙ first.knows x was at;
+  scans = let p = first.scans in let q = second.scans in omega arith;
 }
 
 did_none : (v : QueueView) → did [] [] v ≡ v
@@ -81,6 +86,7 @@ module _ (d : DomainState WordsLaw) (ticket : ℕ) (a b : SeatState View)
     weakly = λ x. ap (λ (v : CoreView). times x v.weaks) draws.core;
     same = ap beside_tickets draws.core;
     knows = λ x was is. draws.knows x was;
+    scans = more_scans a b (draws.moves, ap (λ (v : CoreView). v.trail) draws.core);
   }
 
   takes_quota : (t : List (List ℕ × ℕ)) → Takes [] 0 a.view.client

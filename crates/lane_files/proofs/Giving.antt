@@ -19,6 +19,7 @@ gives_none a = record {
   weakly = λ x. refl;
   same = refl;
   knows = λ x was is. refl;
+  scans = omega arith;
 }
 
 -- what was owned, by what is left of it
@@ -30,6 +31,7 @@ gives_by os gone a b sum owns = record {
   weakly = owns.weakly;
   same = owns.same;
   knows = owns.knows;
+  scans = owns.scans;
 }
 
 owns_given : (os gone : List SlotId) (a b : SeatState View)
@@ -40,6 +42,7 @@ owns_given os gone a b sum gives = record {
   weakly = gives.weakly;
   same = gives.same;
   knows = gives.knows;
+  scans = gives.scans;
 }
 
 -- one more, of those that are left

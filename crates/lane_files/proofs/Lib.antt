@@ -2,10 +2,12 @@ pub mod Begun
 pub mod Copied
 pub mod PiecesCounted
 pub mod Interned
+pub mod Scanned
 pub mod SeatsKept
 pub mod Missed
 pub mod Offered
 pub mod Passed
+pub mod Pushed
 pub mod Read
 pub mod Taken
 pub mod Unmade

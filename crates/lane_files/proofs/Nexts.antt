@@ -1,5 +1,5 @@
 -- One piece that was counted, whose record was kept or given up, and then what ended was destroyed.
-use Rattle.std.proofs.Common.{◌≡◌, ℕ, ◌+◌, ◌<◌, ◌≤◌, Bool, true, List, [], ◌∷◌, ◌++◌, refl, sym, subst, ◌∙◌}
+use Rattle.std.proofs.Common.{◌≡◌, ℕ, ◌+◌, ◌<◌, ◌≤◌, Bool, true, List, [], ◌∷◌, ◌++◌, refl, sym, subst, ◌∙◌, arith}
 use Rattle.std.specs.Prelude.{cond}
 use Rattle.plain_state.specs.declared.slot.SlotId.{SlotId}
 use Rattle.plain_state.specs.Lists.{times}
@@ -10,6 +10,7 @@ use Rattle.cdrc_text.specs.Text.{slots_of_word}
 use Rattle.words_law.specs.Views.{View}
 use Rattle.lane_files.specs.Passed.{Takes, UsesInterns}
 use Rattle.lane_files.specs.Ready.{Owns}
+use Rattle.lane_files.specs.Scans.{scans_of}
 use Rattle.lane_files.proofs.Offered.{texts}
 use Rattle.lane_files.specs.declared.lane.Lane.{Lane}
 use Rattle.lane_files.specs.Keeping.{KeepsOne, has}
@@ -27,7 +28,8 @@ module _ (w : List ℕ) (h : Handle) (b m k c : SeatState View) (before after : 
     (tidies : Owns k.view.core.owned k c)
     (same_tidy : c.view.client ≡ k.view.client)
     (held : (s : SlotId) → has before.keeper s ≡ true → 0 < times s b.view.core.owned)
-    (makes : c.view.core.makes ≤ b.view.core.makes + slots_of_word w + 1) where
+    (makes : c.view.core.makes ≤ b.view.core.makes + slots_of_word w + 1)
+    (scans : scans_of k + 1 ≤ scans_of c) where
   same_view : c.view.client ≡ m.view.client
   same_view = same_tidy ∙ same_keep
 
@@ -46,4 +48,5 @@ module _ (w : List ℕ) (h : Handle) (b m k c : SeatState View) (before after : 
     owns = owns_next h b.view.core.owned keeps.more b m k c first (λ x. refl) keeps.owns tidies;
     interns = subst (λ (v : View). UsesInterns 1 b.view.client v) (sym same_view) interns;
     makes = makes;
+    scans = let p = first.scans in let q = keeps.owns.scans in omega (arith, scans);
   }

@@ -27,6 +27,7 @@ use Rattle.words_law.specs.Views.{View}
 use Rattle.words_protocol.specs.declared.law.WordsLaw.{WordsLaw}
 use Rattle.lane_files.specs.Passed.{UsesInterns}
 use Rattle.lane_files.specs.Ready.{IsReady, Owns, Shared}
+use Rattle.lane_files.proofs.Scanned.{more_scans}
 
 pub owns_none : (a : SeatState View) → Owns a.view.core.owned a a
 owns_none a = record {
@@ -34,6 +35,7 @@ owns_none a = record {
   weakly = λ x. refl;
   same = refl;
   knows = λ x was is. refl;
+  scans = omega arith;
 }
 
 -- by what a call of a directory leaves, and a call of a queue
@@ -43,6 +45,7 @@ owns_by a b left = record {
   weakly = left.weakly;
   same = left.same;
   knows = left.knows;
+  scans = more_scans a b left.goes;
 }
 
 pub owns_queue : {os : List SlotId} (a b : SeatState View)
@@ -52,6 +55,7 @@ owns_queue a b left = record {
   weakly = λ x. ap (λ (v : CoreView). times x v.weaks) left.same;
   same = ap (λ (v : CoreView). record v { weaks = [] }) left.same;
   knows = left.knows;
+  scans = more_scans a b left.trail;
 }
 
 pub owns_both : {os : List SlotId} (a b : SeatState View)
@@ -62,6 +66,7 @@ owns_both a b left = record {
   weakly = left.weakly;
   same = left.same;
   knows = left.knows;
+  scans = more_scans a b left.trail;
 }
 
 -- one call after another, between which the seat holds all that it holds before and after both
@@ -75,6 +80,7 @@ owns_then a b c first second more = record {
   same = second.same ∙ first.same;
   knows = λ x was is.
       let at = holds x was is in second.knows x at is ∙ first.knows x was at;
+  scans = let p = first.scans in let q = second.scans in omega arith;
 }
   where
     holds : (x : SlotId) → Holds a.view.core x → Holds c.view.core x → Holds b.view.core x
@@ -140,6 +146,7 @@ owns_as xs a b owns same = record {
   weakly = owns.weakly;
   same = owns.same;
   knows = owns.knows;
+  scans = owns.scans;
 }
 
 -- after a call that left what the seat owns

@@ -23,6 +23,7 @@ use Rattle.lane_files.specs.Counting.{CountsFile, KeepsRecords, StopsInFile}
 use Rattle.lane_files.specs.Keeping.{slots_of}
 use Rattle.lane_files.specs.Lanes.{CountsTickets, KeepsFiles, OwnsAfter}
 use Rattle.lane_files.specs.Makes.{makes_for}
+use Rattle.lane_files.specs.Scans.{scans_of}
 use Rattle.lane_files.specs.Work.{is_last, kept_files, words_of, words_of_all}
 use Rattle.lane_files.proofs.Counted.{takes_after}
 use Rattle.lane_files.proofs.Drawn.{after_as, after_then}
@@ -108,6 +109,7 @@ tickets_none work a b lane takes owns makes = record {
   owns = after_as (a.view.core.owned ++ []) a b owns
       (λ x. ap (times x) (sym (append-nil a.view.core.owned)));
   makes = omega (arith, makes);
+  scans = let e = ap length (words_none work) in let s = owns.scans in omega arith;
 }
 
 -- one file, whose records are kept
@@ -133,6 +135,9 @@ module _ (work : Work) (t : ℕ) (a b c : SeatState View) (la lb lc : Lane)
   makes_one : b.view.core.makes ≤ a.view.core.makes + makes_for (words_of_all work (t ∷ []))
   makes_one = let m = counts.makes in let e = ap makes_for (words_one work t) in omega arith
 
+  scans_one : scans_of a + length (words_of_all work (t ∷ [])) ≤ scans_of b
+  scans_one = let s = counts.scans in let e = ap length (words_one work t) in omega arith
+
   pub ticket_kept : OwnsAfter (a.view.core.owned ++ slots_of counts.more) a b
       → is_last work t ≡ true → CountsTickets work (t ∷ []) a b la lb
   ticket_kept owns is = record {
@@ -145,13 +150,15 @@ module _ (work : Work) (t : ℕ) (a b c : SeatState View) (la lb lc : Lane)
         (slots_of counts.more, [], counts.records, refl, sym (append-nil (slots_of counts.more)));
     owns = owns;
     makes = makes_one;
+    scans = scans_one;
   }
 
   pub ticket_given : OwnsAfter a.view.core.owned a c → is_last work t ≡ false
       → c.view.client ≡ b.view.client → lc.tally ≡ lb.tally
       → lc.keeper.kept.items ≡ la.keeper.kept.items
-      → c.view.core.makes ≡ b.view.core.makes → CountsTickets work (t ∷ []) a c la lc
-  ticket_given owns is view tally kept makes = record {
+      → c.view.core.makes ≡ b.view.core.makes → scans_of b ≤ scans_of c
+      → CountsTickets work (t ∷ []) a c la lc
+  ticket_given owns is view tally kept makes scans = record {
     taken = counts.taken;
     most = most_one;
     takes = subst (λ ts. Takes (words_of_all work (t ∷ [])) counts.taken a.view.client c.view.client
@@ -164,6 +171,7 @@ module _ (work : Work) (t : ℕ) (a b c : SeatState View) (la lb lc : Lane)
     owns = after_as (a.view.core.owned ++ []) a c owns
         (λ x. ap (times x) (sym (append-nil a.view.core.owned)));
     makes = let m = makes_one in omega (arith, makes);
+    scans = let s = scans_one in omega (arith, scans);
   }
 
 -- one after the other
@@ -219,6 +227,9 @@ module _ (work : Work) (ts us : List ℕ) (a b c : SeatState View) (la lb lc : L
     makes = let m = first.makes in let n = second.makes in
         let e = ap makes_for (words_both work ts us) in
         let b = makes_both (words_of_all work ts) (words_of_all work us) in omega arith;
+    scans = let p = ap length (words_both work ts us) in
+        let q = length-append (words_of_all work ts) (words_of_all work us) in
+        let m = first.scans in let n = second.scans in omega arith;
   }
 
 -- a file by its words

@@ -1,5 +1,5 @@
 -- What a collect and a reap leave of a seat.
-use Rattle.std.proofs.Common.{◌≡◌, ⊎_elim, ℕ, List, [], ap}
+use Rattle.std.proofs.Common.{◌≡◌, ◌≤◌, ◌+◌, ⊎_elim, ℕ, List, [], ap, arith}
 use Rattle.std.specs.Prelude.{None, Option, Some}
 use Rattle.plain_state.specs.Lists.{times}
 use Rattle.core_events.specs.declared.view.CoreView.{CoreView}
@@ -14,20 +14,24 @@ use Rattle.words_protocol.specs.declared.law.WordsLaw.{WordsLaw}
 use Rattle.slot_store.proofs.Passing.{passes_collect}
 use Rattle.lane_files.specs.declared.shared.Shared.{Shared}
 use Rattle.lane_files.specs.Ready.{IsReady, Owns}
+use Rattle.lane_files.specs.Scans.{scans_of}
 use Rattle.lane_files.proofs.Copied.{copy_ready}
+use Rattle.lane_files.proofs.Scanned.{collect_scans, reap_scans}
 
 pub owns_rest : (a b : SeatState View) → rest_of b.view.core ≡ rest_of a.view.core → KnowsBoth a b
-    → Owns a.view.core.owned a b
-owns_rest a b same knows = record {
+    → scans_of a ≤ scans_of b → Owns a.view.core.owned a b
+owns_rest a b same knows scans = record {
   strongly = λ x. ap (λ (v : CoreView). times x v.owned) same;
   weakly = λ x. ap (λ (v : CoreView). times x v.weaks) same;
   same = ap (λ (v : CoreView). record v { owned = []; weaks = []; made = []; adds = 0; makes = 0 }) same;
   knows = λ x was is. knows x (holds_has a.view.core x was) (holds_has b.view.core x is);
+  scans = scans;
 }
 
 module _ (fits : List ℕ → Type 0) (d : DomainState WordsLaw) (a b : SeatState View) where
   pub owns_collect : Collected fits d a b → Owns a.view.core.owned a b
   owns_collect c = owns_rest a b c.collects.goes.rest (λ s was is. c.knows s was)
+      (let s = collect_scans d a b c in omega arith)
 
   reap_rest : (weight : List ℕ → ℕ) (answer : Option ℕ) → Answers fits d weight answer a b
       → rest_of b.view.core ≡ rest_of a.view.core
@@ -39,7 +43,8 @@ module _ (fits : List ℕ → Type 0) (d : DomainState WordsLaw) (a b : SeatStat
 
   pub owns_reap : (weight : List ℕ → ℕ) (answer : Option ℕ) → Answers fits d weight answer a b
       → KnowsBoth a b → Owns a.view.core.owned a b
-  owns_reap weight answer got knows = owns_rest a b (reap_rest weight answer got) knows
+  owns_reap weight answer got knows =
+      owns_rest a b (reap_rest weight answer got) knows (reap_scans d weight answer a b got)
 
   pub makes_collect : Collected fits d a b → b.view.core.makes ≡ a.view.core.makes
   makes_collect c = ap (λ (v : CoreView). v.makes) c.collects.goes.rest

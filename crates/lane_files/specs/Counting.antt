@@ -13,6 +13,7 @@ use Rattle.lane_files.specs.Passed.{Takes, UsesInterns}
 use Rattle.lane_files.specs.PieceMakes.{LacksMake}
 use Rattle.lane_files.specs.Pieces.{IsWhyNotCounted}
 use Rattle.lane_files.specs.Ready.{Owns}
+use Rattle.lane_files.specs.Scans.{scans_of}
 use Rattle.lane_files.specs.declared.lane.Lane.{Lane}
 use Rattle.lane_files.specs.declared.refusal.FileError.{FileError}
 use Rattle.lane_files.specs.declared.refusal.FileError.TheVariants as refused
@@ -38,7 +39,7 @@ pub record KeepsRecords (words : List (List ℕ)) (kept : List SlotId) (seat : S
 
 -- The lane pushed an item of each of these words, in order, popped at most as many items, and counted the words of
 -- these. It keeps one reference more to the record of each word, and used an intern for each. It made a node for each
--- word, and at most the slots of its record.
+-- word, and at most the slots of its record, and a whole scan or more for each word.
 pub record CountsFile (words : List (List ℕ)) (old new : SeatState View) (before after : Lane)
     : Type 0 where
   pub taken : ℕ
@@ -51,6 +52,7 @@ pub record CountsFile (words : List (List ℕ)) (old new : SeatState View) (befo
   pub owns : Owns (old.view.core.owned ++ slots_of more) old new
   pub interns : UsesInterns (length words) old.view.client new.view.client
   pub makes : new.view.core.makes ≤ old.view.core.makes + makes_for words
+  pub scans : scans_of old + length words ≤ scans_of new
 
 module _ (fits : List ℕ → Type 0) (d : DomainState WordsLaw) where
   -- Why a word wasn't counted: as `count_piece` tells it; or it was, and there was no memory to keep its record. The

@@ -1,5 +1,5 @@
 -- The references that a lane keeps.
-use Rattle.std.specs.Prelude.{◌≡◌, ◌==◌, ◌+◌, ◌++◌, Bool, true, cond, List, [], ◌∷◌, map}
+use Rattle.std.specs.Prelude.{◌≡◌, ◌≤◌, ◌==◌, ◌+◌, ◌++◌, Bool, true, cond, List, [], ◌∷◌, map}
 use Rattle.std.specs.HashSet.{contains_by}
 use Rattle.plain_state.specs.declared.slot.SlotId.{SlotId}
 use Rattle.plain_state.specs.Lists.{times}
@@ -10,6 +10,7 @@ use Rattle.acquire_retire.specs.Seats.{SeatState}
 use Rattle.directory_calls.specs.Steps.{aside}
 use Rattle.words_law.specs.Views.{View}
 use Rattle.lane_files.specs.Ready.{Owns}
+use Rattle.lane_files.specs.Scans.{scans_of}
 use Rattle.lane_files.specs.declared.keeper.Keeper.{Keeper}
 
 -- the slots of some references
@@ -35,7 +36,7 @@ pub record KeepsOne (handle : Handle) (before after : Keeper) (old new : SeatSta
       Owns (without handle.slot old.view.core.owned ++ slots_of more) old new
 
 -- The seat has given up these references. What it owns weakly and has beside is as it was, and so is what it knows of
--- the objects that it still holds.
+-- the objects that it still holds. It has made no fewer whole scans.
 pub record GivesUp (gone : List SlotId) (old new : SeatState View) : Type 0 where
   pub strongly :
       (x : SlotId) → times x new.view.core.owned + times x gone
@@ -45,3 +46,4 @@ pub record GivesUp (gone : List SlotId) (old new : SeatState View) : Type 0 wher
   pub knows :
       (x : SlotId) → Holds old.view.core x → Holds new.view.core x
       → object_in new.view x ≡ object_in old.view x
+  pub scans : scans_of old ≤ scans_of new

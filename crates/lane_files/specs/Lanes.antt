@@ -21,6 +21,7 @@ use Rattle.lane_files.specs.declared.refusal.LaneStop.TheVariants as stopped
 use Rattle.lane_files.specs.Counting.{KeepsRecords, StopsInFile}
 use Rattle.lane_files.specs.Keeping.{slots_of}
 use Rattle.lane_files.specs.Makes.{makes_for}
+use Rattle.lane_files.specs.Scans.{scans_of}
 use Rattle.lane_files.specs.Work.{all_tickets, kept_files, words_of, words_of_all}
 
 -- references to the records of some files, those of one file after those of the other
@@ -36,7 +37,8 @@ abbrev pub beside_tickets : CoreView → CoreView
 beside_tickets v = record (aside v) { tickets = [] }
 
 -- The seat owns these references strongly, and weakly what it owned, in some order. What it has beside, but for tickets
--- that it drew, is as it was, and so is what it knows of the objects that it held and still holds.
+-- that it drew, is as it was, and so is what it knows of the objects that it held and still holds. It has made no fewer
+-- whole scans.
 pub record OwnsAfter (owned : List SlotId) (old new : SeatState View) : Type 0 where
   pub strongly : (x : SlotId) → times x new.view.core.owned ≡ times x owned
   pub weakly : (x : SlotId) → times x new.view.core.weaks ≡ times x old.view.core.weaks
@@ -44,10 +46,11 @@ pub record OwnsAfter (owned : List SlotId) (old new : SeatState View) : Type 0 w
   pub knows :
       (x : SlotId) → Holds old.view.core x → Holds new.view.core x
       → object_in new.view x ≡ object_in old.view x
+  pub scans : scans_of old ≤ scans_of new
 
 -- The lane pushed an item of each word of the files of these tickets, in order, popped at most as many, and counted the
 -- words of these. Of each file in the last round it keeps one reference to the record of each word. It made a node for
--- each word, and at most the slots of its record.
+-- each word, and at most the slots of its record, and a whole scan or more for each word.
 pub record CountsTickets (work : Work) (tickets : List ℕ) (old new : SeatState View)
     (before after : Lane) : Type 0 where
   pub taken : ℕ
@@ -61,6 +64,7 @@ pub record CountsTickets (work : Work) (tickets : List ℕ) (old new : SeatState
   pub owns : OwnsAfter (old.view.core.owned ++ slots_of more) old new
   pub makes :
       new.view.core.makes ≤ old.view.core.makes + makes_for (words_of_all work tickets)
+  pub scans : scans_of old + length (words_of_all work tickets) ≤ scans_of new
 
 -- The tickets end with one of no file, or there are more of them than tickets that stand for a file: which can't be,
 -- since each ticket is drawn once, and who knows the tickets of all seats knows that.

@@ -3,6 +3,7 @@ pub mod Draining
 pub mod PieceMakes
 pub mod Pieces
 pub mod Ready
+pub mod Scans
 pub mod Whys
 pub mod Counting
 pub mod Files

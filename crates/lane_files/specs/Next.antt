@@ -8,11 +8,12 @@ use Rattle.cdrc_text.specs.Text.{slots_of_word}
 use Rattle.words_law.specs.Views.{View}
 use Rattle.lane_files.specs.Passed.{Takes, UsesInterns}
 use Rattle.lane_files.specs.Ready.{Owns}
+use Rattle.lane_files.specs.Scans.{scans_of}
 use Rattle.lane_files.specs.declared.lane.Lane.{Lane}
 use Rattle.lane_files.specs.Keeping.{has, slots_of}
 
 -- It pushed an item of the word and popped one, or none. Where no reference to the slot of the word's record was kept
--- for the file, one is kept now. It made a node, and at most the slots of one record.
+-- for the file, one is kept now. It made a node, and at most the slots of one record, and a whole scan or more.
 pub record CountsNext (word : List ℕ) (old new : SeatState View) (before after : Lane) : Type 0 where
   pub one : Bool
   pub takes :
@@ -29,3 +30,4 @@ pub record CountsNext (word : List ℕ) (old new : SeatState View) (before after
   pub owns : Owns (old.view.core.owned ++ slots_of more) old new
   pub interns : UsesInterns 1 old.view.client new.view.client
   pub makes : new.view.core.makes ≤ old.view.core.makes + slots_of_word word + 1
+  pub scans : scans_of old + 1 ≤ scans_of new

@@ -1,5 +1,5 @@
 -- What a seat needs to count words, and what a call leaves of it.
-use Rattle.std.specs.Prelude.{◌≡◌, ℕ, List}
+use Rattle.std.specs.Prelude.{◌≡◌, ◌≤◌, ℕ, List}
 use Rattle.plain_state.specs.declared.slot.SlotId.{SlotId}
 use Rattle.plain_state.specs.Lists.{times}
 use Rattle.core_events.specs.Steps.{HasRoom}
@@ -19,6 +19,7 @@ use Rattle.linked_queue.specs.Queues.{IsAttached}
 use Rattle.words_law.specs.Views.{View}
 use Rattle.words_protocol.specs.declared.law.WordsLaw.{WordsLaw}
 pub use Rattle.lane_files.specs.declared.shared.Shared.{Shared}
+use Rattle.lane_files.specs.Scans.{scans_of}
 
 -- the seat is at rest in a domain with this queue and this directory, and takes part in the queue
 pub record IsReady (d : DomainState WordsLaw) (on : Shared) (seat : SeatState View) : Type 0 where
@@ -38,7 +39,7 @@ HasPoppedIn s seat =
     (taken_items seat.view.client.0.popped)
 
 -- The seat owns these references strongly, and weakly what it owned, in some order. What it has beside is as it was,
--- and so is what it knows of the objects that it held and still holds.
+-- and so is what it knows of the objects that it held and still holds. It has made no fewer whole scans.
 pub record Owns (owned : List SlotId) (old new : SeatState View) : Type 0 where
   pub strongly : (x : SlotId) → times x new.view.core.owned ≡ times x owned
   pub weakly : (x : SlotId) → times x new.view.core.weaks ≡ times x old.view.core.weaks
@@ -46,3 +47,4 @@ pub record Owns (owned : List SlotId) (old new : SeatState View) : Type 0 where
   pub knows :
       (x : SlotId) → Holds old.view.core x → Holds new.view.core x
       → object_in new.view x ≡ object_in old.view x
+  pub scans : scans_of old ≤ scans_of new

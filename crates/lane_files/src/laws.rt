@@ -1,5 +1,5 @@
-//! Which makes are refused to lanes.
-ghost use Rattle.std.specs.Prelude.{◌≡◌, ◌≢◌, ◌<◌, Some};
+//! Which makes are refused to lanes, and what a lane has done until then.
+ghost use Rattle.std.specs.Prelude.{◌≡◌, ◌≢◌, ◌<◌, [], Some};
 ghost use Rattle.acquire_retire.specs.Domains.{DomainState};
 ghost use Rattle.acquire_retire.specs.Seats.{SeatState};
 ghost use Rattle.claim_law.specs.Claims.{makes_given};
@@ -11,6 +11,7 @@ ghost use Rattle.lane_files.specs.declared.refusal.LaneStop.{LaneStop};
 ghost use Rattle.lane_files.specs.declared.work.Work.{Work};
 ghost use Rattle.lane_files.specs.Lanes.{StopsLane};
 ghost use Rattle.lane_files.specs.Makes.{GrantsMakes, HasItsMakes, cause_of};
+ghost use Rattle.lane_files.specs.Scans.{HasScanned};
 
 use directory_protocol::RecordKind;
 use plain_state::PayloadKind;
@@ -32,4 +33,13 @@ pub fn full_domains_lack_slots()
         (old new : SeatState View) (before after : Lane)
         → StopsLane ⟦<PairKind<NodeKind, RecordKind> as PayloadKind>⟧.fits d work stop old new
         before after → cause_of stop ≡ Some unmade.Full → d.shape.slots < makes_given d.terms }
+{}
+
+/// Where a lane that had pushed nothing stops since each slot was found taken, it has made at least as many whole scans
+/// as it pushed items.
+pub fn full_lanes_have_scanned()
+    ensures { (d : DomainState WordsLaw) (work : Work) (stop : LaneStop)
+        (old new : SeatState View) (before after : Lane) → old.view.client.0.pushed ≡ []
+        → StopsLane ⟦<PairKind<NodeKind, RecordKind> as PayloadKind>⟧.fits d work stop old new
+        before after → cause_of stop ≡ Some unmade.Full → HasScanned new }
 {}

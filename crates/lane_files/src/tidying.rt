@@ -1,7 +1,8 @@
 //! How a lane destroys what ended.
-ghost use Rattle.std.specs.Prelude.{◌≡◌};
+ghost use Rattle.std.specs.Prelude.{◌≡◌, ◌≤◌, ◌+◌};
 ghost use Rattle.deleter.specs.Weighing.{Weighs};
 ghost use Rattle.lane_files.specs.Ready.{IsReady, Owns};
+ghost use Rattle.lane_files.specs.Scans.{scans_of};
 
 use crate::Shared;
 use acquire_retire::{Domain, Seat};
@@ -17,7 +18,7 @@ use words_protocol::WordsLaw;
 /// The most objects that a lane destroys after one piece.
 const MOST_REAPS: u32 = 4;
 
-/// Collects, and then destroys what is dying, four objects at most. A collect is at most a step for each announcement
+/// Collects, which is a whole scan, and then destroys what is dying, four objects at most. A collect is at most a step for each announcement
 /// word and three for each retired entry, and each object at most 21 steps and four collects.
 pub fn tidy<F: Fn(&[u64; 16]) -> u64>(
     domain: &Domain<WordsLaw>,
@@ -31,6 +32,7 @@ pub fn tidy<F: Fn(&[u64; 16]) -> u64>(
     ensures client { seat.new.view.client ≡ seat.old.view.client }
     ensures owns { Owns seat.old.view.core.owned seat.old seat.new }
     ensures makes { seat.new.view.core.makes ≡ seat.old.view.core.makes }
+    ensures scans { scans_of seat.old + 1 ≤ scans_of seat.new }
     ensures ready { IsReady domain.now shared.now seat.new }
 {
     collect(domain, seat);

@@ -48,6 +48,7 @@ module _ (all gone left rest : List Handle) (h : Handle) (is : gone ++ left ≡ 
         weakly = more.weakly;
         same = more.same;
         knows = more.knows;
+        scans = more.scans;
       }
 
 -- what a seat has beside its references is as it was

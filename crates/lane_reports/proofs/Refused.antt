@@ -9,7 +9,9 @@ use Rattle.control_word.specs.Resting.{IsSpent}
 use Rattle.slot_store.specs.declared.making.MakeError.{MakeError}
 use Rattle.slot_store.specs.declared.making.MakeError.TheVariants as unmade
 use Rattle.queue_law.specs.declared.view.Form.{Form}
+use Rattle.queue_law.specs.declared.view.View.{View as QueueView}
 use Rattle.words_law.specs.Views.{View}
+use Rattle.lane_files.specs.Scans.{HasScanned}
 use Rattle.words_protocol.specs.declared.law.WordsLaw.{WordsLaw}
 use Rattle.lane_files.specs.declared.refusal.LaneError.TheVariants as untaken
 use Rattle.lane_files.specs.declared.refusal.PieceError.{PieceError}
@@ -25,8 +27,9 @@ use Rattle.lane_files.specs.declared.work.Work.{Work}
 use Rattle.lane_files.specs.Lanes.{IsWhyStopped, StopsLane}
 use Rattle.lane_files.specs.PieceMakes.{cause_in}
 use Rattle.lane_files.specs.Makes.{HasItsMakes, cause_of}
+use Rattle.lane_files.proofs.Pushed.{full_scanned}
 use Rattle.core_law.proofs.Each.{get_each, length_each}
-use Rattle.lane_domain.specs.Opened.{IsDomainFor, fresh_lanes, fresh_seat}
+use Rattle.lane_domain.specs.Opened.{FindsNoSlot, IsDomainFor, fresh_lanes, fresh_seat}
 use Rattle.lane_domain.proofs.Enough.{attached_makes, makes_left, slots_lacked}
 use Rattle.lane_domain.specs.declared.ending.LaneEnd.{LaneEnd}
 use Rattle.lane_domain.specs.Beginning.{Attaches}
@@ -39,6 +42,12 @@ IsAdds None = ⊥
 IsAdds (Some unmade.AddsSpent) = Unit {0}
 IsAdds (Some unmade.MakesSpent) = ⊥
 IsAdds (Some unmade.Full) = ⊥
+
+-- seat 0 has pushed nothing that found no slot for the queue's first node
+pub unlaid_scanned : (fits : List ℕ → Type 0) (d : DomainState WordsLaw) (root : SeatState View)
+    → FindsNoSlot fits d root → HasScanned root
+unlaid_scanned fits d root finds =
+    let none = ap (λ (q : QueueView). length q.pushed) finds.goes.client in omega arith
 
 module _ (fits : List ℕ → Type 0) (d : DomainState WordsLaw) where
   copy_spent : (s : _) (why : MakeError) (old new : SeatState View) → IsAdds (Some why)
@@ -75,18 +84,18 @@ module _ (fits : List ℕ → Type 0) (d : DomainState WordsLaw) where
     module _ (lanes slots : ℕ) (form : Form) (is : IsDomainFor work lanes slots form d) where
       stop_why : (stop : LaneStop) (begun seat : SeatState View) (before after : Lane)
           (error : CountError) → StopsLane fits d work stop begun seat before after
-          → HasItsMakes d begun → (o : Option MakeError) → cause_of stop ≡ o → IsAnswerFor o seat error
+          → HasItsMakes d begun → begun.view.client.0.pushed ≡ [] → (o : Option MakeError) → cause_of stop ≡ o → IsAnswerFor o seat error
           → IsWhyNothing fits work lanes slots form error
       unfolding IsAdds
-      stop_why stop begun seat before after error stops has None cause answer =
+      stop_why stop begun seat before after error stops has new None cause answer =
           subst (IsWhyNothing fits work lanes slots form) (sym answer) tt
-      stop_why stop begun seat before after error stops has (Some unmade.AddsSpent) cause answer =
+      stop_why stop begun seat before after error stops has new (Some unmade.AddsSpent) cause answer =
           subst (IsWhyNothing fits work lanes slots form) (sym answer)
           (stop_spent stop stops.last seat stops.lane after (subst IsAdds (sym cause) tt) stops.why)
-      stop_why stop begun seat before after error stops has (Some unmade.MakesSpent) cause answer =
+      stop_why stop begun seat before after error stops has new (Some unmade.MakesSpent) cause answer =
           absurd (makes_left fits work lanes slots form d stop begun seat before after is has stops
           cause)
-      stop_why stop begun seat before after error stops has (Some unmade.Full) cause answer =
+      stop_why stop begun seat before after error stops has new (Some unmade.Full) cause answer =
           subst (IsWhyNothing fits work lanes slots form) (sym answer) (
             d,
             is,
@@ -99,6 +108,7 @@ module _ (fits : List ℕ → Type 0) (d : DomainState WordsLaw) where
               stops = stops;
               cause = cause;
             }),
+            full_scanned fits d work stop begun seat before after new stops cause,
           )
 
       pub lane_why : (on : Shared) (seats : List (SeatState View)) (ends : List LaneEnd)
@@ -130,4 +140,5 @@ module _ (fits : List ℕ → Type 0) (d : DomainState WordsLaw) where
           stop_why refusal.0 ends_one.begun ended.seat ends_one.lane ended.lane error
           (subst (λ (r : Result (Unit {0}) LaneStop).
           RunsOrStops fits d work r ends_one.begun ended.seat ends_one.lane ended.lane)
-          refusal.1 ends_one.runs) has (cause_of refusal.0) refl refusal.2
+          refusal.1 ends_one.runs) has ends_one.attaches.nothing.pushed (cause_of refusal.0) refl
+          refusal.2

@@ -1,3 +1,4 @@
 pub mod Enclosed
 pub mod Kept
 pub mod Opened
+pub mod Spent

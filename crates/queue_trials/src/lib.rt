@@ -32,6 +32,8 @@ mod tests_jobs;
 #[cfg(test)]
 mod tests_opening;
 #[cfg(test)]
+mod tests_spent;
+#[cfg(test)]
 mod tests_threads;
 mod tidying;
 

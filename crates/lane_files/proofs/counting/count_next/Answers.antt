@@ -35,7 +35,7 @@ returns-clause-counts g c =
     c.keep.new.seat c.tidy.new.seat c.args.lane.now _ c.in_ok-handle.ensures.counts
     c.in_ok-handle.ensures.knows c.in_ok-handle.ensures.owns c.in_ok-handle.ensures.interns
     c.in_ok-keep.ensures.keeps c.keep.ensures.client c.tidy.ensures.owns c.tidy.ensures.client
-    c.requires.held (returns-clause-makes g c)
+    c.requires.held (returns-clause-makes g c) c.tidy.ensures.scans
 
 pub returns-in_err-handle-clause-lacks : goal.returns-in_err-handle-clause-lacks
 returns-in_err-handle-clause-lacks g c =

@@ -50,7 +50,7 @@ returns-then-not-is_last-clause-counts g c =
     (c.give_back.ensures.kept ∙ ap (take c.len-kept.result) counts.kept
     ∙ take_at c.args.lane.now.keeper.kept.items counts.more c.len-kept.result
     (let o = c.args.lane.now.keeper.kept.ok.0 in let e = c.len-kept.ensures in omega (arith, o)))
-    c.give_back.ensures.makes
+    c.give_back.ensures.makes c.give_back.ensures.gives.scans
 
 pub returns-else-not-is_last-clause-counts : goal.returns-else-not-is_last-clause-counts
 returns-else-not-is_last-clause-counts g c =

@@ -1,5 +1,6 @@
 use Rattle.std.proofs.Common.{◌∙◌, arith}
 use Rattle.lane_files.proofs.Copied.{copy_ready}
+use Rattle.lane_files.proofs.Scanned.{collect_scans, reap_scans}
 use Rattle.lane_files.proofs.SeatsKept.{owns_on}
 use Rattle.lane_files.proofs.Tidied.{collect_same, makes_collect, makes_reap, owns_collect, owns_reap, ready_collect}
 use Rattle.lane_files.proofs.tidying.tidy.Goals as goal
@@ -10,6 +11,7 @@ loop-turn-init g c = record {
   client = collect_same c.args.seat.now c.collect.new.seat c.requires.ready c.collect.ensures;
   owns = owns_collect _ c.args.domain.now c.args.seat.now c.collect.new.seat c.collect.ensures;
   makes = makes_collect _ c.args.domain.now c.args.seat.now c.collect.new.seat c.collect.ensures;
+  scans = collect_scans c.args.domain.now c.args.seat.now c.collect.new.seat c.collect.ensures;
 }
 
 pub loop-turn-preserved : goal.loop-turn-preserved
@@ -25,4 +27,7 @@ loop-turn-preserved g c = record {
       c.reap.ensures.reaps c.reap.ensures.objects);
   makes = makes_reap _ c.args.domain.now c.loop-turn.seat c.reap.new.seat _ c.reap.result
       c.reap.ensures.reaps ∙ c.loop-turn.invariant.makes;
+  scans = let had = c.loop-turn.invariant.scans in
+      let more = reap_scans c.args.domain.now _ c.reap.result c.loop-turn.seat c.reap.new.seat
+      c.reap.ensures.reaps in omega arith;
 }

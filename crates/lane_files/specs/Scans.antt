@@ -1,0 +1,23 @@
+-- How many whole scans a seat has made.
+use Rattle.std.specs.Prelude.{ℕ, ◌≤◌, Bool, true, false, List, count_by, length}
+use Rattle.core_events.specs.declared.outcome.Outcome.{Outcome}
+use Rattle.core_events.specs.declared.outcome.Outcome.TheVariants as outcome
+use Rattle.core_events.specs.declared.view.Move.{Move}
+use Rattle.acquire_retire.specs.Seats.{SeatState}
+use Rattle.words_law.specs.Views.{View}
+
+-- a whole scan ends with the word that splits the retired entries
+abbrev pub ends_scan : Outcome → Bool
+ends_scan (outcome.Split last stay go) = true
+ends_scan o = false
+
+unfoldable pub scans_in : List Move → ℕ
+scans_in ms = count_by (λ (m : Move). ends_scan m.outcome) ms
+
+-- the whole scans in the seat's trail
+abbrev pub scans_of : SeatState View → ℕ
+scans_of seat = scans_in seat.view.core.trail
+
+-- at least as many as it pushed items
+abbrev pub HasScanned : SeatState View → Type 0
+HasScanned seat = length seat.view.client.0.pushed ≤ scans_of seat

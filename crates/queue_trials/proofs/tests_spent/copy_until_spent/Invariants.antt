@@ -1,0 +1,10 @@
+use Rattle.std.specs.Prelude.{◌<◌}
+use Rattle.plain_state.specs.Lists.{times}
+use Rattle.queue_trials.specs.Ready.{IsReady}
+use Rattle.queue_trials.proofs.tests_spent.copy_until_spent.Given as goal
+
+abbrev pub invariant-loop-copy : goal.invariant-loop-copy
+invariant-loop-copy l = record {
+  ready : IsReady l.domain l.seat;
+  owned : 0 < times l.item.slot l.seat.view.core.owned;
+}
