@@ -20,13 +20,14 @@ use Rattle.words_law.specs.Known.{ForgetsNothing, KnowsText}
 use Rattle.words_law.specs.Pushes.{MayPush}
 use Rattle.words_law.specs.Views.{View}
 use Rattle.core_events.specs.Steps.{HasRoom}
+use Rattle.core_events.specs.Views.{without}
 use Rattle.acquire_retire.specs.Domains.{DomainState}
 use Rattle.control_word.specs.Resting.{IsAtRest}
 use Rattle.directory_calls.specs.Directories.{HasQuota}
 use Rattle.linked_queue.specs.Queues.{IsAttached}
 use Rattle.words_protocol.specs.declared.law.WordsLaw.{WordsLaw}
 use Rattle.lane_files.specs.Passed.{Counts, did}
-use Rattle.lane_files.specs.Ready.{IsReady, Shared}
+use Rattle.lane_files.specs.Ready.{IsReady, Shared, Owns}
 use Rattle.lane_files.proofs.SeatsKept.{owns_both, ready_by}
 use Rattle.lane_files.proofs.PiecesCounted.{by_one, did_none, more_none, none_more}
 
@@ -127,6 +128,17 @@ module _ (old new : SeatState View) (same : new.view.client.1 ≡ old.view.clien
       → OnErr r (Counts [] [] old.view.client new.view.client)
   refused_idle (Ok done) nothing = tt
   refused_idle (Err error) nothing = idle nothing.deeds
+
+  pub offered_owns : {T E : Type 0} (s : SlotId) (r : Result T E)
+      → IfOk r (λ done. Pushes s (seen old) (seen new))
+      → OnOk r (Owns (without s old.view.core.owned) old new)
+  offered_owns s (Ok done) pushed = owns_both old new pushed.leaves
+  offered_owns s (Err error) pushed = tt
+
+  pub refused_owns : {T E : Type 0} (r : Result T E) → OnErr r (PushesNothing (seen old) (seen new))
+      → OnErr r (Owns old.view.core.owned old new)
+  refused_owns (Ok done) nothing = tt
+  refused_owns (Err error) nothing = owns_both old new nothing.leaves
 
   pub offer_ready : {T E : Type 0} {d : DomainState WordsLaw} {on : Shared} (s : SlotId)
       (r : Result T E) → IfOk r (λ done. Pushes s (seen old) (seen new))

@@ -38,14 +38,17 @@ texts_many v [] (t ∷ ts) known = absurd known
 texts_many v (x ∷ xs) [] known = absurd known
 texts_many v (x ∷ xs) (t ∷ ts) known = ap suc (texts_many v xs ts known.1)
 
+by_seat_many : (n : ℕ) (xs : List Item) → length (by_seat n xs) ≡ length xs
+unfolding by_seat
+by_seat_many n xs = length-map xs (λ (x : Item). record { item = x; taker = n })
+
 -- an item for each word
 pushed_many : (us ws : List (List ℕ)) (v w : View) → Counts us ws v w
     → length w.0.pushed ≡ length v.0.pushed + length us
-unfolding by_seat
 pushed_many us ws v w counts =
     let deeds = ap (λ (q : QueueView). length q.pushed) counts.deeds in
     let more = length-append v.0.pushed (by_seat v.0.number counts.pushes) in
-    let each = length-map counts.pushes (λ (x : Item). record { item = x; taker = v.0.number }) in
+    let each = by_seat_many v.0.number counts.pushes in
     let known = texts_many w.1 counts.pushes counts.pushed_words.0 counts.pushed_words.1 in
     let words = ap length counts.pushed_words.2 in
     let texts = length-map counts.pushed_words.0 text_bytes in omega arith

@@ -1,9 +1,10 @@
 -- Whole scans are never fewer than before, and a collect makes one more.
 use Rattle.std.proofs.Common.{◌≡◌, ◌≤◌, ⊎_elim, ℕ, ◌+◌, Bool, true, false, List, [], ◌∷◌, ◌++◌, length, refl, sym, ap, subst, ◌∙◌, arith}
-use Rattle.std.specs.Prelude.{cond, count_by, None, Option, Some}
+use Rattle.std.specs.Prelude.{cond, None, Option, Some}
 use Rattle.std.specs.Bool.{MatchBool}
 use Rattle.std.specs.List.{flat_map}
 use Rattle.std.proofs.lemmas.List.{append-nil}
+use Rattle.std.proofs.lemmas.List.Sums.{sum_by-append, sum_by-cons}
 use Rattle.plain_state.specs.declared.act.PlainAct.{PlainAct}
 use Rattle.plain_state.specs.State.{Plain}
 use Rattle.plain_protocol.specs.Owns.{OwnPart}
@@ -27,16 +28,9 @@ use Rattle.words_law.specs.Views.{View}
 use Rattle.words_protocol.specs.declared.law.WordsLaw.{WordsLaw}
 use Rattle.lane_files.specs.Scans.{ends_scan, scans_in, scans_of}
 
-one_or_none : (b : Bool) (m n : ℕ) → cond b (1 + (m + n)) (m + n) ≡ cond b (1 + m) m + n
-one_or_none true m n = omega arith
-one_or_none false m n = refl
-
 pub scans_both : (ms ns : List Move) → scans_in (ms ++ ns) ≡ scans_in ms + scans_in ns
 unfolding scans_in
-scans_both [] ns = refl
-scans_both (m ∷ ms) ns =
-    ap (λ n. cond (ends_scan m.outcome) (1 + n) n) (scans_both ms ns)
-    ∙ one_or_none (ends_scan m.outcome) (scans_in ms) (scans_in ns)
+scans_both ms ns = sum_by-append (λ (m : Move). cond (ends_scan m.outcome) 1 0) ms ns
 
 -- a trail that went on
 pub goes_scans : (a b : SeatState View) (ms : List Move)
@@ -51,11 +45,14 @@ more_scans a b (ms, goes) = let s = goes_scans a b ms goes in omega arith
 same_scans : (a b : SeatState View) → b ≡ a → scans_of a ≤ scans_of b
 same_scans a b same = let s = ap (λ (x : SeatState View). scans_of x) same in omega arith
 
-split_scans : (last stay go : ℕ) → scans_in (move act.Scan (outcome.Split last stay go) ∷ []) ≡ 1
+split_scans : (last stay go : ℕ)
+    → scans_in (move act.Scan (outcome.Split last stay go) ∷ []) ≡ 1
 unfolding scans_in
-split_scans last stay go = refl
+split_scans last stay go =
+    let m : Move = move act.Scan (outcome.Split last stay go) in
+    let s = sum_by-cons (λ (m : Move). cond (ends_scan m.outcome) 1 0) m [] in omega arith
 
-module _ {fits : List ℕ → Type 0} (d : DomainState WordsLaw) where
+module _ (fits : List ℕ → Type 0) (d : DomainState WordsLaw) where
   step_goes : {next : OwnPart → OwnPart → View → PlainAct → ℕ → View}
       {allows : Plain → Plain → ℕ → View → View → Type 0} (a : Act) (old new : SeatState View)
       (o : Outcome) → Steps fits d next allows a old new o
@@ -103,9 +100,10 @@ module _ {fits : List ℕ → Type 0} (d : DomainState WordsLaw) where
       → scans_of old ≤ scans_of new
   clear_scans p old new clears =
       let it = clears.swaps in
-      let put = more_scans old it.mid
-      (move (act.Swap p None) (outcome.Found clears.held) ∷ [],
-      ap (λ (v : CoreView). v.trail) it.puts.core) in
+      let put = more_scans old it.mid (
+        move (act.Swap p None) (outcome.Found clears.held) ∷ [],
+        ap (λ (v : CoreView). v.trail) it.puts.core,
+      ) in
       let due = due_scans it.mid new it.scans in omega arith
 
   find_scans : (o : Option SlotId) (old new : SeatState View) → FindsRipe fits d o old new
@@ -132,9 +130,10 @@ module _ {fits : List ℕ → Type 0} (d : DomainState WordsLaw) where
 
   pub reap_scans : (weight : List ℕ → ℕ) (answer : Option ℕ) (old new : SeatState View)
       → Answers fits d weight answer old new → scans_of old ≤ scans_of new
-  reap_scans weight None old new = ⊎_elim
+  reap_scans weight None old new got = ⊎_elim
       (λ none. same_scans old new none.1)
       (λ finds. find_scans None old new finds)
+      got
   reap_scans weight (Some n) old new got =
       let found = find_scans (Some got.slot) old got.ripe got.finds in
       let first = clear_scans _ got.ripe got.first got.clears_first in

@@ -31,7 +31,7 @@ owns_rest a b same knows scans = record {
 module _ (fits : List ℕ → Type 0) (d : DomainState WordsLaw) (a b : SeatState View) where
   pub owns_collect : Collected fits d a b → Owns a.view.core.owned a b
   owns_collect c = owns_rest a b c.collects.goes.rest (λ s was is. c.knows s was)
-      (let s = collect_scans d a b c in omega arith)
+      (let s = collect_scans fits d a b c in omega arith)
 
   reap_rest : (weight : List ℕ → ℕ) (answer : Option ℕ) → Answers fits d weight answer a b
       → rest_of b.view.core ≡ rest_of a.view.core
@@ -44,7 +44,7 @@ module _ (fits : List ℕ → Type 0) (d : DomainState WordsLaw) (a b : SeatStat
   pub owns_reap : (weight : List ℕ → ℕ) (answer : Option ℕ) → Answers fits d weight answer a b
       → KnowsBoth a b → Owns a.view.core.owned a b
   owns_reap weight answer got knows =
-      owns_rest a b (reap_rest weight answer got) knows (reap_scans d weight answer a b got)
+      owns_rest a b (reap_rest weight answer got) knows (reap_scans fits d weight answer a b got)
 
   pub makes_collect : Collected fits d a b → b.view.core.makes ≡ a.view.core.makes
   makes_collect c = ap (λ (v : CoreView). v.makes) c.collects.goes.rest

@@ -1,5 +1,6 @@
 -- How many whole scans a seat has made.
-use Rattle.std.specs.Prelude.{ℕ, ◌≤◌, Bool, true, false, List, count_by, length}
+use Rattle.std.specs.Prelude.{ℕ, ◌≤◌, Bool, true, false, cond, List, length}
+use Rattle.std.specs.List.{sum_by}
 use Rattle.core_events.specs.declared.outcome.Outcome.{Outcome}
 use Rattle.core_events.specs.declared.outcome.Outcome.TheVariants as outcome
 use Rattle.core_events.specs.declared.view.Move.{Move}
@@ -12,7 +13,7 @@ ends_scan (outcome.Split last stay go) = true
 ends_scan o = false
 
 unfoldable pub scans_in : List Move → ℕ
-scans_in ms = count_by (λ (m : Move). ends_scan m.outcome) ms
+scans_in ms = sum_by (λ (m : Move). cond (ends_scan m.outcome) 1 0) ms
 
 -- the whole scans in the seat's trail
 abbrev pub scans_of : SeatState View → ℕ

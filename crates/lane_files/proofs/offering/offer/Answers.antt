@@ -1,6 +1,6 @@
 use Rattle.std.proofs.Common.{ap}
 use Rattle.lane_files.proofs.SeatsKept.{uses_none}
-use Rattle.lane_files.proofs.Offered.{may_push, offer_ready, offered_ok, refused_idle, texts, push_adds}
+use Rattle.lane_files.proofs.Offered.{may_push, offer_ready, offered_ok, offered_owns, refused_idle, refused_owns, texts, push_adds}
 use Rattle.lane_files.specs.Whys.{of_queue}
 use Rattle.lane_files.proofs.offering.offer.Goals as goal
 
@@ -32,3 +32,13 @@ pub returns-clause-adds : goal.returns-clause-adds
 returns-clause-adds g c =
     push_adds c.args.handle.slot c.push.result (of_queue c.args.seat.now) (of_queue c.push.new.seat)
     c.push.ensures.pushed c.push.ensures.refused
+
+pub returns-clause-owns : goal.returns-clause-owns
+returns-clause-owns g c =
+    offered_owns c.args.seat.now c.push.new.seat (ap texts c.push.ensures.beside)
+    c.args.handle.slot c.push.result c.push.ensures.pushed
+
+pub returns-clause-kept : goal.returns-clause-kept
+returns-clause-kept g c =
+    refused_owns c.args.seat.now c.push.new.seat (ap texts c.push.ensures.beside) c.push.result
+    c.push.ensures.refused

@@ -108,3 +108,7 @@ returns-in_err-tally_item-in-Ok-Some-clause-why g c =
     c.pop.ensures.beside c.tally_item.new.seat c.tally_item.ensures.only c.tally_item.result
     c.args.tally.now c.tally_item.new.tally c.tally_item.ensures.counts _
     c.in_err-tally_item-in-Ok-Some.was c.from_residual.result c.from_residual.ensures.1
+
+pub returns-in-Err-clause-owns : goal.returns-in-Err-clause-owns
+returns-in-Err-clause-owns g c =
+    none_owns c.args.seat.now c.pop.new.seat c.in-Err.ensures.popped c.pop.ensures.beside

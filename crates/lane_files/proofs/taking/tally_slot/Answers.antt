@@ -1,5 +1,6 @@
-use Rattle.std.proofs.Common.{[], refl, rules}
+use Rattle.std.proofs.Common.{[], refl, rules, arith}
 use Rattle.lane_files.proofs.Read.{has_begun, only, reads, reads_if}
+use Rattle.lane_files.proofs.SeatsKept.{owns_by, owns_on}
 use Rattle.lane_files.proofs.taking.tally_slot.Goals as goal
 
 pub read_text-size-requires-clause-begun : goal.read_text-size-requires-clause-begun
@@ -24,3 +25,9 @@ returns-clause-only c =
     c.read_text-size.new.seat c.read_text-size.new.seat c.read_text-size.ensures.learns refl
     (c.begin_read.ensures.owns.knows c.args.slot (search rules) (search rules))
     (c.read_text-size.ensures.leaves.knows c.args.slot (search rules) (search rules))
+
+pub returns-clause-owns : goal.returns-clause-owns
+returns-clause-owns c =
+    owns_on c.args.seat.now.view.core.owned c.args.seat.now c.begin_read.new.seat
+    c.read_text-size.new.seat c.begin_read.ensures.owns (λ x. omega arith)
+    (owns_by c.begin_read.new.seat c.read_text-size.new.seat c.read_text-size.ensures.leaves)

@@ -11,7 +11,7 @@ loop-turn-init g c = record {
   client = collect_same c.args.seat.now c.collect.new.seat c.requires.ready c.collect.ensures;
   owns = owns_collect _ c.args.domain.now c.args.seat.now c.collect.new.seat c.collect.ensures;
   makes = makes_collect _ c.args.domain.now c.args.seat.now c.collect.new.seat c.collect.ensures;
-  scans = collect_scans c.args.domain.now c.args.seat.now c.collect.new.seat c.collect.ensures;
+  scans = collect_scans _ c.args.domain.now c.args.seat.now c.collect.new.seat c.collect.ensures;
 }
 
 pub loop-turn-preserved : goal.loop-turn-preserved
@@ -28,6 +28,19 @@ loop-turn-preserved g c = record {
   makes = makes_reap _ c.args.domain.now c.loop-turn.seat c.reap.new.seat _ c.reap.result
       c.reap.ensures.reaps ∙ c.loop-turn.invariant.makes;
   scans = let had = c.loop-turn.invariant.scans in
-      let more = reap_scans c.args.domain.now _ c.reap.result c.loop-turn.seat c.reap.new.seat
+      let more = reap_scans _ c.args.domain.now _ c.reap.result c.loop-turn.seat c.reap.new.seat
       c.reap.ensures.reaps in omega arith;
 }
+
+pub returns-then-is_none-clause-owns : goal.returns-then-is_none-clause-owns
+returns-then-is_none-clause-owns g c =
+    owns_on c.args.seat.now.view.core.owned c.args.seat.now c.loop-turn.seat c.reap.new.seat
+    c.loop-turn.invariant.owns (λ x. omega arith)
+    (owns_reap _ c.args.domain.now c.loop-turn.seat c.reap.new.seat _ c.reap.result
+    c.reap.ensures.reaps c.reap.ensures.objects)
+
+pub returns-then-is_none-clause-scans : goal.returns-then-is_none-clause-scans
+returns-then-is_none-clause-scans g c =
+    let had = c.loop-turn.invariant.scans in
+    let more = reap_scans _ c.args.domain.now _ c.reap.result c.loop-turn.seat c.reap.new.seat
+    c.reap.ensures.reaps in omega arith

@@ -39,3 +39,9 @@ pub returns-in-Err-clause-makes : goal.returns-in-Err-clause-makes
 returns-in-Err-clause-makes c =
     (drop_counts _ c.args.domain.now c.args.handle.slot c.args.seat.now c.drop_strong-in-Err.new.seat
     c.drop_strong-in-Err.ensures.dropped).1
+
+pub returns-in-Err-clause-gives : goal.returns-in-Err-clause-gives
+returns-in-Err-clause-gives c =
+    owns_drop _ c.args.domain.now c.args.handle.slot c.args.seat.now
+    c.drop_strong-in-Err.new.seat c.drop_strong-in-Err.ensures.dropped
+    c.drop_strong-in-Err.ensures.objects
