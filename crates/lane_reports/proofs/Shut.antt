@@ -1,6 +1,6 @@
 -- A seat that is alone, under no snapshot, and has shut the queue and settled.
 use Rattle.std.proofs.Common.{◌≡◌, ℕ, zero, suc, ◌+◌, ◌≤◌, List, [], ◌∷◌, refl, sym, ap, subst, ◌∙◌, arith}
-use Rattle.std.specs.Prelude.{length, slice_index_or}
+use Rattle.std.specs.Prelude.{length, slice_index_or, None, Option, Some}
 use Rattle.plain_state.specs.declared.slot.Kind.{Kind}
 use Rattle.plain_state.specs.declared.slot.Kind.TheVariants.{Strong, Weak, Disposal}
 use Rattle.plain_state.specs.declared.slot.SlotId.{SlotId}
@@ -20,12 +20,15 @@ use Rattle.linked_queue.specs.Queues.{ends_of}
 use Rattle.linked_queue.specs.Shuts.{shut_in}
 use Rattle.slot_store.specs.Leftovers.{IsQuiet, LeavesCycles}
 use Rattle.slot_store.specs.Reaping.{KnowsBoth}
+use Rattle.slot_store.specs.Settling.{Settles, Turns}
 use Rattle.slot_store.proofs.Turning.{nothing_in}
 use Rattle.words_law.specs.Views.{View}
 use Rattle.words_protocol.specs.declared.law.WordsLaw.{WordsLaw}
 use Rattle.lane_files.specs.Whys.{of_queue, queue_of}
 use Rattle.lane_files.proofs.SeatsKept.{owns_on, owns_queue}
 use Rattle.lane_files.proofs.Tidied.{owns_rest}
+use Rattle.lane_files.specs.Scans.{scans_of}
+use Rattle.lane_files.proofs.Scanned.{collect_scans, reap_scans}
 use Rattle.lane_reports.specs.Shutting.{ShutsAndSettles}
 
 -- NO SNAPSHOT, and so nothing that waits for one
@@ -72,6 +75,27 @@ module _ (v : CoreView) (none : IsUnderNone v) (quiet : IsQuiet v) where
           let some = quiet.dying s (omega arith) in let e = ap (entry_times Disposal s) none_valid in
           let z = entry_none Disposal s in absurd (omega arith)
 
+-- A SETTLE makes whole scans
+module _ (fits : List ℕ → Type 0) (d : DomainState WordsLaw) (weight : List ℕ → ℕ) where
+  turns_scans : (answers : List (Option ℕ)) (a b : SeatState View)
+      → Turns fits d weight answers a b → scans_of a ≤ scans_of b
+  turns_scans [] a b same =
+      let s = ap (λ (x : SeatState View). scans_of x) same in omega arith
+  turns_scans (Some n ∷ answers) a b turns =
+      let before = turns_scans answers a turns.0 turns.1 in
+      let last = reap_scans fits d weight (Some n) turns.0 b turns.2 in omega arith
+  turns_scans (None ∷ answers) a b turns =
+      let before = turns_scans answers a turns.0 turns.1 in
+      let none = reap_scans fits d weight None turns.0 turns.2.0 turns.2.1 in
+      let last = collect_scans fits d turns.2.0 b turns.2.2.collected in omega arith
+
+  pub settle_scans : (total : ℕ) (a b : SeatState View) → Settles fits d weight total a b
+      → scans_of a ≤ scans_of b
+  settle_scans total a b settles =
+      let turns = turns_scans settles.answers a settles.before settles.turns in
+      let none = reap_scans fits d weight None settles.before settles.reaped settles.reaps_none in
+      let last = collect_scans fits d settles.reaped b settles.quiets.collected in omega arith
+
 -- A SHUT leaves a seat alone, and under no snapshot
 module _ (os : List SlotId) (a b : SeatState View)
     (leaves : queue.Leaves os (of_queue a) (of_queue b)) where
@@ -94,13 +118,14 @@ module _ (d : DomainState WordsLaw) (a b c : SeatState View)
 
   pub shuts : b.view.client.0 ≡ shut_in (ends_of (queue_of d)) (of_queue a) a.view.client.0
       → b.view.client ≡ (b.view.client.0, a.view.client.1) → c.view.client ≡ b.view.client
-      → IsQuiet c.view.core → LeavesCycles c.view → KnowsBoth b c → ShutsAndSettles d a c
-  shuts queue rest view quiet cycles knows = record {
+      → IsQuiet c.view.core → LeavesCycles c.view → KnowsBoth b c → scans_of b ≤ scans_of c
+      → ShutsAndSettles d a c
+  shuts queue rest view quiet cycles knows scans = record {
     client = view ∙ rest ∙ (λ i. (queue i, a.view.client.1));
     retired = none_retired c.view.core none_settled quiet;
     dying = none_dying c.view.core none_settled quiet;
     ripe = quiet.ripe;
     cycles = cycles;
     owns = owns_on a.view.core.owned a b c (owns_queue a b leaves) (λ x. omega arith)
-        (owns_rest b c same knows);
+        (owns_rest b c same knows scans);
   }

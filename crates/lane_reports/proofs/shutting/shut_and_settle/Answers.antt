@@ -1,4 +1,4 @@
-use Rattle.lane_reports.proofs.Shut.{alone_shut, none_settled, shuts}
+use Rattle.lane_reports.proofs.Shut.{alone_shut, none_settled, settle_scans, shuts}
 use Rattle.lane_reports.proofs.shutting.shut_and_settle.Goals as goal
 
 pub settle-weights-requires-clause-alone : goal.settle-weights-requires-clause-alone
@@ -12,6 +12,8 @@ returns-clause-shuts g c =
     c.shut.ensures.leaves c.settle-weights.ensures.same c.requires.none c.shut.ensures.left
     c.shut.ensures.beside c.settle-weights.ensures.client c.settle-weights.ensures.quiet c.settle-weights.ensures.cycles
     c.settle-weights.ensures.objects
+    (settle_scans _ c.args.domain.now _ c.settle-weights.result c.shut.new.root
+    c.settle-weights.new.seat c.settle-weights.ensures.settles)
 
 pub returns-clause-none : goal.returns-clause-none
 returns-clause-none g c =
