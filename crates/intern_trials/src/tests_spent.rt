@@ -4,6 +4,7 @@ ghost use Rattle.plain_state.specs.Lists.{times};
 ghost use Rattle.directory_calls.specs.Directories.{IsOver};
 ghost use Rattle.intern_trials.specs.Ready.{HasLeft, IsReady, Spends};
 
+use crate::find_once;
 use acquire_retire::{Domain, Quota, Seat, Shape, open_domain};
 use control_word::copy_strong;
 use counted_handles::{Spent, Strong};
@@ -11,7 +12,7 @@ use directory_calls::Directory;
 use directory_protocol::DirectoryLaw;
 use std::sync::Wait;
 use std::test::Fail;
-use weak_intern::{MakeError, find, intern};
+use weak_intern::{MakeError, intern};
 
 /// A domain of one seat that may add so many references and intern two texts, with a directory of four cells, and that
 /// seat.
@@ -37,62 +38,48 @@ fn open_poor(
     Ok((domain, seats.remove(0)))
 }
 
-/// One reference more to a record that the seat has.
-fn copy(
-    domain: &Domain<DirectoryLaw>,
-    seat: &mut Seat<DirectoryLaw>,
-    record: &Strong,
-) -> Result<Strong, Spent>
-    requires ready { IsReady domain.now seat.old }
-    requires owned { 0 < times record.now.slot seat.old.view.core.owned }
-    ensures owned { 0 < times record.now.slot seat.new.view.core.owned }
-    ensures spends { Spends 0 seat.old seat.new }
-    ensures ready { IsReady domain.now seat.new }
-{
-    copy_strong(domain, seat, record)
-}
-
-/// Copies a reference until no add is left, and keeps the copies for good. False where 100 copies aren't enough.
+/// Copies a reference until no add is left, each time the last copy, and keeps the copies for good. False where 100
+/// copies aren't enough.
 fn copy_until_spent(
     domain: &Domain<DirectoryLaw>,
     seat: &mut Seat<DirectoryLaw>,
-    record: &Strong,
+    first: Strong,
 ) -> bool
     requires ready { IsReady domain.now seat.old }
-    requires owned { 0 < times record.now.slot seat.old.view.core.owned }
+    requires owned { 0 < times first.slot seat.old.view.core.owned }
     ensures spends { Spends 0 seat.old seat.new }
     ensures ready { IsReady domain.now seat.new }
 {
+    let mut last = first;
     for _copy in 0..100u32 {
-        if copy(domain, seat, record).is_err() {
-            return true;
+        match copy_strong(domain, seat, &last) {
+            Ok(more) => last = more,
+            Err(Spent) => return true,
         }
     }
     false
 }
 
-/// Interns `a`, and copies the reference until no add is left. What an intern of `b` answers then, and what finds of
-/// `b` and of `a` do.
+/// Interns `a`, and copies the reference until no add is left. What finds of `b` and of `a` answer then, and what an
+/// intern of `b` does.
 fn intern_when_spent<R: Wait>(
     rt: &R,
     domain: &Domain<DirectoryLaw>,
     seat: &mut Seat<DirectoryLaw>,
     directory: &Directory,
-) -> Option<(Option<MakeError>, [Result<bool, Spent>; 2])>
+) -> Option<([Result<bool, Spent>; 2], Option<MakeError>)>
     requires ready { IsReady domain.now seat.old }
     requires over { IsOver domain.now domain.now.protocol directory.now }
     requires left { HasLeft 2 seat.old }
 {
     let record = intern(rt, domain, seat, directory, b"a").ok()?;
-    if !copy_until_spent(domain, seat, &record) {
+    if !copy_until_spent(domain, seat, record) {
         return None;
     }
+    let absent = find_once(rt, domain, seat, directory, b"b").map(|found| found.is_some());
+    let there = find_once(rt, domain, seat, directory, b"a").map(|found| found.is_some());
     let interned = intern(rt, domain, seat, directory, b"b").err();
-    let found = [
-        find(rt, domain, seat, directory, b"b").map(|found| found.is_some()),
-        find(rt, domain, seat, directory, b"a").map(|found| found.is_some()),
-    ];
-    Some((interned, found))
+    Some(([absent, there], interned))
 }
 
 /// A text that has no record is found not to have one without an add. One that has is found by one add, of which none
@@ -103,6 +90,6 @@ fn a_seat_without_adds_makes_no_record(rt: HostRuntime) -> Result<(), Fail> {
     let directory = Directory::over(0, 4);
     let refused = intern_when_spent(&rt, &domain, &mut seat, &directory);
     let found = [Ok(false), Err(Spent)];
-    assert_eq!(rt; refused, Some((Some(MakeError::AddsSpent), found)));
+    assert_eq!(rt; refused, Some((found, Some(MakeError::AddsSpent))));
     Ok(())
 }

@@ -1,4 +1,3 @@
 pub mod Enclosed
 pub mod Kept
 pub mod Opened
-pub mod Spent

@@ -1,5 +1,5 @@
 //! A seat whose adds are used up: each call refuses it, and nothing is lost.
-ghost use Rattle.std.specs.Prelude.{◌<◌};
+ghost use Rattle.std.specs.Prelude.{◌<◌, IfSome};
 ghost use Rattle.plain_state.specs.Lists.{times};
 ghost use Rattle.part_calls.specs.Parts.{as_part};
 ghost use Rattle.queue_trials.specs.Ready.{IsReady};
@@ -22,29 +22,22 @@ const LETTER: Letter = Letter {
     number: 5,
 };
 
-/// One reference more to a letter that the seat has.
-fn copy(domain: &Domain<Mail>, seat: &mut Seat<Mail>, item: &Strong) -> Result<Strong, Spent>
+/// Copies a reference until no add is left, each time the last copy, and answers that. The others are kept for good.
+/// None where 100 copies aren't enough.
+fn copy_until_spent(domain: &Domain<Mail>, seat: &mut Seat<Mail>, first: Strong) -> Option<Strong>
     requires ready { IsReady domain.now seat.old }
-    requires owned { 0 < times item.now.slot seat.old.view.core.owned }
-    ensures owned { 0 < times item.now.slot seat.new.view.core.owned }
+    requires owned { 0 < times first.slot seat.old.view.core.owned }
+    ensures owned { IfSome result (λ last. 0 < times last.slot seat.new.view.core.owned) }
     ensures ready { IsReady domain.now seat.new }
 {
-    copy_strong(domain, seat, item)
-}
-
-/// Copies a reference until no add is left, and keeps the copies for good. False where 100 copies aren't enough.
-fn copy_until_spent(domain: &Domain<Mail>, seat: &mut Seat<Mail>, item: &Strong) -> bool
-    requires ready { IsReady domain.now seat.old }
-    requires owned { 0 < times item.now.slot seat.old.view.core.owned }
-    ensures owned { 0 < times item.now.slot seat.new.view.core.owned }
-    ensures ready { IsReady domain.now seat.new }
-{
+    let mut last = first;
     for _copy in 0..100u32 {
-        if copy(domain, seat, item).is_err() {
-            return true;
+        match copy_strong(domain, seat, &last) {
+            Ok(more) => last = more,
+            Err(Spent) => return Some(last),
         }
     }
-    false
+    None
 }
 
 /// How many references count to a letter that the seat has. None where the node in the head cell can be loaded.
@@ -73,10 +66,8 @@ fn push_when_spent<H: HandQueue>(
 {
     let item = write(domain, seat, LETTER).ok()?;
     let slot = item.slot();
-    if !copy_until_spent(domain, seat, &item) {
-        return None;
-    }
-    match try_push(domain, seat, queue, item) {
+    let last = copy_until_spent(domain, seat, item)?;
+    match try_push(domain, seat, queue, last) {
         Err(PushError::Refused(refused)) => {
             let count = count_where_spent(domain, seat, &refused.back)?;
             Some((refused.why, refused.back.slot() == slot, count))

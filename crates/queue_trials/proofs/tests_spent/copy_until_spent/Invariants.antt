@@ -6,5 +6,5 @@ use Rattle.queue_trials.proofs.tests_spent.copy_until_spent.Given as goal
 abbrev pub invariant-loop-copy : goal.invariant-loop-copy
 invariant-loop-copy l = record {
   ready : IsReady l.domain l.seat;
-  owned : 0 < times l.item.slot l.seat.view.core.owned;
+  owned : 0 < times l.last.slot l.seat.view.core.owned;
 }
