@@ -6,8 +6,6 @@ ghost use Rattle.std.specs.Prelude.{◌<◌};
 pub enum Operation {
     /// Loads a strong reference from the cell, and drops it.
     Load,
-    /// Announces a slot, and takes the announcement back.
-    Announce,
     /// Takes a snapshot of what the cell holds, and ends it.
     Snapshot,
     /// Makes an object, stores it into the cell, and reaps what has ended.
@@ -21,8 +19,7 @@ pub enum Operation {
 }
 
 /// All operations, in the order in which they are printed.
-pub const OPERATIONS: [Operation; 7] = [
-    Operation::Announce,
+pub const OPERATIONS: [Operation; 6] = [
     Operation::Load,
     Operation::Snapshot,
     Operation::Store,
@@ -35,7 +32,6 @@ impl Operation {
     /// Its name in the line that is printed.
     pub fn name(self) -> &'static str {
         match self {
-            Operation::Announce => "announce",
             Operation::Load => "load",
             Operation::Snapshot => "snapshot",
             Operation::Store => "store",

@@ -5,7 +5,7 @@ ghost use Rattle.core_events.specs.Steps.{HasRoom};
 ghost use Rattle.control_word.specs.Resting.{IsAtRest};
 
 use crate::domain::{AnyPayload, Objects};
-use acquire_retire::{Domain, Kind, Seat, SlotId};
+use acquire_retire::{Domain, Seat};
 use atomic_shared::{Place, load, store};
 use control_word::{copy_strong, drop_strong};
 use counted_handles::Strong;
@@ -17,31 +17,6 @@ use std::sync::Wait;
 
 /// The cell that all threads share.
 pub const CELL: Place = Place::Cell(0);
-
-/// Announces a slot by the word of loads, and takes the announcement back.
-pub fn announces(domain: &Domain<Objects>, seat: &mut Seat<Objects>, turns: u64)
-    requires rest { IsAtRest domain.now seat.old }
-    requires room { HasRoom seat.old.view.core }
-    requires slot { 0 < domain.now.shape.slots }
-    ensures room { HasRoom seat.new.view.core }
-    ensures rest { IsAtRest domain.now seat.new }
-{
-    for _turn in 0..turns {
-        announce_once(domain, seat);
-    }
-}
-
-/// Announces slot 0, and takes the announcement back.
-fn announce_once(domain: &Domain<Objects>, seat: &mut Seat<Objects>)
-    requires rest { IsAtRest domain.now seat.old }
-    requires room { HasRoom seat.old.view.core }
-    requires slot { 0 < domain.now.shape.slots }
-    ensures room { HasRoom seat.new.view.core }
-    ensures rest { IsAtRest domain.now seat.new }
-{
-    domain.announce(seat, 0, Kind::Strong, SlotId(0));
-    domain.release(seat, 0);
-}
 
 /// Loads what the cell holds, and drops it.
 pub fn loads<R: Wait>(rt: &R, domain: &Domain<Objects>, seat: &mut Seat<Objects>, turns: u64)

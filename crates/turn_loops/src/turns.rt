@@ -4,7 +4,7 @@ ghost use Rattle.turn_loops.specs.Free.{IsFree};
 
 use crate::domain::Objects;
 use crate::operation::Operation;
-use crate::strong_turns::{CELL, announces, copies, loads, makes, snapshots, stores};
+use crate::strong_turns::{CELL, copies, loads, makes, snapshots, stores};
 use crate::weak_turns::upgrades;
 use acquire_retire::{Domain, Seat};
 use atomic_shared::store;
@@ -31,11 +31,9 @@ pub fn make_turns<R: Wait>(
 )
     requires free { IsFree domain.now seat }
     requires cell { 0 < domain.now.shape.cells }
-    requires slot { 0 < domain.now.shape.slots }
 {
     let turns = operation.turns();
     match operation {
-        Operation::Announce => announces(domain, &mut seat, turns),
         Operation::Load => loads(rt, domain, &mut seat, turns),
         Operation::Snapshot => snapshots(rt, domain, &mut seat, turns),
         Operation::Store => stores(domain, &mut seat, turns),
