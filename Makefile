@@ -10,16 +10,16 @@ help: ## says what each target does
 	@sed -n 's/^\([a-z]*\):.*## /make \1\t/p' Makefile | expand -t 16
 
 run: ## compiles the program, and prints the report of two sample files on two lanes: no proof
-	@$(TRY) words --lanes 2 data/sample.txt data/second.txt
+	@$(TRY) words --lanes 2 data/sample.txt data/second.txt < /dev/null
 
 script: ## the same with the sample script
-	@$(TRY) script data/sample.script
+	@$(TRY) script data/sample.script < /dev/null
 
 steps: ## the same with the sample list of steps
-	@$(TRY) steps data/sample.steps
+	@$(TRY) steps data/sample.steps < /dev/null
 
 examples: ## runs a setting, a stack and a cache, each by two threads: half a minute, no proof
-	@cd crates/example_threads && echo 'nothing is proved here: make test proves everything' >&2 && rt try
+	@cd crates/example_threads && echo 'nothing is proved here: make test proves everything' >&2 && rt try < /dev/null
 
 picture: ## draws docs/late_finish.svg anew out of docs/late_finish.steps
 	python3 tools/picture.py docs/late_finish.steps docs/late_finish.svg
