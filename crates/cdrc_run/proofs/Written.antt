@@ -1,9 +1,10 @@
 -- What each job that reads files writes, and why it writes nothing.
-use Rattle.std.proofs.Common.{ℕ, ◌+◌, ◌<◌, ◌≤◌, Bool, false, List, [], ◌∷◌, length, Some, None, IfSome, Ok, Err, IfErr, refl, arith}
+use Rattle.std.proofs.Common.{ℕ, ◌+◌, ◌<◌, ◌≤◌, Bool, false, List, [], ◌∷◌, length, Some, None, IfSome, Ok, Err, IfErr, IfOk, refl, arith}
 use Rattle.std.specs.declared.result.Result.{Result}
 use Rattle.std.specs.declared.option.Option.{Option}
 use Rattle.std.proofs.lemmas.List.Sums.{sum_by-cons}
 use Rattle.cdrc_steps.specs.Meaning.{IsSteps}
+use Rattle.command_line.specs.declared.asked.Bulk.{Bulk}
 use Rattle.lane_gate.specs.Causes.{Rose}
 use Rattle.words_work.specs.Contents.{IsContent, IsTooLong, Told, bytes_in}
 use Rattle.words_work.specs.Limits.{most_bytes}
@@ -13,8 +14,8 @@ use Rattle.words_work.specs.declared.outcome.WordsDone.{WordsDone}
 use Rattle.words_work.specs.declared.outcome.WordsRefused.{WordsRefused}
 use Rattle.words_work.specs.declared.outcome.WordsRefused.TheVariants as refused
 use Rattle.words_work.specs.declared.plan.Plan.{Plan}
-use Rattle.cdrc_run.specs.Jobs.{count, script, steps}
-use Rattle.cdrc_run.specs.Outputs.{IsOutputOf, IsShownScript, IsWhyNoOutput}
+use Rattle.cdrc_run.specs.Jobs.{bulk, count, script, steps}
+use Rattle.cdrc_run.specs.Outputs.{IsOutput, IsOutputOf, IsShownScript, IsWhyNoOutput}
 use Rattle.cdrc_run.specs.declared.outcome.Output.{Output}
 use Rattle.cdrc_run.specs.declared.outcome.Why.{Why}
 use Rattle.cdrc_run.specs.declared.outcome.Why.TheVariants as why
@@ -100,6 +101,20 @@ steps_why fits told file counts refused.TooLarge why =
 steps_why fits told file counts (refused.Full seat) why = absurd why
 steps_why fits told file counts (refused.Spent seat) why = absurd why
 steps_why fits told file counts refused.OutOfMemory why = tt
+
+-- drawn texts are in no file
+pub drawn_output : (told : Told) (drawn : Bulk) (result : Result Output WordsRefused)
+    → IfOk result (λ output.
+    IsOutput (bulk drawn) [] output.text.items output.refused output.why)
+    → IfOk result (λ output.
+    IsOutputOf (bulk drawn) told output.text.items output.refused output.why)
+drawn_output told drawn (Ok output) is = record {
+  contents = [];
+  are = tt;
+  within = is.0.count.counted.within;
+  is_output = is;
+}
+drawn_output told drawn (Err error) is = tt
 
 -- what follows of each refusal follows of the answer
 pub each_refusal : (result : Result Output WordsRefused) (P Q : WordsRefused → Type 0)
