@@ -52,8 +52,8 @@ module _ (fits : List ℕ → Type 0) (work : Work) (d : DomainState WordsLaw) w
     pub cause : cause_of stop ≡ Some unmade.Full
 
 -- Why nothing was counted: there was no memory; or this seat has no add left; or in a domain for this work, which has
--- fewer slots than makes, seat 0 found each slot taken before the lanes began, or a lane did. That seat has made at least
--- as many whole scans as it pushed items.
+-- fewer slots than makes, seat 0 found each slot taken before the lanes began, or a lane did. That seat has made at
+-- least as many whole scans as it pushed items.
 abbrev pub IsWhyNothing : (List ℕ → Type 0) → Work → ℕ → ℕ → Form → CountError → Type 0
 IsWhyNothing fits work lanes slots form refused.OutOfMemory = Unit {0}
 IsWhyNothing fits work lanes slots form (refused.Spent seat) = IsSpent seat.view.core
