@@ -4,6 +4,7 @@ pub mod Weights
 pub mod Lawfulness
 pub mod Marking
 pub mod Spreading
+pub mod Adding
 pub mod Leasts
 pub mod Turning
 pub mod Offering

@@ -7,9 +7,9 @@ ghost use Rattle.heap_audit.specs.Reached.{IsUnreached, HowMany};
 ghost use Rattle.heap_audit.specs.Walks.{IsFound, IsWalk};
 
 use crate::finding::Audit;
-use crate::live::{count_live, weigh_live};
 use crate::reach::reached_slots;
-use crate::search::{count_unreached, find_walk};
+use crate::search::find_walk;
+use crate::summing::sum_up;
 use deleter::Deleter;
 use out_of_memory::OutOfMemory;
 use plain_state::{Heap, PayloadKind};
@@ -20,7 +20,7 @@ use std::alloc::Global;
 /// the one that is found; of two slots of equal rank either may count as the least.
 ///
 /// It takes memory for one number and one mark for each slot, and where slots are unreached for a table of slots. It
-/// makes six passes over the slots at most, one call of `weigh` for each Live slot, and one step for each slot that is
+/// makes four passes over the slots at most, one call of `weigh` for each Live slot, and one step for each slot that is
 /// marked or searched. It uses no stack that grows with the heap. `OutOfMemory` comes only of an allocation failure.
 pub fn audit<W: PayloadKind, F: Fn(&[u64; 16]) -> u64>(
     alloc: Global,
@@ -47,19 +47,17 @@ pub fn audit<W: PayloadKind, F: Fn(&[u64; 16]) -> u64>(
     // So it goes round a cycle of strong fields.
     ensures round { IfOk result (λ found. 0 < found.cyclic → IsWalk heap.now found.walk.items) }
 {
-    let live = count_live(heap);
-    let bytes = weigh_live(&heap.slots, weigh);
     let reached = reached_slots(alloc, heap)?;
-    let cyclic = count_unreached(heap, &reached, rank);
-    let walk = match cyclic.least {
+    let sums = sum_up(heap, weigh, &reached, rank);
+    let walk = match sums.least {
         None => Vec::new(alloc),
         Some(start) => find_walk(alloc, heap, &reached, rank, start)?,
     };
     Ok(Audit {
-        live,
+        live: sums.live,
         deferred: heap.deferred.len() as u64,
-        cyclic: cyclic.many,
-        bytes,
+        cyclic: sums.unreached,
+        bytes: sums.bytes,
         walk,
     })
 }

@@ -27,12 +27,12 @@ mod checked;
 mod fields;
 mod finding;
 mod laws;
-mod live;
 mod marks;
 mod obeying;
 mod ranks;
 mod reach;
 mod search;
+mod summing;
 #[cfg(test)]
 mod tests;
 mod trails;

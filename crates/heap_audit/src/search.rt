@@ -1,4 +1,4 @@
-//! The unreached slots, and the walk that is found among them.
+//! The walk that is found among the unreached slots.
 ghost use Rattle.std.specs.Prelude.{◌≡◌, ◌≤◌, ◌<◌, ◌↔◌, ◌^◌, length, IfOk, IfSome, IsTrue, None};
 ghost use Rattle.plain_state.specs.Limits.{most_slots};
 ghost use Rattle.plain_state.specs.declared.slot.SlotId.{SlotId};
@@ -14,36 +14,8 @@ use out_of_memory::OutOfMemory;
 use plain_state::{Heap, SlotId};
 use std::alloc::Global;
 
-/// How many slots are unreached, and which of them has the least rank.
-#[derive(Clone, Copy, Debug, Drop)]
-pub struct Unreached {
-    pub many: u64,
-    pub least: Option<SlotId>,
-}
-
-/// Counts the unreached slots. One look at each slot.
-pub fn count_unreached(heap: &Heap, reached: &[bool], rank: &[u64]) -> Unreached
-    requires few { length heap.now.slots.items ≤ most_slots }
-    requires table { AreReached heap.now reached.now }
-    requires ranked { length rank.now ≡ length heap.now.slots.items }
-    ensures many { HowMany (λ n. IsUnreached heap.now (slot n))
-        (length heap.now.slots.items) result.many }
-    ensures least { IsLeastIfAny rank.now (IsUnreached heap.now) result.least }
-{
-    let mut many = 0;
-    let mut least = None;
-    for i in 0..heap.slots.len() {
-        let slot = SlotId(i as u32);
-        if is_unreached(heap, reached, slot) {
-            many += 1;
-            least = Some(lower(rank, least, slot));
-        }
-    }
-    Unreached { many, least }
-}
-
 /// Whether a slot is Live and unreached.
-fn is_unreached(heap: &Heap, reached: &[bool], slot: SlotId) -> bool
+pub fn is_unreached(heap: &Heap, reached: &[bool], slot: SlotId) -> bool
     requires slot { slot.0 < length heap.now.slots.items }
     requires table { AreReached heap.now reached.now }
     ensures { IsTrue result ↔ IsUnreached heap.now slot }

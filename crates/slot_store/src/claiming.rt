@@ -1,7 +1,8 @@
 //! The search for a free slot: a seat claims slots by what the words of bits that it finds show.
-ghost use Rattle.std.specs.Prelude.{◌<◌, ◌/◌, ◌≡◌, ◌==◌, if◌then◌else◌, IsNone};
+ghost use Rattle.std.specs.Prelude.{◌<◌, ◌-◌, ◌/◌, ◌^◌, ◌≡◌, ◌==◌, if◌then◌else◌, IsNone};
 ghost use Rattle.core_events.specs.Steps.{HasAdd, HasMake};
 ghost use Rattle.claim_law.specs.Claims.{makes_given};
+ghost use Rattle.acquire_retire.specs.Calls.{IsOf};
 ghost use Rattle.control_word.specs.Resting.{IsAtRest};
 ghost use Rattle.slot_store.specs.Searching.{Searches};
 ghost use Rattle.slot_store.specs.Turns.{IsAtTurn, newest};
@@ -71,6 +72,25 @@ fn newest_home(slot: SlotId, first: SlotId, home: u64, found: u64) -> u64
     }
 }
 
+/// Remembers where a search ended that began at `first` and claimed `slot`. One that claimed the slot which the seat
+/// gave back last hasn't searched: the next one begins where this one would have, at `start`. So a seat that makes and
+/// destroys by turns doesn't come back into slots that others have claimed meanwhile.
+fn end_search<P: Protocol>(
+    domain: &Domain<P>,
+    seat: &mut Seat<P>,
+    start: SlotId,
+    first: SlotId,
+    slot: SlotId,
+)
+    requires seat { IsOf domain.now seat.old }
+    requires slot { slot.0 < 2 ^ 32 - 1 }
+    ensures { seat.new ≡ seat.old }
+{
+    if slot != first || first == start {
+        domain.end_search(seat, SlotId(slot.0 + 1));
+    }
+}
+
 /// Claims the first slot that is found to be free, and remembers where it was. `None` where each was shown to be
 /// taken, which comes only where more makes were given than there are slots. The slots come once each, and one is
 /// claimed only where the newest that was found of its word has its bit set.
@@ -82,6 +102,7 @@ pub(crate) fn claim_any<P: Protocol>(domain: &Domain<P>, seat: &mut Seat<P>) -> 
     ensures none { IsNone result → domain.now.shape.slots < makes_given domain.now.terms }
 {
     let slots = domain.shape().slots;
+    let start = domain.search_start(seat);
     let first = first_slot(domain, seat);
     let mut home = u64::MAX;
     let mut found = u64::MAX;
@@ -92,7 +113,7 @@ pub(crate) fn claim_any<P: Protocol>(domain: &Domain<P>, seat: &mut Seat<P>) -> 
             continue;
         }
         let Outcome::Taken(word) = domain.claim(seat, slot) else {
-            domain.end_search(seat, SlotId(slot.0 + 1));
+            end_search(domain, seat, start, first, slot);
             return Some(slot);
         };
         found = word;

@@ -23,21 +23,21 @@ module _ (heap : Heap) (ranks : List ℕ) (least : Option SlotId) (many : ℕ) w
 
 pub returns-clause-none : goal.returns-clause-none
 returns-clause-none g c = λ zero.
-    let cyclic = c.count_unreached-cyclic in
-    elim c.match-cyclic.branch [
+    let sums = c.sum_up-sums in
+    elim c.match-sums.branch [
       | in-None w ↦ rw w.walk-is w.new-walk.ensures.items
       | in-Some+in_ok-walk-in-Some w ↦
-          absurd (let some = some_unreached c.args.heap.now c.args.rank.now cyclic.result.least cyclic.result.many _ w.in-Some.is cyclic.ensures.least cyclic.ensures.many in omega (arith, zero, some))
+          absurd (let some = some_unreached c.args.heap.now c.args.rank.now sums.result.least sums.result.unreached _ w.in-Some.is sums.ensures.least sums.ensures.unreached in omega (arith, zero, some))
     ]
 
 pub returns-clause-walk : goal.returns-clause-walk
 returns-clause-walk g c = λ some.
-    let cyclic = c.count_unreached-cyclic in
-    elim c.match-cyclic.branch [
+    let sums = c.sum_up-sums in
+    elim c.match-sums.branch [
       | in-None w ↦
-          absurd (let none = none_unreached c.args.heap.now c.args.rank.now cyclic.result.least cyclic.result.many w.in-None.is cyclic.ensures.least cyclic.ensures.many in omega (arith, some, none))
+          absurd (let none = none_unreached c.args.heap.now c.args.rank.now sums.result.least sums.result.unreached w.in-None.is sums.ensures.least sums.ensures.unreached in omega (arith, some, none))
       | in-Some+in_ok-walk-in-Some w ↦ rw w.walk-is w.in_ok-walk-in-Some.ensures
     ]
 
 pub returns-clause-round : goal.returns-clause-round
-returns-clause-round g c = λ some. found_is_walk c.args.heap.now c.args.rank.now c.match-cyclic.walk.items (returns-clause-walk g c some)
+returns-clause-round g c = λ some. found_is_walk c.args.heap.now c.args.rank.now c.match-sums.walk.items (returns-clause-walk g c some)

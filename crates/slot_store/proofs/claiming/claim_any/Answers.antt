@@ -49,8 +49,8 @@ claim-requires-clause-may g c =
     (omega arith) c.loop-turn.invariant c.slot_at-slot.result at c.requires.rest c.requires.make
     c.requires.add
 
-pub end_search-requires : goal.end_search-requires
-end_search-requires g c =
+pub end_search-requires-clause-seat : goal.end_search-requires-clause-seat
+end_search-requires-clause-seat g c =
     let slots = ap (λ (z : Shape). z.slots) c.shape-slots.ensures in
     let below = c.loop-turn-test.true in
     let at = subst (λ (n : ℕ). IsAtTurn c.first_slot-first.result.0 n c.loop-turn.turn c.slot_at-slot.result.0) slots
