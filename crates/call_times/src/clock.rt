@@ -2,11 +2,10 @@
 ghost use Rattle.std.specs.Prelude.{◌<◌, ◌≤◌};
 
 use crate::fault::Fault;
-use out_of_memory::OutOfMemory;
+use crate::jobs::in_threads;
 use std::alloc::Global;
 use std::rt::Clock;
 use std::sync::Wait;
-use std::thread;
 use std::thread::Threads;
 use std::time::{Duration, Instant};
 use turn_loops::{Opened, Operation, Placing, begin, make_turns, open};
@@ -41,12 +40,12 @@ pub fn time<R: Threads + Wait + Clock + Sync>(
     } = open(alloc, placing, threads)?;
     begin(&domain, &mut root);
     let start = Instant::now(rt)?;
-    thread::map_vec(
+    in_threads(
         rt,
+        alloc,
         workers,
         &|seat| make_turns(rt, &domain, seat, operation),
-    )
-    .map_err(OutOfMemory::from)?;
+    )?;
     let elapsed = start.elapsed(rt)?;
     Ok(Tenths::of_each(elapsed, operation.turns()))
 }

@@ -6,14 +6,13 @@ ghost use Rattle.call_times.specs.Interning.{HasGrants, HasLeft, IsFreeToIntern,
 use crate::clock::Tenths;
 use crate::directory::{OpenedDirectory, TURNS, open_directory};
 use crate::fault::Fault;
+use crate::jobs::in_threads;
 use acquire_retire::{Domain, Seat};
 use directory_calls::Directory;
 use directory_protocol::DirectoryLaw;
-use out_of_memory::OutOfMemory;
 use std::alloc::Global;
 use std::rt::Clock;
 use std::sync::Wait;
-use std::thread;
 use std::thread::Threads;
 use std::time::Instant;
 use turn_loops::Placing;
@@ -37,9 +36,7 @@ pub fn time_interns<R: Threads + Wait + Clock + Sync>(
         workers,
     } = open_directory(alloc, placing, threads)?;
     let start = Instant::now(rt)?;
-    thread::map_vec(rt, workers, &|seat| work(rt, &domain, seat, threads)).map_err(
-        OutOfMemory::from,
-    )?;
+    in_threads(rt, alloc, workers, &|seat| work(rt, &domain, seat, threads))?;
     let elapsed = start.elapsed(rt)?;
     Ok(Tenths::of_each(elapsed, u64::from(TURNS)))
 }

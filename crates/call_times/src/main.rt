@@ -20,6 +20,7 @@ mod clock;
 mod directory;
 mod fault;
 mod interning;
+mod jobs;
 mod queueing;
 mod request;
 

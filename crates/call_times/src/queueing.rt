@@ -3,12 +3,11 @@ ghost use Rattle.std.specs.Prelude.{◌≤◌};
 
 use crate::clock::Tenths;
 use crate::fault::Fault;
-use out_of_memory::OutOfMemory;
+use crate::jobs::in_threads;
 use queue_turns::{OpenedQueue, TURNS, begin, make_turns, open_queue};
 use std::alloc::Global;
 use std::rt::Clock;
 use std::sync::Wait;
-use std::thread;
 use std::thread::Threads;
 use std::time::Instant;
 use turn_loops::Placing;
@@ -29,8 +28,11 @@ pub fn time_queue<R: Threads + Wait + Clock + Sync>(
     } = open_queue(alloc, placing, threads)?;
     let queue = begin(rt, &domain, &mut root, threads)?;
     let start = Instant::now(rt)?;
-    thread::map_vec(rt, workers, &|seat| make_turns(rt, &domain, seat, queue)).map_err(
-        OutOfMemory::from,
+    in_threads(
+        rt,
+        alloc,
+        workers,
+        &|seat| make_turns(rt, &domain, seat, queue),
     )?;
     let elapsed = start.elapsed(rt)?;
     Ok(Tenths::of_each(elapsed, TURNS))

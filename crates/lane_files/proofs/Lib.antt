@@ -19,6 +19,7 @@ pub mod Keeping
 pub mod Kept
 pub mod Making
 pub mod Nexts
+pub mod Owning
 pub mod Pieces
 pub mod Records
 pub mod Runs

@@ -53,11 +53,11 @@ keeps_none seat = record {
   only = λ s none. times_none s;
 }
 
-zero_or : (n : ℕ) → (n ≡ 0) ⊎ (0 < n)
+pub zero_or : (n : ℕ) → (n ≡ 0) ⊎ (0 < n)
 zero_or zero = inl refl
 zero_or (suc n) = inr (omega arith)
 
-is_or : (s t : SlotId) → (s ≡ t) ⊎ (one s t ≡ 0)
+pub is_or : (s t : SlotId) → (s ≡ t) ⊎ (one s t ≡ 0)
 is_or s t = ⊎_elim
     (λ (is : s.0 ≡ t.0). inl (λ i. record { 0 = is i }))
     (λ not. inr (one_other s t (λ is. not (sym is))))

@@ -10,5 +10,6 @@ pub mod Files
 pub mod Keeping
 pub mod Lanes
 pub mod Makes
+pub mod Owning
 pub mod Next
 pub mod Work

@@ -65,10 +65,20 @@ pub fn count_file<R: Wait, G: Gate, F: Fn(&[u64; 16]) -> u64>(
     ensures ready { IsReady domain.now shared.now seat.new }
 {
     lane.keeper.begin_file();
+    let mut room = [0; 4096];
     for number in 0..file.pieces.len() {
         gate.pass(rt, lane.number, lane.turn);
         lane.turn += 1;
-        count_next(rt, domain, seat, shared, weigh, lane, file.piece(number))?;
+        count_next(
+            rt,
+            domain,
+            seat,
+            shared,
+            weigh,
+            lane,
+            file.piece(number),
+            &mut room,
+        )?;
     }
     Ok(())
 }
@@ -82,6 +92,7 @@ fn count_next<R: Wait, F: Fn(&[u64; 16]) -> u64>(
     weigh: &Deleter<PairKind<NodeKind, RecordKind>, F>,
     lane: &mut Lane,
     piece: &[u8],
+    room: &mut [u8; 4096],
 ) -> Result<(), FileError>
     requires ready { IsReady domain.now shared.now seat.old }
     requires weighs { Weighs ⟦<PairKind<NodeKind, RecordKind> as PayloadKind>⟧.fits
@@ -105,7 +116,7 @@ fn count_next<R: Wait, F: Fn(&[u64; 16]) -> u64>(
     ensures number { lane.new.number ≡ lane.old.number }
     ensures ready { IsReady domain.now shared.now seat.new }
 {
-    let handle = count_piece(rt, domain, seat, shared, piece, &mut lane.tally)?;
+    let handle = count_piece(rt, domain, seat, shared, piece, &mut lane.tally, room)?;
     lane.keeper.keep(domain, seat, shared, handle)?;
     tidy(domain, seat, shared, weigh);
     Ok(())

@@ -43,8 +43,9 @@ pub fn drain<R: Wait>(
     ensures owns { Owns seat.old.view.core.owned seat.old seat.new }
     ensures ready { IsReady domain.now shared.now seat.new }
 {
+    let mut room = [0; 4096];
     for taken in 0..most {
-        if !take_one(rt, domain, seat, shared, tally)? {
+        if !take_one(rt, domain, seat, shared, tally, &mut room)? {
             return Ok(taken);
         }
     }

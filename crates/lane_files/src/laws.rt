@@ -1,5 +1,7 @@
 //! Which makes are refused to lanes, and what a lane has done until then.
 ghost use Rattle.std.specs.Prelude.{◌≡◌, ◌≢◌, ◌<◌, [], Some};
+ghost use Rattle.plain_state.specs.declared.slot.SlotId.{SlotId};
+ghost use Rattle.plain_state.specs.Lists.{times};
 ghost use Rattle.acquire_retire.specs.Domains.{DomainState};
 ghost use Rattle.acquire_retire.specs.Seats.{SeatState};
 ghost use Rattle.claim_law.specs.Claims.{makes_given};
@@ -11,6 +13,7 @@ ghost use Rattle.lane_files.specs.declared.refusal.LaneStop.{LaneStop};
 ghost use Rattle.lane_files.specs.declared.work.Work.{Work};
 ghost use Rattle.lane_files.specs.Lanes.{StopsLane};
 ghost use Rattle.lane_files.specs.Makes.{GrantsMakes, HasItsMakes, cause_of};
+ghost use Rattle.lane_files.specs.Owning.{OwnsNoNode};
 ghost use Rattle.lane_files.specs.Scans.{HasScanned};
 
 use directory_protocol::RecordKind;
@@ -42,4 +45,13 @@ pub fn full_lanes_have_scanned()
         (old new : SeatState View) (before after : Lane) → old.view.client.0.pushed ≡ []
         → StopsLane ⟦<PairKind<NodeKind, RecordKind> as PayloadKind>⟧.fits d work stop old new
         before after → cause_of stop ≡ Some unmade.Full → HasScanned new }
+{}
+
+/// Where a lane that owned nothing stops since each slot was found taken, it owns no node of the queue.
+pub fn full_lanes_own_no_node()
+    ensures { (d : DomainState WordsLaw) (work : Work) (stop : LaneStop)
+        (old new : SeatState View) (before after : Lane)
+        → ((s : SlotId) → times s old.view.core.owned ≡ 0) → old.view.core.weaks ≡ []
+        → StopsLane ⟦<PairKind<NodeKind, RecordKind> as PayloadKind>⟧.fits d work stop old new
+        before after → cause_of stop ≡ Some unmade.Full → OwnsNoNode new }
 {}

@@ -9,7 +9,7 @@
 //! It isn't promised that a call which may wait returns, nor who pops what.
 //!
 //! ```text
-//! count_piece(&rt, &domain, &mut seat, &shared, b"ab", &mut tally)?; // interns, offers a copy, and takes one
+//! count_piece(&rt, &domain, &mut seat, &shared, b"ab", &mut tally, &mut room)?; // interns, offers a copy, takes one
 //! drain(&rt, &domain, &mut seat, &shared, 1000, &mut tally)?; // takes until it finds none, 1,000 at most
 //! let mut lane = Lane::new(alloc, 0);
 //! run_lane(&rt, &domain, &mut seat, &shared, &gate, &weigh, &mut lane, &work)?;   // until no ticket is left

@@ -30,9 +30,9 @@ use queue_protocol::NodeKind;
 use std::sync::Wait;
 use words_protocol::WordsLaw;
 
-/// Counts a piece of 1 to 4,096 bytes beside others: it interns the piece, pushes one reference to its record, and
-/// pops an item, if one is linked, whose word the tally counts once more. The answer is a reference to the record,
-/// which lives on with it. It uses one intern.
+/// Counts a piece of 1 to 4,096 bytes beside others: it interns the piece, pushes one reference to its record, and pops
+/// an item, if one is linked, whose word, read into `room`, the tally counts once more. The answer is a reference to
+/// the record, which lives on with it. It uses one intern.
 ///
 /// `Interning` comes with the cause of an intern, and then no intern is used and nothing pushed. `Offering` comes with
 /// the cause of `offer_copy`, and nothing is pushed then. `Taking` comes with the cause of `take_one`, and the piece
@@ -47,6 +47,7 @@ pub fn count_piece<R: Wait>(
     shared: &Shared,
     piece: &[u8],
     tally: &mut Tally,
+    room: &mut [u8; 4096],
 ) -> Result<Strong, PieceError>
     requires ready { IsReady domain.now shared.now seat.old }
     requires quota { CanCount true seat.old.view.client.1 }
@@ -76,7 +77,7 @@ pub fn count_piece<R: Wait>(
         Ok(handle) => handle,
         Err(why) => return Err(PieceError::Interning(why)),
     };
-    match pass_on(rt, domain, seat, shared, &handle, tally) {
+    match pass_on(rt, domain, seat, shared, &handle, tally, room) {
         Ok(()) => Ok(handle),
         Err(error) => {
             drop_strong(domain, seat, handle);
@@ -94,6 +95,7 @@ fn pass_on<R: Wait>(
     shared: &Shared,
     handle: &Strong,
     tally: &mut Tally,
+    room: &mut [u8; 4096],
 ) -> Result<(), PieceError>
     requires ready { IsReady domain.now shared.now seat.old }
     requires owned { 0 < times handle.now.slot seat.old.view.core.owned }
@@ -117,7 +119,7 @@ fn pass_on<R: Wait>(
     if let Err(why) = offer_copy(rt, domain, seat, shared, handle) {
         return Err(PieceError::Offering(why));
     }
-    match take_one(rt, domain, seat, shared, tally) {
+    match take_one(rt, domain, seat, shared, tally, room) {
         Ok(_one) => Ok(()),
         Err(why) => Err(PieceError::Taking(why)),
     }

@@ -28,17 +28,18 @@ use std::sync::Wait;
 use text_reading::read_text;
 use words_protocol::WordsLaw;
 
-/// Pops an item, if one is linked, and counts its word. True exactly where it popped one; false only where nothing
-/// was linked behind the head's node at a step of the call. `Refused` is `AddsSpent`, and comes only where no
-/// add is left; then nothing is popped. After `OutOfMemory` an item is popped whose word is a new one, and isn't
-/// counted. The tally is as it was after false and after a refusal. No make. At most 29 steps and two collects for each
-/// try of the pop, and 700 steps more. It may wait for other threads.
+/// Pops an item, if one is linked, and counts its word, which it reads into `room`. True exactly where it popped one;
+/// false only where nothing was linked behind the head's node at a step of the call. `Refused` is `AddsSpent`, and
+/// comes only where no add is left; then nothing is popped. After `OutOfMemory` an item is popped whose word is a new
+/// one, and isn't counted. The tally is as it was after false and after a refusal. No make. At most 29 steps and two
+/// collects for each try of the pop, and 700 steps more. It may wait for other threads.
 pub fn take_one<R: Wait>(
     rt: &R,
     domain: &Domain<WordsLaw>,
     seat: &mut Seat<WordsLaw>,
     shared: &Shared,
     tally: &mut Tally,
+    room: &mut [u8; 4096],
 ) -> Result<bool, LaneError>
     requires ready { IsReady domain.now shared.now seat.old }
     requires few { total_of tally.old < 2 ^ 63 }
@@ -55,7 +56,7 @@ pub fn take_one<R: Wait>(
 {
     match shared.queue.pop::<Left, WordsLaw, R>(rt, domain, seat) {
         Ok(Some(item)) => {
-            tally_item(domain, seat, item, tally)?;
+            tally_item(domain, seat, item, tally, room)?;
             Ok(true)
         }
         Ok(None) => Ok(false),
@@ -69,6 +70,7 @@ fn tally_item(
     seat: &mut Seat<WordsLaw>,
     item: Strong,
     tally: &mut Tally,
+    room: &mut [u8; 4096],
 ) -> Result<(), OutOfMemory>
     requires rest { IsAtRest domain.now seat.old }
     requires room { HasRoom seat.old.view.core }
@@ -84,7 +86,7 @@ fn tally_item(
     ensures room { HasRoom seat.new.view.core }
     ensures rest { IsAtRest domain.now seat.new }
 {
-    let counted = tally_slot(domain, seat, item.slot(), tally);
+    let counted = tally_slot(domain, seat, item.slot(), tally, room);
     drop_strong(domain, seat, item);
     counted
 }
@@ -95,6 +97,7 @@ fn tally_slot(
     seat: &mut Seat<WordsLaw>,
     slot: SlotId,
     tally: &mut Tally,
+    room: &mut [u8; 4096],
 ) -> Result<(), OutOfMemory>
     requires rest { IsAtRest domain.now seat.old }
     requires room { HasRoom seat.old.view.core }
@@ -112,7 +115,6 @@ fn tally_slot(
     ensures rest { IsAtRest domain.now seat.new }
 {
     begin_read(domain, seat, slot);
-    let mut text = [0; 4096];
-    let size = read_text::<Right, WordsLaw>(domain, seat, slot, &mut text);
-    tally.add(&text[..size as usize])
+    let size = read_text::<Right, WordsLaw>(domain, seat, slot, room);
+    tally.add(&room[..size as usize])
 }

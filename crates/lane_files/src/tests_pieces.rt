@@ -81,17 +81,24 @@ fn the_words_of_b_a_b_are_counted(rt: HostRuntime) -> Result<(), Fail> {
         panic!(rt; "a queue")
     };
     let mut tally = Tally::new(rt.alloc());
-    let Ok(first) = count_piece(&rt, &domain, &mut seat, &shared, b"b", &mut tally) else {
+    let mut room = [0; 4096];
+    let Ok(first) = count_piece(
+        &rt, &domain, &mut seat, &shared, b"b", &mut tally, &mut room,
+    ) else {
         panic!(rt; "b is counted")
     };
-    let Ok(_) = count_piece(&rt, &domain, &mut seat, &shared, b"a", &mut tally) else {
+    let Ok(_) = count_piece(
+        &rt, &domain, &mut seat, &shared, b"a", &mut tally, &mut room,
+    ) else {
         panic!(rt; "a is counted")
     };
-    let Ok(again) = count_piece(&rt, &domain, &mut seat, &shared, b"b", &mut tally) else {
+    let Ok(again) = count_piece(
+        &rt, &domain, &mut seat, &shared, b"b", &mut tally, &mut room,
+    ) else {
         panic!(rt; "b is counted once more")
     };
     assert_eq!(rt; again.slot(), first.slot());
-    let Ok(false) = take_one(&rt, &domain, &mut seat, &shared, &mut tally) else {
+    let Ok(false) = take_one(&rt, &domain, &mut seat, &shared, &mut tally, &mut room) else {
         panic!(rt; "all were popped")
     };
     assert_eq!(rt; tally.get(b"b"), 2);

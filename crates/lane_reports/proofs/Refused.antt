@@ -11,6 +11,11 @@ use Rattle.slot_store.specs.declared.making.MakeError.TheVariants as unmade
 use Rattle.queue_law.specs.declared.view.Form.{Form}
 use Rattle.queue_law.specs.declared.view.View.{View as QueueView}
 use Rattle.words_law.specs.Views.{View}
+use Rattle.plain_state.specs.declared.slot.SlotId.{SlotId}
+use Rattle.plain_state.specs.Lists.{times}
+use Rattle.core_events.specs.declared.view.CoreView.{CoreView}
+use Rattle.core_law.proofs.Kit.{times_none}
+use Rattle.lane_files.specs.Owning.{OwnsNoNode}
 use Rattle.lane_files.specs.Scans.{HasScanned}
 use Rattle.words_protocol.specs.declared.law.WordsLaw.{WordsLaw}
 use Rattle.lane_files.specs.declared.refusal.LaneError.TheVariants as untaken
@@ -27,12 +32,13 @@ use Rattle.lane_files.specs.declared.work.Work.{Work}
 use Rattle.lane_files.specs.Lanes.{IsWhyStopped, StopsLane}
 use Rattle.lane_files.specs.PieceMakes.{cause_in}
 use Rattle.lane_files.specs.Makes.{HasItsMakes, cause_of}
+use Rattle.lane_files.proofs.Owning.{owns_no_node}
 use Rattle.lane_files.proofs.Pushed.{full_scanned}
 use Rattle.core_law.proofs.Each.{get_each, length_each}
 use Rattle.lane_domain.specs.Opened.{FindsNoSlot, IsDomainFor, fresh_lanes, fresh_seat}
 use Rattle.lane_domain.proofs.Enough.{attached_makes, makes_left, slots_lacked}
 use Rattle.lane_domain.specs.declared.ending.LaneEnd.{LaneEnd}
-use Rattle.lane_domain.specs.Beginning.{Attaches}
+use Rattle.lane_domain.specs.Beginning.{Attaches, HasDoneNothing}
 use Rattle.lane_domain.specs.Ending.{EndAll, EndsLane, RunsOrStops}
 use Rattle.lane_reports.specs.declared.counted.CountError.{CountError}
 use Rattle.lane_reports.specs.Refusals.{IsAnswerFor, IsFirstRefusal, IsWhyNothing}
@@ -48,6 +54,16 @@ pub unlaid_scanned : (fits : List ℕ → Type 0) (d : DomainState WordsLaw) (ro
     → FindsNoSlot fits d root → HasScanned root
 unlaid_scanned fits d root finds =
     let none = ap (λ (q : QueueView). length q.pushed) finds.goes.client in omega arith
+
+-- and it owns nothing
+pub unlaid_owns : (fits : List ℕ → Type 0) (d : DomainState WordsLaw) (root : SeatState View)
+    → FindsNoSlot fits d root → OwnsNoNode root
+unlaid_owns fits d root finds = record {
+  strongly = λ s some.
+      absurd (let is = ap (λ (v : CoreView). times s v.owned) finds.goes.becomes.core in
+      let z = times_none s in omega (arith, some, is, z));
+  weakly = λ s. ap (λ (v : CoreView). times s v.weaks) finds.goes.becomes.core ∙ times_none s;
+}
 
 module _ (fits : List ℕ → Type 0) (d : DomainState WordsLaw) where
   copy_spent : (s : _) (why : MakeError) (old new : SeatState View) → IsAdds (Some why)
@@ -84,7 +100,8 @@ module _ (fits : List ℕ → Type 0) (d : DomainState WordsLaw) where
     module _ (lanes slots : ℕ) (form : Form) (is : IsDomainFor work lanes slots form d) where
       stop_why : (stop : LaneStop) (begun seat : SeatState View) (before after : Lane)
           (error : CountError) → StopsLane fits d work stop begun seat before after
-          → HasItsMakes d begun → begun.view.client.0.pushed ≡ [] → (o : Option MakeError) → cause_of stop ≡ o → IsAnswerFor o seat error
+          → HasItsMakes d begun → HasDoneNothing begun → (o : Option MakeError)
+          → cause_of stop ≡ o → IsAnswerFor o seat error
           → IsWhyNothing fits work lanes slots form error
       unfolding IsAdds
       stop_why stop begun seat before after error stops has new None cause answer =
@@ -108,7 +125,8 @@ module _ (fits : List ℕ → Type 0) (d : DomainState WordsLaw) where
               stops = stops;
               cause = cause;
             }),
-            full_scanned fits d work stop begun seat before after new stops cause,
+            full_scanned fits d work stop begun seat before after new.pushed stops cause,
+            owns_no_node fits d work stop begun seat before after new.owned new.weaks stops cause,
           )
 
       pub lane_why : (on : Shared) (seats : List (SeatState View)) (ends : List LaneEnd)
@@ -140,5 +158,5 @@ module _ (fits : List ℕ → Type 0) (d : DomainState WordsLaw) where
           stop_why refusal.0 ends_one.begun ended.seat ends_one.lane ended.lane error
           (subst (λ (r : Result (Unit {0}) LaneStop).
           RunsOrStops fits d work r ends_one.begun ended.seat ends_one.lane ended.lane)
-          refusal.1 ends_one.runs) has ends_one.attaches.nothing.pushed (cause_of refusal.0) refl
+          refusal.1 ends_one.runs) has ends_one.attaches.nothing (cause_of refusal.0) refl
           refusal.2

@@ -13,6 +13,7 @@ use Rattle.lane_files.specs.declared.refusal.LaneStop.{LaneStop}
 use Rattle.lane_files.specs.declared.work.Work.{Work}
 use Rattle.lane_files.specs.Lanes.{StopsLane}
 use Rattle.lane_files.specs.Makes.{cause_of}
+use Rattle.lane_files.specs.Owning.{OwnsNoNode}
 use Rattle.lane_files.specs.Scans.{HasScanned}
 use Rattle.lane_domain.specs.Opened.{FindsNoSlot, IsDomainFor}
 use Rattle.lane_domain.specs.Sizes.{all_parts, all_pieces}
@@ -53,11 +54,11 @@ module _ (fits : List ℕ → Type 0) (work : Work) (d : DomainState WordsLaw) w
 
 -- Why nothing was counted: there was no memory; or this seat has no add left; or in a domain for this work, which has
 -- fewer slots than makes, seat 0 found each slot taken before the lanes began, or a lane did. That seat has made at
--- least as many whole scans as it pushed items.
+-- least as many whole scans as it pushed items, and owns no node of the queue.
 abbrev pub IsWhyNothing : (List ℕ → Type 0) → Work → ℕ → ℕ → Form → CountError → Type 0
 IsWhyNothing fits work lanes slots form refused.OutOfMemory = Unit {0}
 IsWhyNothing fits work lanes slots form (refused.Spent seat) = IsSpent seat.view.core
 IsWhyNothing fits work lanes slots form (refused.Full seat) =
     (d : DomainState WordsLaw) × IsDomainFor work lanes slots form d
     × (slots < work.rounds * (all_pieces work + all_parts work) + 2)
-    × (FindsNoSlot fits d seat ⊎ StopsUnmade fits work d seat) × HasScanned seat
+    × (FindsNoSlot fits d seat ⊎ StopsUnmade fits work d seat) × HasScanned seat × OwnsNoNode seat

@@ -35,8 +35,9 @@ pub fn take_all<R: Wait>(
     ensures owns { Owns seat.old.view.core.owned seat.old seat.new }
     ensures ready { IsReady domain.now shared.now seat.new }
 {
+    let mut room = [0; 4096];
     for _taken in 0..most {
-        take_next(rt, domain, seat, shared, tally)?;
+        take_next(rt, domain, seat, shared, tally, &mut room)?;
     }
     Ok(())
 }
@@ -48,6 +49,7 @@ fn take_next<R: Wait>(
     seat: &mut Seat<WordsLaw>,
     shared: &Shared,
     tally: &mut Tally,
+    room: &mut [u8; 4096],
 ) -> Result<(), LaneError>
     requires ready { IsReady domain.now shared.now seat.old }
     requires few { total_of tally.old < 2 ^ 63 }
@@ -62,7 +64,7 @@ fn take_next<R: Wait>(
 {
     let backoff = Backoff::new();
     for _try in rt.forever() {
-        if take_one(rt, domain, seat, shared, tally)? {
+        if take_one(rt, domain, seat, shared, tally, room)? {
             return Ok(());
         }
         backoff.spin();
