@@ -1,5 +1,6 @@
 //! The threads that make the turns.
-ghost use Rattle.std.specs.Prelude.{◌≡◌, ◌++◌, [], ◌∷◌, None, Some, IfOk, IfSome, map};
+ghost use Rattle.std.specs.Prelude.{ℕ, ◌≡◌, ◌<◌, ◌++◌, [], ◌∷◌, length, map, slice_index_or};
+ghost use Rattle.std.specs.Prelude.{None, Some, IfOk, IfSome, OnOk};
 ghost use Rattle.std.specs.Fork.{AcceptsJobs};
 
 use out_of_memory::OutOfMemory;
@@ -8,7 +9,8 @@ use std::thread;
 use std::thread::Threads;
 
 /// Calls `turns` with each seat, each in a thread of its own where one can be made. The thread of the caller takes no
-/// seat: it only waits, so its processor is free for one of the others.
+/// seat: it only waits, so its processor is free for one of the others. Once it answers, each call has returned.
+/// Refused, for an allocation failure alone, some calls may not have been made, and their seats are gone.
 pub fn in_threads<R: Threads + Sync, T: Send + Drop, F: Fn(T) + Sync>(
     rt: &R,
     alloc: Global,
@@ -16,10 +18,14 @@ pub fn in_threads<R: Threads + Sync, T: Send + Drop, F: Fn(T) + Sync>(
     turns: &F,
 ) -> Result<(), OutOfMemory>
     requires { AcceptsJobs F.Fn turns.now seats.items }
+    ensures { OnOk result ((i : ℕ) → i < length seats.items
+        → (seat : _) × ((d : _) → slice_index_or seats.items i d ≡ seat)
+        × F.post turns.now seat tt) }
 {
     let jobs = jobs_of(alloc, seats)?;
     let turns_of = |job: Option<T>|
         requires { IfSome job (λ seat. F.pre turns.now seat) }
+        ensures { IfSome job (λ seat. F.post turns.entry.now seat tt) }
     {
         if let Some(seat) = job {
             turns(seat);
