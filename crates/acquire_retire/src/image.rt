@@ -1,5 +1,5 @@
 //! The whole state of a domain, as words.
-ghost use Rattle.std.specs.Prelude.{◌≡◌, ◌+◌, ◌<◌, ◌≤◌, [], false, IfOk, IsSome};
+ghost use Rattle.std.specs.Prelude.{◌≡◌, ◌+◌, ◌<◌, ◌≤◌, [], false, IfOk, IsSome, OnOk};
 ghost use Rattle.plain_state.specs.Limits.{words_of_payload};
 ghost use Rattle.plain_state.specs.Images.{IsImage, image_at};
 ghost use Rattle.plain_state.specs.State.{seat_at};
@@ -51,25 +51,26 @@ impl<P: Protocol> Domain<P> {
         self.read(seat, word)
     }
 
-    /// The words from a place on.
+    /// The words from a place on, in a list's own memory where that is enough.
     fn known_words(
         &self,
-        alloc: Global,
         seat: &mut atomic_table::Seat<(), SeatView<P::View>>,
         first: usize,
         count: u32,
-    ) -> Result<Vec<u64>, OutOfMemory>
+        words: &mut Vec<u64>,
+    ) -> Result<(), OutOfMemory>
         requires knows { KnowsCore self.now P.Kind.fits seat.old }
         requires words { first + count ≤ word_count self.now.shape }
         ensures stays { IsSame seat.old seat.new }
-        ensures words { IfOk result (λ words.
-            words.items ≡ each_from 0 count (λ i. known_word seat.old (first + i))) }
+        ensures words { OnOk result (words.new.items
+            ≡ each_from 0 count (λ i. known_word seat.old (first + i))) }
     {
-        let mut words = Vec::with_capacity(alloc, count as usize)?;
+        words.clear();
+        words.reserve(count as usize)?;
         for i in 0..count {
             words.push_reserved(self.known_word(seat, first + i as usize));
         }
-        Ok(words)
+        Ok(())
     }
 
     /// The payload words of a slot.
@@ -111,46 +112,45 @@ impl<P: Protocol> Domain<P> {
         }
     }
 
+    /// The words of each slot, in a list's own memory where that is enough.
     fn slot_images(
         &self,
-        alloc: Global,
         seat: &mut atomic_table::Seat<(), SeatView<P::View>>,
-    ) -> Result<Vec<SlotImage>, OutOfMemory>
+        images: &mut Vec<SlotImage>,
+    ) -> Result<(), OutOfMemory>
         requires knows { KnowsCore self.now P.Kind.fits seat.old }
         ensures stays { IsSame seat.old seat.new }
-        ensures images { IfOk result (λ images. images.items ≡ each_from 0 self.now.shape.slots
+        ensures images { OnOk result (images.new.items ≡ each_from 0 self.now.shape.slots
             (λ x. image_at (known_state self.now seat.old) (record { 0 = x }))) }
     {
-        let mut images = Vec::with_capacity(alloc, self.shape.slots as usize)?;
+        images.clear();
+        images.reserve(self.shape.slots as usize)?;
         for slot in 0..self.shape.slots {
             images.push_reserved(self.slot_image(seat, SlotId(slot)));
         }
-        Ok(images)
+        Ok(())
     }
 
     /// All words, with the entries that the seat has deferred.
     fn heap_image(
         &self,
-        alloc: Global,
         seat: &mut atomic_table::Seat<(), SeatView<P::View>>,
-        deferred: Vec<(Kind, SlotId)>,
-    ) -> Result<Heap, OutOfMemory>
+        deferred: &[(Kind, SlotId)],
+        heap: &mut Heap,
+    ) -> Result<(), OutOfMemory>
         requires knows { KnowsCore self.now P.Kind.fits seat.old }
-        requires deferred { deferred.items ≡ (seat_at (known_state self.now seat.old) 0).deferred }
+        requires deferred { deferred.now ≡ (seat_at (known_state self.now seat.old) 0).deferred }
         ensures stays { IsSame seat.old seat.new }
-        ensures image { IfOk result (IsImage (known_state self.now seat.old)) }
+        ensures image { OnOk result (IsImage (known_state self.now seat.old) heap.new) }
     {
         let first = place_index(&self.shape, EventPlace::Cell(0));
-        let cells = self.known_words(alloc, seat, first, self.shape.cells)?;
+        self.known_words(seat, first, self.shape.cells, &mut heap.cells)?;
         let first = place_index(&self.shape, EventPlace::WeakCell(0));
-        let weak_cells = self.known_words(alloc, seat, first, self.shape.weak_cells)?;
-        let slots = self.slot_images(alloc, seat)?;
-        Ok(Heap {
-            slots,
-            cells,
-            weak_cells,
-            deferred,
-        })
+        self.known_words(seat, first, self.shape.weak_cells, &mut heap.weak_cells)?;
+        self.slot_images(seat, &mut heap.slots)?;
+        heap.deferred.clear();
+        heap.deferred.extend_from_slice(deferred)?;
+        Ok(())
     }
 
     /// The whole state as words, taken by a seat that is alone, in the middle of nothing, and owes nothing: the strong
@@ -164,8 +164,38 @@ impl<P: Protocol> Domain<P> {
         ensures stays { seat.new ≡ seat.old }
         ensures image { IfOk result (IsWholeImage P.Kind.fits seat.old.view) }
     {
+        let mut heap = empty_image(alloc);
+        self.image_into(seat, &mut heap)?;
+        Ok(heap)
+    }
+
+    /// The same in the memory of another image, of which nothing is left. It takes memory only for what that hasn't
+    /// room for: none, where it is an image of the same domain, but for entries that the seat has deferred since. Where
+    /// there is no memory, nothing is told of what is left there.
+    pub fn image_into(&self, seat: &mut Seat<P>, heap: &mut Heap) -> Result<(), OutOfMemory>
+        requires seat { IsOf self.now seat.old }
+        requires alone { IsAlone seat.old.view }
+        requires idle { IsIdle seat.old.view.core }
+        requires owes_nothing { seat.old.view.core.owed ≡ [] }
+        ensures stays { seat.new ≡ seat.old }
+        ensures image { OnOk result (IsWholeImage P.Kind.fits seat.old.view heap.new) }
+    {
         self.learn(&mut seat.seat);
-        let deferred = seat.batch.retired().to_vec(alloc)?;
-        self.heap_image(alloc, &mut seat.seat, deferred)
+        self.heap_image(&mut seat.seat, seat.batch.retired(), heap)
+    }
+}
+
+/// An image of nothing, which has no memory yet.
+pub fn empty_image(alloc: Global) -> Heap
+    ensures slots { result.slots.items ≡ [] }
+    ensures cells { result.cells.items ≡ [] }
+    ensures weak_cells { result.weak_cells.items ≡ [] }
+    ensures deferred { result.deferred.items ≡ [] }
+{
+    Heap {
+        slots: Vec::new(alloc),
+        cells: Vec::new(alloc),
+        weak_cells: Vec::new(alloc),
+        deferred: Vec::new(alloc),
     }
 }

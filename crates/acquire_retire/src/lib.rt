@@ -55,6 +55,7 @@ mod weak_counters;
 pub use core_events::{EventPlace, Kind, Outcome, Quota, Shape, ShapeField, SlotId};
 pub use domain::Domain;
 pub use errors::OpenError;
+pub use image::empty_image;
 pub use opening::{open_domain, open_granted};
 pub use payment::{Payment, Work};
 pub use seat::{Seat, SeatOf};

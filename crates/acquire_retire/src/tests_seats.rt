@@ -74,7 +74,8 @@ fn one_seat_leaves_and_the_other_closes(rt: HostRuntime) -> Result<(), Fail> {
     );
     domain.leave(&mut root, other);
     assert!(rt; domain.alone(&root));
-    let heap = domain.image(rt.alloc(), &mut root)?;
+    let mut heap = domain.image(rt.alloc(), &mut root)?;
+    domain.image_into(&mut root, &mut heap)?;
     assert_eq!(rt;
         (heap.slots.len(), heap.cells.len(), heap.weak_cells.len()),
         (2, 1, 3)

@@ -1,4 +1,4 @@
-use Rattle.std.proofs.Common.{◌≡◌, ◌+◌, vec_capacity, vec_len}
+use Rattle.std.proofs.Common.{◌≡◌, ◌+◌, ◌≤◌, vec_capacity, vec_len}
 use Rattle.core_events.specs.Words.{each_from}
 use Rattle.acquire_retire.specs.Wholes.{IsSame, known_word}
 use Rattle.acquire_retire.proofs.domain.Domain.known_words.Given as goal
@@ -8,5 +8,5 @@ invariant-loop-i g l = record {
   same : IsSame l.fn.seat l.seat;
   words : l.words.items ≡ each_from 0 l.i (λ i. known_word l.fn.seat (l.first + i));
   count : vec_len l.words ≡ l.i;
-  capacity : vec_capacity l.words ≡ l.count;
+  capacity : l.count ≤ vec_capacity l.words;
 }

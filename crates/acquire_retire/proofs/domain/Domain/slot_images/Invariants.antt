@@ -1,4 +1,4 @@
-use Rattle.std.proofs.Common.{◌≡◌, vec_capacity, vec_len}
+use Rattle.std.proofs.Common.{◌≡◌, ◌≤◌, vec_capacity, vec_len}
 use Rattle.plain_state.specs.Images.{image_at}
 use Rattle.core_events.specs.Words.{each_from}
 use Rattle.acquire_retire.specs.Wholes.{IsSame, known_state}
@@ -10,5 +10,5 @@ invariant-loop-slot g l = record {
   images : l.images.items ≡ each_from 0 l.slot
       (λ x. image_at (known_state l.fn.self l.fn.seat) (record { 0 = x }));
   count : vec_len l.images ≡ l.slot;
-  capacity : vec_capacity l.images ≡ l.fn.self.shape.slots;
+  capacity : l.fn.self.shape.slots ≤ vec_capacity l.images;
 }
