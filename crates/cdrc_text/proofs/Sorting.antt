@@ -25,7 +25,7 @@ use Rattle.cdrc_text.proofs.Counts.{same_bytes, values-entries_of}
 -- ---- a count as a sum, which the order does not change
 
 -- what an entry adds to the count of w
-abbrev weight : List ℕ → List ℕ × ℕ → ℕ
+abbrev pub weight : List ℕ → List ℕ × ℕ → ℕ
 weight w e = cond (bytes_eq w e.0) e.1 0
 
 weightless : (w : List ℕ) (es : List (List ℕ × ℕ)) → AllByRecursion (λ v. bytes_eq w v ≡ false) (keys_of es) → sum_by (weight w) es ≡ 0
@@ -35,7 +35,7 @@ weightless w (e ∷ es) apart =
     let first : weight w e ≡ 0 = cond-false _ _ _ apart.0 in
     omega (arith, sum_by-cons (weight w) e es, rest, first)
 
-count_of-sum : (w : List ℕ) (es : List (List ℕ × ℕ)) → IsDistinct bytes_eq (keys_of es) → count_of es w ≡ sum_by (weight w) es
+pub count_of-sum : (w : List ℕ) (es : List (List ℕ × ℕ)) → IsDistinct bytes_eq (keys_of es) → count_of es w ≡ sum_by (weight w) es
 unfolding count_of
 count_of-sum w [] distinct = refl
 count_of-sum w (e ∷ es) distinct = by_test (bytes_eq w e.0) refl (count_of-sum w es (IsDistinct-tail bytes_eq e.0 (keys_of es) distinct))

@@ -69,7 +69,19 @@ impl Tally {
         for (word, count) in self.counts.iter() {
             rows.push((Vec::from_slice(alloc, word.as_slice())?, *count))?;
         }
-        rows.sort_unstable();
+        // The words lie apart, so a comparison of two misses the cache. Their first bytes are sorted beside each other,
+        // and the second sort finds runs that are in order.
+        rows.sort_by_cached_key(|row: &(Vec<u8>, u64)| first_bytes(row.0.as_slice()))?;
+        rows.sort()?;
         Ok(rows)
     }
+}
+
+/// The first eight bytes of a word, as a number with the first byte on top.
+fn first_bytes(word: &[u8]) -> u64 {
+    let mut first = [0; 8];
+    for (at, byte) in word.iter().take(8).enumerate() {
+        first[at] = *byte;
+    }
+    u64::from_be_bytes(first)
 }

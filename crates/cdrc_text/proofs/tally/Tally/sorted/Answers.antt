@@ -1,4 +1,5 @@
 use Rattle.std.proofs.Common.{◌≡◌, ◌++◌, sym, ap, ◌∙◌, subst, append-nil}
+use Rattle.std.proofs.lemmas.List.Sorted.{IsPermutation-trans}
 use Rattle.cdrc_text.specs.Tally.{ListsWords, entries_of}
 use Rattle.cdrc_text.proofs.Sorting.{lists-sorted, rows-more}
 use Rattle.cdrc_text.proofs.tally.Tally.sorted.Goals as goal
@@ -14,6 +15,8 @@ returns c =
     let entries = c.self.inside.counts.entries in
     let view : entries_of entries ≡ c.args.self.now = c.self.view_is in
     let all = sym (append-nil (entries_of rows)) ∙ sym (ap (λ left. entries_of rows ++ entries_of left) c.in-None.ensures.steps.0) ∙ c.loop-word.invariant in
-    subst (λ counted. ListsWords counted (entries_of c.sort_unstable.new.self.items)) view
-    (lists-sorted entries rows c.sort_unstable.new.self.items (all ∙ sym view) c.iter-word-items.ensures.unique c.self.invariant
-    c.sort_unstable.ensures.permutation c.sort_unstable.ensures.sorted)
+    subst (λ counted. ListsWords counted (entries_of c.sort.new.self.items)) view
+    (lists-sorted entries rows c.sort.new.self.items (all ∙ sym view) c.iter-word-items.ensures.unique c.self.invariant
+    (IsPermutation-trans rows c.sort_by_cached_key.new.self.items c.sort.new.self.items
+    c.in_ok-sort_by_cached_key.ensures.permutation c.in_ok-sort.ensures.permutation)
+    c.in_ok-sort.ensures.sorted)
