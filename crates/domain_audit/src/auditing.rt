@@ -7,11 +7,12 @@ ghost use Rattle.control_word.specs.Moves.{KnowsStill};
 ghost use Rattle.control_word.specs.Resting.{IsAtRest};
 ghost use Rattle.domain_audit.specs.Audits.{IsWholeAudit, KnowsLone, Stays};
 
-use acquire_retire::{Domain, Kind, Seat};
+use acquire_retire::{Domain, Kind, Seat, empty_image};
 use deleter::Deleter;
 use heap_audit::{Audit, audit};
 use out_of_memory::OutOfMemory;
 use plain_protocol::Protocol;
+use plain_state::Heap;
 use std::alloc::Global;
 
 /// A seat that is alone learns that the core which it knows is one that events reach. A step tells that, and an image
@@ -69,7 +70,35 @@ pub fn audit_domain<P: Protocol, F: Fn(&[u64; 16]) -> u64>(
     ensures alone { IsAlone seat.new.view }
     ensures rest { IsAtRest domain.now seat.new }
 {
+    let mut image = empty_image(alloc);
+    audit_domain_in(alloc, domain, seat, weigh, rank, &mut image)
+}
+
+/// The same, and the image is taken in the memory of an earlier one, of which nothing is told afterwards.
+pub fn audit_domain_in<P: Protocol, F: Fn(&[u64; 16]) -> u64>(
+    alloc: Global,
+    domain: &Domain<P>,
+    seat: &mut Seat<P>,
+    weigh: &Deleter<P::Kind, F>,
+    rank: &[u64],
+    image: &mut Heap,
+) -> Result<Audit, OutOfMemory>
+    requires rest { IsAtRest domain.now seat.old }
+    requires alone { IsAlone seat.old.view }
+    requires none_dying { seat.old.view.core.dying ≡ [] }
+    requires weighs { Weighs P.Kind.fits P.Kind.weight F.Fn weigh.now }
+    requires ranked { length rank.now ≡ domain.now.shape.slots }
+    ensures found { IfOk result
+        (IsWholeAudit P.Kind.fits P.Kind.weight rank.now seat.new.view) }
+    ensures stays { Stays P.Kind.fits domain.now seat.old seat.new }
+    ensures client { seat.new.view.client ≡ seat.old.view.client }
+    ensures objects { KnowsStill seat.old.view.core seat.old seat.new }
+    ensures whole { (own_of seat.new.view).whole ≡ (own_of seat.old.view).whole }
+    ensures room { HasRoom seat.old.view.core → HasRoom seat.new.view.core }
+    ensures alone { IsAlone seat.new.view }
+    ensures rest { IsAtRest domain.now seat.new }
+{
     learn(domain, seat);
-    let image = domain.image(alloc, seat)?;
-    audit(alloc, &image, weigh, rank)
+    domain.image_into(seat, image)?;
+    audit(alloc, image, weigh, rank)
 }

@@ -23,6 +23,6 @@ mod laws;
 #[cfg(test)]
 mod tests;
 
-pub use auditing::audit_domain;
+pub use auditing::{audit_domain, audit_domain_in};
 pub use heap_audit::Audit;
 pub use laws::image_can_be_audited;

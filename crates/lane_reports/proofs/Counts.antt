@@ -5,7 +5,7 @@ use Rattle.std.specs.List.{sum, sum_by}
 use Rattle.std.specs.Map.{values_of}
 use Rattle.cdrc_text.specs.Tally.{entries_of, total_of}
 use Rattle.cdrc_text.proofs.Counts.{total_of-is}
-use Rattle.lane_reports.specs.Words.{Tallies}
+use Rattle.tally_sums.specs.Sums.{Tallies}
 
 sum_push : (es : List (Vec ℕ Global × ℕ)) (e : Vec ℕ Global × ℕ)
     → sum (values_of (es ++ e ∷ [])) ≡ sum (values_of es) + e.1

@@ -46,7 +46,7 @@ use Rattle.lane_reports.specs.Reporting.{CountWork, HasCounted, KeepsWork}
 use Rattle.lane_reports.specs.Rows.{AreWords}
 use Rattle.lane_reports.specs.Shutting.{ShutsAndSettles}
 use Rattle.lane_reports.specs.Taking.{TakesRest}
-use Rattle.lane_reports.specs.Words.{Tallies, counted_in}
+use Rattle.tally_sums.specs.Sums.{Tallies, counted_in}
 use Rattle.lane_reports.proofs.Alike.{all_alike, files_alike}
 use Rattle.lane_reports.proofs.AtRest.{alone_in}
 use Rattle.lane_reports.proofs.Counting.{counts_all}

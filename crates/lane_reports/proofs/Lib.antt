@@ -12,7 +12,6 @@ pub mod Starting
 pub mod TakenAll
 pub mod Tells
 pub mod Told
-pub mod WordsCounted
 pub mod CountingHolders
 pub mod Learned
 pub mod AtRest
@@ -23,7 +22,6 @@ pub mod Writing
 pub mod Finished
 pub mod Audited
 pub mod Small
-pub mod Distinct
 pub mod Dropped
 pub mod Finding
 pub mod Quiet

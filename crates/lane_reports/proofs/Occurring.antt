@@ -40,7 +40,7 @@ use Rattle.lane_reports.specs.Deeds.{LaneDeeds}
 use Rattle.lane_reports.specs.Gathering.{AreTallies, Tally, words_popped}
 use Rattle.lane_reports.specs.Reporting.{CountWork}
 use Rattle.lane_reports.specs.Rows.{AreWords}
-use Rattle.lane_reports.specs.Words.{Tallies, counted_in}
+use Rattle.tally_sums.specs.Sums.{Tallies, counted_in}
 
 -- OF LISTS OF WORDS
 pub times_both : (w : List ℕ) (xs ys : List (List ℕ)) → times w (xs ++ ys) ≡ times w xs + times w ys

@@ -1,8 +1,10 @@
 -- The records that were found so far, and the words that are left.
 use Rattle.std.proofs.Common.{◌≡◌, ℕ, ◌<◌, ◌≤◌, Bool, List, [], ◌∷◌, ◌++◌, Vec, Global, ap, sym, ◌∙◌, subst, append_assoc, arith}
 use Rattle.std.specs.List.{All, Contains}
+use Rattle.std.specs.Map.{keys_of}
 use Rattle.std.proofs.lemmas.List.{map-append}
 use Rattle.std.proofs.lemmas.List.Elements.{All-push, Contains-append_right}
+use Rattle.cdrc_text.specs.Tally.{entries_of}
 use Rattle.cdrc_text.proofs.Unique.{Contains-first}
 use Rattle.plain_state.specs.declared.slot.SlotId.{SlotId}
 use Rattle.plain_state.specs.Lists.{times}
@@ -18,8 +20,8 @@ use Rattle.words_rest.specs.Kept.{TellsWord}
 use Rattle.lane_reports.specs.declared.records.WordRecord.{WordRecord}
 use Rattle.lane_reports.specs.Holders.{AreSlotsOf, OwnsEach, texts, with_texts}
 use Rattle.lane_reports.specs.Kept.{lives_in}
-use Rattle.lane_reports.specs.Rows.{IsRecordOf, words_in}
-use Rattle.lane_reports.specs.Words.{AreCounted, Tallies, counted_in, texts_of}
+use Rattle.lane_reports.specs.Rows.{IsRecordOf, sums_in}
+use Rattle.tally_sums.specs.Sums.{SumsUp, Tallies, counted_in}
 use Rattle.lane_reports.proofs.Counting.{learns_more}
 
 -- a seat that owns what it owned owns each of the kept references
@@ -31,28 +33,30 @@ owns_each kept is_held a b slots own left s is =
     let some = (slots s).0 is in let most = own s in let same = left.owns s in
     omega (arith, some, most, same)
 
-module _ (tallies : Tallies) (records : List WordRecord) (w : Vec ℕ Global)
-    (left rest : List (Vec ℕ Global)) (is : left ≡ w ∷ rest)
-    (words : AreCounted tallies (words_in records ++ texts_of left)) where
+module _ (tallies : Tallies) (records : List WordRecord) (w : Vec ℕ Global) (n : ℕ)
+    (left rest : List (Vec ℕ Global × ℕ)) (is : left ≡ (w, n) ∷ rest)
+    (words : SumsUp tallies (sums_in records ++ entries_of left)) where
   -- the next word was counted
   pub next_counted : 0 < counted_in tallies w.items
   next_counted =
-      (words.counted w.items).0
-      (Contains-append_right (words_in records) (texts_of left) w.items
-      (subst (λ (ws : List (Vec ℕ Global)). Contains (texts_of ws) w.items) (sym is)
-      (Contains-first w.items (texts_of rest))))
+      (words.words.counted w.items).0
+      (subst (λ (ks : List (List ℕ)). Contains ks w.items)
+      (sym (map-append (λ (e : List ℕ × ℕ). e.0) (sums_in records) (entries_of left)))
+      (Contains-append_right (keys_of (sums_in records)) (keys_of (entries_of left)) w.items
+      (subst (λ (es : List (Vec ℕ Global × ℕ)). Contains (keys_of (entries_of es)) w.items) (sym is)
+      (Contains-first w.items (keys_of (entries_of rest))))))
 
   pub words_more : (more : List WordRecord) (s : SlotId)
-      → more ≡ records ++ record { word = w; slot = s } ∷ []
-      → AreCounted tallies (words_in more ++ texts_of rest)
+      → more ≡ records ++ record { word = w; occurrences = n; slot = s } ∷ []
+      → SumsUp tallies (sums_in more ++ entries_of rest)
   words_more more s pushed =
-      let one : WordRecord = record { word = w; slot = s } in
-      subst (AreCounted tallies)
-      (sym (ap (λ (rs : List WordRecord). words_in rs ++ texts_of rest) pushed
-      ∙ ap (λ (ws : List (List ℕ)). ws ++ texts_of rest)
-      (map-append (λ (r : WordRecord). r.word.items) records (one ∷ []))
-      ∙ append_assoc (words_in records) (w.items ∷ []) (texts_of rest)
-      ∙ ap (λ (ws : List (Vec ℕ Global)). words_in records ++ texts_of ws) (sym is)))
+      let one : WordRecord = record { word = w; occurrences = n; slot = s } in
+      subst (SumsUp tallies)
+      (sym (ap (λ (rs : List WordRecord). sums_in rs ++ entries_of rest) pushed
+      ∙ ap (λ (es : List (List ℕ × ℕ)). es ++ entries_of rest)
+      (map-append (λ (r : WordRecord). (r.word.items, r.occurrences)) records (one ∷ []))
+      ∙ append_assoc (sums_in records) ((w.items, n) ∷ []) (entries_of rest)
+      ∙ ap (λ (es : List (Vec ℕ Global × ℕ)). sums_in records ++ entries_of es) (sym is)))
       words
 
 module _ (kept : List SlotId) (a b : SeatState View)

@@ -6,16 +6,13 @@ use Rattle.plain_state.specs.State.{Plain}
 use Rattle.cdrc_text.specs.declared.row.Row.{Row}
 use Rattle.lane_reports.specs.declared.records.WordRecord.{WordRecord}
 use Rattle.lane_reports.specs.Rows.{AreRowsOf, IsRowOf}
-use Rattle.lane_reports.specs.Words.{Tallies}
 
-pub rows_push : (p : Plain) (tallies : Tallies) (rs : List WordRecord) (rows : List Row)
-    (r : WordRecord) (row : Row) → AreRowsOf p tallies rs rows → IsRowOf p tallies r row
-    → AreRowsOf p tallies (rs ++ r ∷ []) (rows ++ row ∷ [])
-rows_push p tallies [] [] r row all it = (it, tt)
-rows_push p tallies [] (x ∷ rows) r row all it = absurd all
-rows_push p tallies (y ∷ rs) [] r row all it = absurd all
-rows_push p tallies (y ∷ rs) (x ∷ rows) r row all it =
-    (all.0, rows_push p tallies rs rows r row all.1 it)
+pub rows_push : (p : Plain) (rs : List WordRecord) (rows : List Row) (r : WordRecord) (row : Row)
+    → AreRowsOf p rs rows → IsRowOf p r row → AreRowsOf p (rs ++ r ∷ []) (rows ++ row ∷ [])
+rows_push p [] [] r row all it = (it, tt)
+rows_push p [] (x ∷ rows) r row all it = absurd all
+rows_push p (y ∷ rs) [] r row all it = absurd all
+rows_push p (y ∷ rs) (x ∷ rows) r row all it = (all.0, rows_push p rs rows r row all.1 it)
 
 -- what is so of all is so of the next one
 after_front : {A : Type 0} (P : A → Type 0) (front rest : List A) (x : A)

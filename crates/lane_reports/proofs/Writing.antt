@@ -2,6 +2,7 @@
 use Rattle.std.proofs.Common.{◌≡◌, ℕ, ◌<◌, List, [], ◌∷◌, refl, sym, ap, subst, ◌∙◌, arith}
 use Rattle.std.specs.Prelude.{length, ◌↔◌, map, slice_index_or}
 use Rattle.std.specs.List.{All, Contains}
+use Rattle.std.specs.Map.{keys_of}
 use Rattle.std.proofs.lemmas.List.Elements.{All-head, All-tail}
 use Rattle.plain_state.specs.declared.slot.SlotId.{SlotId}
 use Rattle.plain_state.specs.Lists.{times}
@@ -45,8 +46,8 @@ use Rattle.lane_reports.specs.declared.records.WordRecord.{WordRecord}
 use Rattle.lane_reports.specs.Audits.{IsAudited, KnowsOwned}
 use Rattle.lane_reports.specs.Kept.{lives_in}
 use Rattle.lane_reports.specs.Reporting.{CountWork, KeepsWork}
-use Rattle.lane_reports.specs.Rows.{AreRowsOf, IsRecordOf, words_in}
-use Rattle.lane_reports.specs.Words.{AreCounted, Tallies}
+use Rattle.lane_reports.specs.Rows.{AreRowsOf, IsRecordOf, sums_in, words_in}
+use Rattle.tally_sums.specs.Sums.{AreCounted, IsSum, SumsUp, Tallies}
 use Rattle.lane_reports.proofs.Alike.{files_alike}
 use Rattle.lane_reports.proofs.KeptWork.{each_kept, same_holders}
 use Rattle.lane_reports.proofs.Tells.{files_more}
@@ -94,19 +95,24 @@ module _ (d : DomainState WordsLaw) (weight : List ℕ → ℕ) (ranks : List �
       }
 
 -- the records and the rows are of the same words
-words_same : (p : Plain) (tallies : Tallies) (records : List WordRecord) (rows : List Row)
-    → AreRowsOf p tallies records rows → map word_of rows ≡ words_in records
-words_same p tallies [] [] are = refl
-words_same p tallies [] (row ∷ rows) are = absurd are
-words_same p tallies (r ∷ records) [] are = absurd are
-words_same p tallies (r ∷ records) (row ∷ rows) are =
-    (λ i. (are.0.word i).items ∷ words_same p tallies records rows are.1 i)
+words_same : (p : Plain) (records : List WordRecord) (rows : List Row)
+    → AreRowsOf p records rows → map word_of rows ≡ words_in records
+words_same p [] [] are = refl
+words_same p [] (row ∷ rows) are = absurd are
+words_same p (r ∷ records) [] are = absurd are
+words_same p (r ∷ records) (row ∷ rows) are =
+    (λ i. (are.0.word i).items ∷ words_same p records rows are.1 i)
+
+-- the keys of the sums are the words
+keys_in : (records : List WordRecord) → keys_of (sums_in records) ≡ words_in records
+keys_in [] = refl
+keys_in (r ∷ rs) = ap (λ (ws : List (List ℕ)). r.word.items ∷ ws) (keys_in rs)
 
 module _ (d : DomainState WordsLaw) (weight : List ℕ → ℕ) (ranks : List ℕ) (work : Work)
     (is : IsWork work) (small : All (λ (words : File). All AreBytes words) (texts_in work))
     (kept : List SlotId) (tallies : Tallies) (records : List WordRecord) (r0 r1 r2 : SeatState View)
     (found : Audit) (keeps : KeepsWork work kept r0) (counts : CountWork work tallies)
-    (words : AreCounted tallies (words_in records))
+    (words : SumsUp tallies (sums_in records))
     (record_of : All (IsRecordOf kept r1) records)
     (more : KnowsMore r0.view.client.1 r1.view.client.1)
     (same_lives : (s : SlotId) → 0 < times s kept → lives_in r1 s ≡ lives_in r0 s)
@@ -115,7 +121,7 @@ module _ (d : DomainState WordsLaw) (weight : List ℕ → ℕ) (ranks : List �
     (objects : KnowsOwned r1 r2) (client : r2.view.client ≡ r1.view.client)
     (audited : IsAudited Fits (weight_in_part weight piece_weight) ranks d r2 found)
     (freed : Audit) (nothing : FindsRecords [] freed) (rows : List Row)
-    (are : AreRowsOf audited.state tallies records rows) where
+    (are : AreRowsOf audited.state records rows) where
   abbrev p : Plain
   p = audited.state
 
@@ -177,13 +183,13 @@ module _ (d : DomainState WordsLaw) (weight : List ℕ → ℕ) (ranks : List �
       (weight_in_part weight piece_weight) ranks found audited.audit audited.reached
 
   rows_at : (rs : List WordRecord) (xs : List Row) → All (IsRecordOf kept r1) rs
-      → AreRowsOf p tallies rs xs
+      → AreRowsOf p rs xs → All (IsSum tallies) (sums_in rs)
       → AreRowsAt (texts_in work) work.rounds p (lives_in r2) kept v xs
       (map (λ (r : WordRecord). r.slot) rs)
-  rows_at [] [] each these = tt
-  rows_at [] (x ∷ xs) each these = absurd these
-  rows_at (r ∷ rs) [] each these = absurd these
-  rows_at (r ∷ rs) (x ∷ xs) each these =
+  rows_at [] [] each these summed = tt
+  rows_at [] (x ∷ xs) each these summed = absurd these
+  rows_at (r ∷ rs) [] each these summed = absurd these
+  rows_at (r ∷ rs) (x ∷ xs) each these summed =
       let first = All-head (IsRecordOf kept r1) r rs each in
       let row = these.0 in (
         record {
@@ -192,13 +198,18 @@ module _ (d : DomainState WordsLaw) (weight : List ℕ → ℕ) (ranks : List �
               (ap (λ x. x.items) (sym row.word))
               (subst (λ (y : DirectoryView × ℕ). TellsWord y.0 r.word.items r.slot y.1)
               (λ i. (sym own i, sym (lives_later r.slot first.held) i)) first.tells);
-          occurrences = row.occurrences ∙ counts r.word.items
+          occurrences = row.occurrences ∙ All-head (IsSum tallies) (r.word.items, r.occurrences) (sums_in rs) summed
+              ∙ counts r.word.items
               ∙ ap (λ x. occurrences_in x.items work.rounds
               (texts_in work)) (sym row.word);
           holders = row.holders;
         },
-        rows_at rs xs (All-tail (IsRecordOf kept r1) r rs each) these.1,
+        rows_at rs xs (All-tail (IsRecordOf kept r1) r rs each) these.1
+            (All-tail (IsSum tallies) (r.word.items, r.occurrences) (sums_in rs) summed),
       )
+
+  are_counted : AreCounted tallies (words_in records)
+  are_counted = subst (AreCounted tallies) (keys_in records) words.words
 
   have : HaveWords (texts_in work) rows
   have = let b = both held in record { in_order = b.0; held = b.1 }
@@ -208,16 +219,16 @@ module _ (d : DomainState WordsLaw) (weight : List ℕ → ℕ) (ranks : List �
           × ((w : List ℕ) → Contains (map word_of rows) w ↔ (0 < holders_in w (texts_in work)))
       both held = subst (λ ws. IsInByteOrder ws
           × ((w : List ℕ) → Contains ws w ↔ (0 < holders_in w (texts_in work))))
-          (sym (words_same p tallies records rows are)) (words.in_order, held)
+          (sym (words_same p records rows are)) (are_counted.in_order, held)
 
       held : (w : List ℕ) → Contains (words_in records) w ↔ (0 < holders_in w (texts_in work))
       held w =
           let some = is.once in
           let all = counts w in (
-            (λ has. let above = (words.counted w).0 has in
+            (λ has. let above = (are_counted.counted w).0 has in
                 occurs-held w work.rounds (texts_in work) (omega (arith, above, all))),
             (λ holds. let above = held-occurs w work.rounds (texts_in work) (omega (arith, some)) holds in
-                (words.counted w).1 (omega (arith, above, all))),
+                (are_counted.counted w).1 (omega (arith, above, all))),
           )
 
   pub written : IsReport (texts_in work) work.rounds
@@ -225,7 +236,7 @@ module _ (d : DomainState WordsLaw) (weight : List ℕ → ℕ) (ranks : List �
   written =
       is_report u z p views (lives_in r2) files kept keeps_records left no_node (texts_in work)
       (same_holders work keeps.tickets is.once keeps.once) small work.rounds rows
-      (map (λ (r : WordRecord). r.slot) records) (rows_at records rows record_of are) have weight
+      (map (λ (r : WordRecord). r.slot) records) (rows_at records rows record_of are words.sums) have weight
       ranks found freed audited.audit nothing
 
 -- the text, by what the calls that wrote it answered

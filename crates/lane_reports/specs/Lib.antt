@@ -7,7 +7,6 @@ pub mod Deeds
 pub mod Gathering
 pub mod Kept
 pub mod Shutting
-pub mod Words
 pub mod Holders
 pub mod Learning
 pub mod Rows

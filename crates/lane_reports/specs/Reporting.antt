@@ -19,7 +19,7 @@ use Rattle.lane_domain.specs.Opened.{shape_for}
 use Rattle.lane_domain.specs.Sizes.{texts_in}
 use Rattle.lane_reports.specs.Kept.{lives_in}
 use Rattle.lane_reports.specs.Rows.{AreWords}
-use Rattle.lane_reports.specs.Words.{Tallies, counted_in}
+use Rattle.tally_sums.specs.Sums.{Tallies, counted_in}
 
 -- the tallies together counted each word as often as it occurs in all rounds
 abbrev pub CountWork : Work → Tallies → Type 0

@@ -13,7 +13,7 @@ use Rattle.lane_reports.specs.declared.records.WordRecord.{WordRecord}
 use Rattle.lane_reports.specs.declared.refusal.RowsError.{RowsError}
 use Rattle.lane_reports.specs.declared.refusal.RowsError.TheVariants as refused
 use Rattle.lane_reports.specs.Kept.{lives_in}
-use Rattle.lane_reports.specs.Words.{Tallies, counted_in}
+use Rattle.tally_sums.specs.Sums.{Tallies, counted_in}
 
 -- the words of some rows, and of some records
 abbrev pub words_of : List Row → List (List ℕ)
@@ -21,6 +21,10 @@ words_of rows = map (λ (r : Row). r.word.items) rows
 
 abbrev pub words_in : List WordRecord → List (List ℕ)
 words_in records = map (λ (r : WordRecord). r.word.items) records
+
+-- the words of some records, with their numbers
+abbrev pub sums_in : List WordRecord → List (List ℕ × ℕ)
+sums_in records = map (λ (r : WordRecord). (r.word.items, r.occurrences)) records
 
 -- each word that was counted has 1 to 4,096 bytes, and was counted fewer than 2^63 times
 abbrev pub AreWords : Tallies → Type 0
@@ -36,22 +40,18 @@ pub record IsRecordOf (kept : List SlotId) (seat : SeatState View) (r : WordReco
 abbrev pub IsOwnedBy : SeatState View → WordRecord → Type 0
 IsOwnedBy seat r = 0 < times r.slot seat.view.core.owned
 
-abbrev pub IsFewIn : Tallies → WordRecord → Type 0
-IsFewIn tallies r = counted_in tallies r.word.items < 2 ^ 63
-
--- the row says how often the tallies counted the record's word, and how many strong references the record has
-pub record IsRowOf (p : Plain) (tallies : Tallies) (r : WordRecord) (row : Row) : Type 0 where
+-- the row has the record's word and number, and says how many strong references the record has
+pub record IsRowOf (p : Plain) (r : WordRecord) (row : Row) : Type 0 where
   pub word : row.word ≡ r.word
-  pub occurrences : row.occurrences ≡ counted_in tallies r.word.items
+  pub occurrences : row.occurrences ≡ r.occurrences
   pub holders : row.holders ≡ strong_refs p r.slot
 
 -- one row for each record, in order
-abbrev pub AreRowsOf : Plain → Tallies → List WordRecord → List Row → Type 0
-AreRowsOf p tallies [] [] = Unit {0}
-AreRowsOf p tallies [] (row ∷ rows) = ⊥
-AreRowsOf p tallies (r ∷ records) [] = ⊥
-AreRowsOf p tallies (r ∷ records) (row ∷ rows) =
-    IsRowOf p tallies r row × AreRowsOf p tallies records rows
+abbrev pub AreRowsOf : Plain → List WordRecord → List Row → Type 0
+AreRowsOf p [] [] = Unit {0}
+AreRowsOf p [] (row ∷ rows) = ⊥
+AreRowsOf p (r ∷ records) [] = ⊥
+AreRowsOf p (r ∷ records) (row ∷ rows) = IsRowOf p r row × AreRowsOf p records rows
 
 -- why there are no rows: no add is left; or there was no memory
 abbrev pub IsWhyNoRows : RowsError → SeatState View → Type 0

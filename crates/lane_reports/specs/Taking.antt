@@ -7,7 +7,7 @@ use Rattle.cdrc_text.specs.Tally.{count_of, total_of}
 use Rattle.lane_files.specs.Passed.{Takes}
 use Rattle.lane_files.specs.declared.work.Work.{Work}
 use Rattle.lane_domain.specs.Sizes.{all_pieces}
-use Rattle.lane_reports.specs.Words.{Tallies}
+use Rattle.tally_sums.specs.Sums.{Tallies}
 
 -- the seat popped so many items and nothing else, and a new tally counted their words
 pub record CountsRest (most : ℕ) (old new : SeatState View) (tally : List (List ℕ × ℕ))

@@ -17,9 +17,9 @@ use acquire_retire::{Domain, Seat};
 use cdrc_text::AuditLine;
 use deleter::Deleter;
 use directory_protocol::RecordKind;
-use domain_audit::{Audit, audit_domain};
+use domain_audit::{Audit, audit_domain_in};
 use out_of_memory::OutOfMemory;
-use plain_state::PayloadKind;
+use plain_state::{Heap, PayloadKind};
 use protocol_pairs::PairKind;
 use queue_protocol::NodeKind;
 use slot_store::settle;
@@ -58,6 +58,7 @@ fn audit_settled<F: Fn(&[u64; 16]) -> u64>(
     root: &mut Seat<WordsLaw>,
     weigh: &Deleter<PairKind<NodeKind, RecordKind>, F>,
     rank: &[u64],
+    image: &mut Heap,
 ) -> Result<Option<Audit>, OutOfMemory>
     requires rest { IsAtRest domain.now root.old }
     requires room { HasRoom root.old.view.core }
@@ -80,7 +81,7 @@ fn audit_settled<F: Fn(&[u64; 16]) -> u64>(
     ensures room { HasRoom root.new.view.core }
     ensures rest { IsAtRest domain.now root.new }
 {
-    let found = audit_domain(alloc, domain, root, weigh, rank)?;
+    let found = audit_domain_in(alloc, domain, root, weigh, rank, image)?;
     let head_is_null = holds_nothing(domain, root, 0);
     let tail_is_null = holds_nothing(domain, root, 1);
     if found.cyclic == 0 && head_is_null && tail_is_null {
@@ -99,6 +100,7 @@ pub(crate) fn audit_at_rest<R: Wait, F: Fn(&[u64; 16]) -> u64>(
     root: &mut Seat<WordsLaw>,
     weigh: &Deleter<PairKind<NodeKind, RecordKind>, F>,
     rank: &[u64],
+    image: &mut Heap,
 ) -> Result<Audit, OutOfMemory>
     requires rest { IsAtRest domain.now root.old }
     requires room { HasRoom root.old.view.core }
@@ -122,7 +124,7 @@ pub(crate) fn audit_at_rest<R: Wait, F: Fn(&[u64; 16]) -> u64>(
 {
     for _try in rt.forever() {
         let _weights = settle(domain, root, weigh);
-        if let Some(found) = audit_settled(alloc, domain, root, weigh, rank)? {
+        if let Some(found) = audit_settled(alloc, domain, root, weigh, rank, image)? {
             return Ok(found);
         }
     }

@@ -25,7 +25,7 @@ use crate::refusal::RowsError;
 use crate::rows::count_rows;
 use crate::shutting::shut_and_settle;
 use crate::taking::take_rest;
-use acquire_retire::{Domain, Seat};
+use acquire_retire::{Domain, Seat, empty_image};
 use cdrc_text::{Tally, Totals, report};
 use counted_handles::Strong;
 use deleter::Deleter;
@@ -72,10 +72,11 @@ fn write_report<R: Wait, F: Fn(&[u64; 16]) -> u64>(
 {
     let records = find_records(rt, alloc, domain, root, shared, &kept, tallies)?;
     let rank = list_ranks(alloc, domain.shape().slots)?;
-    let held = audit_at_rest(rt, alloc, domain, root, weigh, &rank)?;
-    let rows = count_rows(alloc, domain, root, shared, records, tallies)?;
+    let mut image = empty_image(alloc);
+    let held = audit_at_rest(rt, alloc, domain, root, weigh, &rank, &mut image)?;
+    let rows = count_rows(alloc, domain, root, shared, records)?;
     give_all(domain, root, kept);
-    let freed = audit_at_rest(rt, alloc, domain, root, weigh, &rank)?;
+    let freed = audit_at_rest(rt, alloc, domain, root, weigh, &rank, &mut image)?;
     let totals = Totals {
         files: work.files.len() as u64,
         pieces: count_pieces(work),

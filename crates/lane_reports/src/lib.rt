@@ -32,9 +32,6 @@ mod shutting;
 mod taking;
 #[cfg(test)]
 mod tests;
-#[cfg(test)]
-mod tests_words;
-mod words;
 
 pub use counted::{CountError, Counted};
 pub use done::{Done, Gathered};

@@ -9,12 +9,11 @@ ghost use Rattle.plain_state.specs.Lists.{times};
 ghost use Rattle.lane_files.specs.Keeping.{slots_of};
 ghost use Rattle.lane_reports.specs.Holders.{AreSlotsOf, IsRoot, OwnsEach, has, texts, with_texts};
 ghost use Rattle.lane_reports.specs.Kept.{lives_in};
-ghost use Rattle.lane_reports.specs.Rows.{AreWords, IsRecordOf, IsWhyNoRows, words_in};
-ghost use Rattle.lane_reports.specs.Words.{AreCounted};
+ghost use Rattle.lane_reports.specs.Rows.{AreWords, IsRecordOf, IsWhyNoRows, sums_in};
+ghost use Rattle.tally_sums.specs.Sums.{SumsUp};
 ghost use Rattle.words_rest.specs.Kept.{TellsWord};
 
 use crate::refusal::RowsError;
-use crate::words::distinct_words;
 use acquire_retire::{Domain, Seat, SlotId};
 use cdrc_text::Tally;
 use control_word::drop_strong;
@@ -27,14 +26,16 @@ use queue_protocol::NodeKind;
 use std::alloc::Global;
 use std::collections::HashSet;
 use std::sync::Wait;
+use tally_sums::counted_words;
 use text_reading::pairs_have_pieces;
 use weak_intern::find;
 use words_protocol::WordsLaw;
 
-/// A word, and the slot of its record.
+/// A word, how often it was counted, and the slot of its record.
 #[derive(Drop)]
 pub(crate) struct WordRecord {
     pub word: Vec<u8>,
+    pub occurrences: u64,
     pub slot: SlotId,
 }
 
@@ -49,7 +50,7 @@ pub(crate) fn kept_slots(alloc: Global, kept: &[Strong]) -> Result<HashSet<u32>,
     Ok(held)
 }
 
-/// The record of each word that some tally counted, in byte order. The seat is alone, and owns the references that are
+/// The record of each word that some tally counted, with the sum of its counts, in byte order. The seat is alone, and owns the references that are
 /// kept; each record is that of one of them. `Spent` comes only where the seat has no add left, and `OutOfMemory` of
 /// an allocation failure. It takes a walk of the directory for each word, and tries one again that comes to no such
 /// record, so the call may not return.
@@ -66,8 +67,7 @@ pub(crate) fn find_records<R: Wait>(
     requires kept { (s : SlotId) → times s (slots_of kept.now)
         ≤ times s root.old.view.core.owned }
     requires words { AreWords tallies.now }
-    ensures words { IfOk result (λ records.
-        AreCounted tallies.now (words_in records.items)) }
+    ensures words { IfOk result (λ records. SumsUp tallies.now (sums_in records.items)) }
     ensures records { IfOk result (λ records.
         All (IsRecordOf (slots_of kept.now) root.new) records.items) }
     ensures why { IfErr result (λ error. IsWhyNoRows error root.new) }
@@ -76,11 +76,15 @@ pub(crate) fn find_records<R: Wait>(
     ensures ready { IsRoot domain.now shared.now root.new }
 {
     let held = kept_slots(alloc, kept)?;
-    let words = distinct_words(alloc, tallies)?;
+    let words = counted_words(alloc, tallies)?;
     let mut records = Vec::with_capacity(alloc, words.len())?;
-    for word in words {
+    for (word, occurrences) in words {
         let slot = find_record(rt, domain, root, shared, &held, word.as_slice())?;
-        records.push_reserved(WordRecord { word, slot });
+        records.push_reserved(WordRecord {
+            word,
+            occurrences,
+            slot,
+        });
     }
     Ok(records)
 }

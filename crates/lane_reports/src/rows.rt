@@ -1,17 +1,16 @@
 //! The row of each word.
-ghost use Rattle.std.specs.Prelude.{◌≡◌, ◌^◌, ◌<◌, IfOk, Some};
+ghost use Rattle.std.specs.Prelude.{◌≡◌, ◌<◌, IfOk, Some};
 ghost use Rattle.std.specs.List.{All};
 ghost use Rattle.directory_calls.specs.Steps.{Leaves};
 ghost use Rattle.plain_state.specs.Lists.{times};
 ghost use Rattle.plain_state.specs.State.{Plain};
 ghost use Rattle.domain_rule.specs.Views.{own_of};
 ghost use Rattle.lane_reports.specs.Holders.{IsCount, IsRoot};
-ghost use Rattle.lane_reports.specs.Rows.{AreRowsOf, IsFewIn, IsOwnedBy, IsRowOf};
+ghost use Rattle.lane_reports.specs.Rows.{AreRowsOf, IsOwnedBy, IsRowOf};
 
 use crate::records::WordRecord;
-use crate::words::occurrences;
 use acquire_retire::{Domain, Seat, SlotId};
-use cdrc_text::{Row, Tally};
+use cdrc_text::Row;
 use control_word::strong_count;
 use directory_protocol::RecordKind;
 use lane_files::Shared;
@@ -23,7 +22,7 @@ use queue_protocol::NodeKind;
 use std::alloc::Global;
 use words_protocol::WordsLaw;
 
-/// A row for each record: how often the tallies counted its word, how many references it has, and the word. The seat is
+/// A row for each record: how often its word was counted, how many references it has, and the word. The seat is
 /// alone and owns a reference to each. One step for each record. `OutOfMemory` comes of an allocation failure.
 pub(crate) fn count_rows(
     alloc: Global,
@@ -31,13 +30,11 @@ pub(crate) fn count_rows(
     root: &mut Seat<WordsLaw>,
     shared: &Shared,
     records: Vec<WordRecord>,
-    tallies: &[Tally],
 ) -> Result<Vec<Row>, OutOfMemory>
     requires ready { IsRoot domain.now shared.now root.old }
     requires owned { All (IsOwnedBy root.old) records.items }
-    requires few { All (IsFewIn tallies.now) records.items }
     ensures rows { IfOk result (λ rows. (p : Plain) → (own_of root.old.view).whole ≡ Some p
-        → AreRowsOf p tallies.now records.items rows.items) }
+        → AreRowsOf p records.items rows.items) }
     ensures whole { (own_of root.new.view).whole ≡ (own_of root.old.view).whole }
     ensures leaves { Leaves root.old.view.core.owned root.old.view.core.weaks root.old root.new }
     ensures client { root.new.view.client ≡ root.old.view.client }
@@ -45,7 +42,7 @@ pub(crate) fn count_rows(
 {
     let mut rows = Vec::with_capacity(alloc, records.len())?;
     for of in records {
-        rows.push_reserved(count_row(domain, root, shared, of, tallies));
+        rows.push_reserved(count_row(domain, root, shared, of));
     }
     Ok(rows)
 }
@@ -56,22 +53,24 @@ fn count_row(
     root: &mut Seat<WordsLaw>,
     shared: &Shared,
     of: WordRecord,
-    tallies: &[Tally],
 ) -> Row
     requires ready { IsRoot domain.now shared.now root.old }
     requires owned { IsOwnedBy root.old of }
-    requires few { IsFewIn tallies.now of }
     ensures row { (p : Plain) → (own_of root.old.view).whole ≡ Some p
-        → IsRowOf p tallies.now of result }
+        → IsRowOf p of result }
     ensures whole { (own_of root.new.view).whole ≡ (own_of root.old.view).whole }
     ensures leaves { Leaves root.old.view.core.owned root.old.view.core.weaks root.old root.new }
     ensures client { root.new.view.client ≡ root.old.view.client }
     ensures ready { IsRoot domain.now shared.now root.new }
 {
-    let WordRecord { word, slot } = of;
+    let WordRecord {
+        word,
+        occurrences,
+        slot,
+    } = of;
     let holders = count_strong(domain, root, shared, slot);
     Row {
-        occurrences: occurrences(tallies, word.as_slice()),
+        occurrences,
         holders,
         word,
     }

@@ -3,8 +3,8 @@ use Rattle.lane_reports.proofs.audits.audit_settled.Goals as goal
 
 pub returns-then-tail_is_null-clause-found : goal.returns-then-tail_is_null-clause-found
 returns-then-tail_is_null-clause-found g c =
-    let audit = c.audit_domain.ensures in
-    is_audited _ _ c.args.rank.now c.args.domain.now c.args.root.now c.audit_domain.new.seat
+    let audit = c.audit_domain_in.ensures in
+    is_audited _ _ c.args.rank.now c.args.domain.now c.args.root.now c.audit_domain_in.new.seat
     c.holds_nothing-head_is_null.new.root c.holds_nothing-tail_is_null.new.root
     c.in_ok-found.found c.requires.cells audit.stays audit.whole audit.objects audit.client
     c.holds_nothing-head_is_null.ensures.learns c.holds_nothing-tail_is_null.ensures.learns
@@ -15,18 +15,18 @@ returns-then-tail_is_null-clause-found g c =
 
 pub returns-then-tail_is_null-clause-objects : goal.returns-then-tail_is_null-clause-objects
 returns-then-tail_is_null-clause-objects g c =
-    let audit = c.audit_domain.ensures in
+    let audit = c.audit_domain_in.ensures in
     objects_same _ (λ words. 0) c.args.rank.now c.args.domain.now c.args.root.now
-    c.audit_domain.new.seat c.holds_nothing-head_is_null.new.root
+    c.audit_domain_in.new.seat c.holds_nothing-head_is_null.new.root
     c.holds_nothing-tail_is_null.new.root c.in_ok-found.found c.requires.cells audit.stays
     audit.whole audit.objects audit.client c.holds_nothing-head_is_null.ensures.learns
     c.holds_nothing-tail_is_null.ensures.learns
 
 pub returns-clause-objects : goal.returns-clause-objects
 returns-clause-objects g c =
-    let audit = c.audit_domain.ensures in
+    let audit = c.audit_domain_in.ensures in
     objects_same _ (λ words. 0) c.args.rank.now c.args.domain.now c.args.root.now
-    c.audit_domain.new.seat c.holds_nothing-head_is_null.new.root
+    c.audit_domain_in.new.seat c.holds_nothing-head_is_null.new.root
     c.holds_nothing-tail_is_null.new.root c.in_ok-found.found c.requires.cells audit.stays
     audit.whole audit.objects audit.client c.holds_nothing-head_is_null.ensures.learns
     c.holds_nothing-tail_is_null.ensures.learns

@@ -9,7 +9,7 @@ use Rattle.words_law.specs.Views.{View}
 use Rattle.lane_reports.specs.Gathering.{Tally}
 use Rattle.lane_reports.specs.Counting.{CountsAll}
 use Rattle.lane_reports.specs.Reporting.{HasCounted}
-use Rattle.lane_reports.specs.Words.{Tallies}
+use Rattle.tally_sums.specs.Sums.{Tallies}
 use Rattle.lane_reports.proofs.Counting.{counts_all}
 use Rattle.lane_reports.proofs.Finished.{all_known}
 use Rattle.lane_reports.proofs.Still.{no_snapshot, two_free}

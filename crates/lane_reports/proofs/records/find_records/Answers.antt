@@ -1,10 +1,11 @@
 use Rattle.std.proofs.Common.{◌≤◌, ◌∷◌, ◌++◌, [], List, Vec, Global, ℕ, length, length-append, append-nil, ap, sym, ◌∙◌, subst, arith}
+use Rattle.cdrc_text.specs.Tally.{entries_of}
 use Rattle.slot_store.proofs.Quieting.{no_items}
 use Rattle.lane_files.specs.Keeping.{slots_of}
 use Rattle.lane_reports.specs.Kept.{lives_in}
 use Rattle.words_rest.specs.Kept.{TellsWord}
-use Rattle.lane_reports.specs.Rows.{words_in}
-use Rattle.lane_reports.specs.Words.{AreCounted, texts_of}
+use Rattle.lane_reports.specs.Rows.{sums_in}
+use Rattle.tally_sums.specs.Sums.{SumsUp}
 use Rattle.lane_reports.proofs.Finding.{leaves_on, learns_on}
 use Rattle.lane_reports.proofs.Rowing.{next_counted, records_more, words_more}
 use Rattle.lane_reports.proofs.records.find_records.Goals as goal
@@ -12,7 +13,7 @@ use Rattle.lane_reports.proofs.records.find_records.Goals as goal
 pub find_record-requires-clause-word : goal.find_record-requires-clause-word
 find_record-requires-clause-word g c =
     let so = c.requires.words c.in-Some.word.items
-    (next_counted c.args.tallies.now c.loop-word.records.items c.in-Some.word
+    (next_counted c.args.tallies.now c.loop-word.records.items c.in-Some.word c.in-Some.occurrences
     c.loop-word.word-iterator.rest.items c.next.new.self.rest.items c.in-Some.ensures.steps.0
     c.loop-word.invariant.words) in
     subst (λ (w : List ℕ). (1 ≤ length w) × (length w ≤ 4096)) (sym c.as_slice.ensures.value)
@@ -30,7 +31,7 @@ returns-in_err-slot-clause-learns g c =
 
 pub loop-word-preserved : goal.loop-word-preserved
 loop-word-preserved g c = record {
-  words = words_more c.args.tallies.now c.loop-word.records.items c.in-Some.word
+  words = words_more c.args.tallies.now c.loop-word.records.items c.in-Some.word c.in-Some.occurrences
       c.loop-word.word-iterator.rest.items c.next.new.self.rest.items c.in-Some.ensures.steps.0
       c.loop-word.invariant.words c.push_reserved.new.self.items c.in_ok-slot.slot
       c.push_reserved.ensures.items;
@@ -38,14 +39,14 @@ loop-word-preserved g c = record {
       let left = ap length c.in-Some.ensures.steps.0 in
       let more = ap length c.push_reserved.ensures.items in
       let long = length-append c.loop-word.records.items
-      (record { word = c.in-Some.word; slot = c.in_ok-slot.slot } ∷ []) in
+      (record { word = c.in-Some.word; occurrences = c.in-Some.occurrences; slot = c.in_ok-slot.slot } ∷ []) in
       let same = c.push_reserved.ensures.capacity in omega (arith, room, left, more, long, same);
   records = records_more (slots_of c.args.kept.now) c.loop-word.root c.find_record.new.root
       c.find_record.ensures.leaves c.find_record.ensures.learns
       (λ s some. let most = c.requires.kept s in let same = c.loop-word.invariant.leaves.owns s in
       omega (arith, some, most, same))
       c.loop-word.records.items c.push_reserved.new.self.items
-      (record { word = c.in-Some.word; slot = c.in_ok-slot.slot }) c.push_reserved.ensures.items
+      (record { word = c.in-Some.word; occurrences = c.in-Some.occurrences; slot = c.in_ok-slot.slot }) c.push_reserved.ensures.items
       c.loop-word.invariant.records
       (record {
         held = (c.in_ok-held.ensures c.in_ok-slot.slot).0 c.in_ok-slot.ensures.held;
@@ -62,9 +63,9 @@ loop-word-preserved g c = record {
 
 pub returns-clause-words : goal.returns-clause-words
 returns-clause-words g c =
-    subst (AreCounted c.args.tallies.now)
-    (ap (λ (ws : List (Vec ℕ Global)). words_in c.loop-word.records.items ++ texts_of ws)
+    subst (SumsUp c.args.tallies.now)
+    (ap (λ (es : List (Vec ℕ Global × ℕ)). sums_in c.loop-word.records.items ++ entries_of es)
     (no_items c.loop-word.word-iterator.rest.items
     (sym c.loop-word.word-iterator.rest.ok.0 ∙ c.in-None.ensures.steps.0))
-    ∙ append-nil (words_in c.loop-word.records.items))
+    ∙ append-nil (sums_in c.loop-word.records.items))
     c.loop-word.invariant.words

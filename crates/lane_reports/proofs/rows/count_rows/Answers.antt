@@ -1,7 +1,7 @@
 use Rattle.std.proofs.Common.{◌∷◌, ◌++◌, [], List, length, length-append, append-nil, append_assoc, ap, sym, ◌∙◌, subst, arith}
 use Rattle.slot_store.proofs.Quieting.{no_items}
 use Rattle.lane_reports.specs.declared.records.WordRecord.{WordRecord}
-use Rattle.lane_reports.specs.Rows.{AreRowsOf, IsFewIn, IsOwnedBy}
+use Rattle.lane_reports.specs.Rows.{AreRowsOf, IsOwnedBy}
 use Rattle.lane_reports.proofs.Finding.{leaves_on}
 use Rattle.lane_reports.proofs.RowsMade.{next_so, rows_push}
 use Rattle.lane_reports.proofs.rows.count_rows.Goals as goal
@@ -14,13 +14,6 @@ count_row-requires-clause-owned c =
     c.in-Some.ensures.steps.0 in
     let same = c.loop-of.invariant.leaves.owns c.in-Some.of.slot in omega (arith, first, same)
 
-pub count_row-requires-clause-few : goal.count_row-requires-clause-few
-count_row-requires-clause-few c =
-    next_so (IsFewIn c.args.tallies.now) c.args.records.items c.loop-of.yielded
-    c.loop-of.of-iterator.rest.items c.next.new.self.rest.items c.in-Some.of c.requires.few
-    (c.loop-of.invariant.all ∙ c.into_iter-of-iterator.ensures.into_iter_gives.0)
-    c.in-Some.ensures.steps.0
-
 pub loop-of-preserved : goal.loop-of-preserved
 loop-of-preserved c = record {
   all = append_assoc c.loop-of.yielded (c.in-Some.of ∷ []) c.next.new.self.rest.items
@@ -32,9 +25,9 @@ loop-of-preserved c = record {
       let long = length-append c.loop-of.rows.items (c.count_row.result ∷ []) in
       let same = c.push_reserved.ensures.capacity in omega (arith, room, left, more, long, same);
   rows = λ p whole.
-      subst (AreRowsOf p c.args.tallies.now (c.loop-of.yielded ++ c.in-Some.of ∷ []))
+      subst (AreRowsOf p (c.loop-of.yielded ++ c.in-Some.of ∷ []))
       (sym c.push_reserved.ensures.items)
-      (rows_push p c.args.tallies.now c.loop-of.yielded c.loop-of.rows.items c.in-Some.of
+      (rows_push p c.loop-of.yielded c.loop-of.rows.items c.in-Some.of
       c.count_row.result (c.loop-of.invariant.rows p whole)
       (c.count_row.ensures.row p (c.loop-of.invariant.whole ∙ whole)));
   whole = c.count_row.ensures.whole ∙ c.loop-of.invariant.whole;
@@ -46,7 +39,7 @@ loop-of-preserved c = record {
 
 pub returns-clause-rows : goal.returns-clause-rows
 returns-clause-rows c p whole =
-    subst (λ (rs : List WordRecord). AreRowsOf p c.args.tallies.now rs c.loop-of.rows.items)
+    subst (λ (rs : List WordRecord). AreRowsOf p rs c.loop-of.rows.items)
     (sym (append-nil c.loop-of.yielded)
     ∙ sym (ap (λ (rs : List WordRecord). c.loop-of.yielded ++ rs)
     (no_items c.loop-of.of-iterator.rest.items

@@ -12,7 +12,7 @@ invariant-loop-of l = record {
   all : l.yielded ++ l.of-iterator.rest.items ≡ l.initial.of-iterator.rest.items;
   room : length l.rows.items + length l.of-iterator.rest.items ≤ vec_capacity l.rows;
   rows : (p : Plain) → (own_of l.fn.root.view).whole ≡ Some p
-      → AreRowsOf p l.tallies l.yielded l.rows.items;
+      → AreRowsOf p l.yielded l.rows.items;
   whole : (own_of l.root.view).whole ≡ (own_of l.fn.root.view).whole;
   leaves : Leaves l.fn.root.view.core.owned l.fn.root.view.core.weaks l.fn.root l.root;
   client : l.root.view.client ≡ l.fn.root.view.client;

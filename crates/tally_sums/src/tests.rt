@@ -1,4 +1,4 @@
-use crate::words::{distinct_words, occurrences};
+use crate::counted_words;
 use cdrc_text::Tally;
 use std::test::Fail;
 
@@ -11,11 +11,10 @@ fn two_tallies_of_b_a_a_and_a(rt: HostRuntime) -> Result<(), Fail> {
     let mut second = Tally::new(rt.alloc());
     second.add(b"a")?;
     let tallies = vec![in rt.alloc(); first, second]?;
-    let words = distinct_words(rt.alloc(), tallies.as_slice())?;
+    let words = counted_words(rt.alloc(), tallies.as_slice())?;
     assert_eq!(rt; words.len(), 2);
-    assert_eq!(rt; words[0].as_slice(), b"a".as_slice());
-    assert_eq!(rt; words[1].as_slice(), b"b".as_slice());
-    assert_eq!(rt; occurrences(tallies.as_slice(), b"a"), 3);
-    assert_eq!(rt; occurrences(tallies.as_slice(), b"b"), 1);
+    assert_eq!(rt; words[0].0.as_slice(), b"a".as_slice());
+    assert_eq!(rt; words[1].0.as_slice(), b"b".as_slice());
+    assert_eq!(rt; (words[0].1, words[1].1), (3, 1));
     Ok(())
 }

@@ -1,0 +1,132 @@
+-- The entries of all tallies, sorted, and joined where equal words stand side by side.
+use Rattle.std.proofs.Common.{◌≡◌, ℕ, ◌+◌, ◌<◌, Bool, true, false, List, [], ◌∷◌, ◌++◌, Vec, Global, length, get_or, refl, sym, ap, subst, ◌∙◌, arith}
+use Rattle.std.specs.Prelude.{◌↔◌, IfOk, Result, Ok, Err}
+use Rattle.std.specs.Cmp.Lexicographic.{bytes_decides, nat_list_eq_equiv, slice_cmp, texts_ties}
+use Rattle.std.specs.declared.cmp.Ordering.{Ordering}
+use Rattle.std.specs.declared.cmp.Ordering.TheVariants.{Less, Equal, Greater}
+use Rattle.std.specs.List.{All, Contains, dedup}
+use Rattle.std.specs.List.Sorted.{IsPermutation, IsSorted}
+use Rattle.std.specs.Map.{keys_of, values_of}
+use Rattle.std.specs.Ordering.{is_lt, nat_cmp, ordering_then}
+use Rattle.std.specs.Str.{bytes_eq}
+use Rattle.std.proofs.lemmas.Cmp.{nat_list_cmp_total}
+use Rattle.std.proofs.lemmas.List.{get_or-map, length-map, map-append}
+use Rattle.std.proofs.lemmas.List.Elements.{All-append, All-nil, All-weaker}
+use Rattle.std.proofs.lemmas.List.Kept.{Contains-dedup, Contains-from_dedup, IsStrictlySortedBy-dedup}
+use Rattle.std.proofs.lemmas.List.Sorted.{All-permutation, IsPermutation-map, sum_by-IsPermutation}
+use Rattle.std.proofs.lemmas.List.Sums.{sum_by-append, sum_by_push}
+use Rattle.cdrc_text.specs.Fold.{IsInByteOrder}
+use Rattle.cdrc_text.specs.Tally.{ListsWords, count_of, entries_of, entry_of}
+use Rattle.tally_sums.specs.Sums.{IsSum, ListsEach, SumsUp, Tallies, added_up, counted_in, sum_for}
+use Rattle.tally_sums.proofs.Joined.{Entry, keys_up, part, sum_up}
+use Rattle.tally_sums.proofs.Ordered.{Owns, count_is_sum, listed, own_sums}
+
+-- no entries of no tally
+pub lists_none : (entries : List (Vec ℕ Global × ℕ)) → entries ≡ [] → ListsEach [] (entries_of entries)
+lists_none entries none = subst (λ es. ListsEach [] (entries_of es)) (sym none)
+    (record { sums = λ w. refl; positive = All-nil (λ n. 0 < n) })
+
+-- the entries of one tally more
+pub lists_more : (front all : Tallies) (t rows before after : List Entry) → all ≡ front ++ t ∷ []
+    → ListsEach front before → ListsWords t rows → after ≡ before ++ rows → ListsEach all after
+lists_more front all t rows before after more so lists added = record {
+  sums = λ w.
+      let a = ap (sum_for w) added ∙ sum_by-append (part w) before rows in
+      let b = so.sums w in
+      let c = sym (count_is_sum rows w lists.in_order) ∙ lists.counts w in
+      let d = ap (λ (ts : Tallies). counted_in ts w) more
+      ∙ sum_by_push (λ (u : List Entry). count_of u w) front t in
+      omega (arith, a, b, c, d);
+  positive = subst (λ es. All (λ n. 0 < n) (values_of es)) (sym added)
+      (subst (All (λ n. 0 < n)) (sym (map-append (λ (e : Entry). e.1) before rows))
+      (All-append (λ n. 0 < n) (values_of before) (values_of rows) so.positive lists.positive));
+}
+
+-- how entries are sorted: by the words, and then by the counts
+abbrev by_entry : Vec ℕ Global × ℕ → Vec ℕ Global × ℕ → Ordering
+by_entry x y = ordering_then (slice_cmp nat_cmp x.0.items y.0.items) (nat_cmp x.1 y.1)
+
+first_level : (r o : Ordering) → is_lt (ordering_then r o) ≡ false → is_lt r ≡ false
+first_level Less o level = level
+first_level Equal o level = refl
+first_level Greater o level = refl
+
+keys_sorted : (es : List (Vec ℕ Global × ℕ)) → IsSorted by_entry es
+    → IsSorted (slice_cmp nat_cmp) (keys_of (entries_of es))
+keys_sorted [] sorted = λ k d low high. absurd (omega (arith, high))
+keys_sorted (e ∷ es) sorted = λ k d low high.
+    let xs = e ∷ es in
+    let size : length (keys_of (entries_of xs)) ≡ length xs =
+    length-map (entries_of xs) (λ (r : Entry). r.0) ∙ length-map xs entry_of in
+    let at : (i : ℕ) → i < length xs → get_or (keys_of (entries_of xs)) i d ≡ (get_or xs i e).0.items =
+    λ i h.
+    get_or-map (λ (r : Entry). r.0) (entries_of xs) i ([], 0) d
+    (let many = length-map xs entry_of in omega (arith, h, many))
+    ∙ ap (λ (r : Entry). r.0) (get_or-map entry_of xs i e ([], 0) h) in
+    let below : k + 1 < length xs = omega (arith, high, size) in
+    ap (λ v. is_lt (slice_cmp nat_cmp v (get_or (keys_of (entries_of xs)) k d))) (at (k + 1) below)
+    ∙ ap (λ v. is_lt (slice_cmp nat_cmp (get_or xs (k + 1) e).0.items v)) (at k (omega (arith, below)))
+    ∙ first_level (slice_cmp nat_cmp (get_or xs (k + 1) e).0.items (get_or xs k e).0.items)
+    (nat_cmp (get_or xs (k + 1) e).1 (get_or xs k e).1) (sorted k e low below)
+
+-- entries that are moved add up to the same
+pub sums_moved : (tallies : Tallies) (entries sorted : List (Vec ℕ Global × ℕ))
+    → ListsEach tallies (entries_of entries) → IsPermutation entries sorted → (w : List ℕ)
+    → sum_for w (entries_of sorted) ≡ counted_in tallies w
+sums_moved tallies entries sorted lists moved w =
+    sum_by-IsPermutation (part w) (entries_of entries) (entries_of sorted)
+    (IsPermutation-map entry_of entries sorted moved) ∙ lists.sums w
+
+module _ (tallies : Tallies) (entries sorted : List (Vec ℕ Global × ℕ)) (words : List Entry)
+    (lists : ListsEach tallies (entries_of entries)) (moved : IsPermutation entries sorted)
+    (ordered : IsSorted by_entry sorted) (are : words ≡ added_up (entries_of sorted)) where
+  shuffled : IsPermutation (entries_of entries) (entries_of sorted)
+  shuffled = IsPermutation-map entry_of entries sorted moved
+
+  sums : (w : List ℕ) → sum_for w (entries_of sorted) ≡ counted_in tallies w
+  sums = sums_moved tallies entries sorted lists moved
+
+  words_sums : (w : List ℕ) → sum_for w words ≡ counted_in tallies w
+  words_sums w = ap (sum_for w) are ∙ sum_up w (entries_of sorted) ∙ sums w
+
+  keys : keys_of words ≡ dedup bytes_eq (keys_of (entries_of sorted))
+  keys = ap (λ (es : List Entry). keys_of es) are ∙ keys_up (entries_of sorted)
+
+  in_order : IsInByteOrder (keys_of words)
+  in_order = subst (λ ks. IsInByteOrder ks) (sym keys)
+      (IsStrictlySortedBy-dedup nat_list_cmp_total texts_ties (keys_of (entries_of sorted))
+      (keys_sorted sorted ordered))
+
+  positive : All (λ n. 0 < n) (values_of (entries_of sorted))
+  positive =
+      All-permutation (λ n. 0 < n) (values_of (entries_of entries)) (values_of (entries_of sorted))
+      (IsPermutation-map (λ (e : Entry). e.1) (entries_of entries) (entries_of sorted) shuffled)
+      lists.positive
+
+  counted : (w : List ℕ) → Contains (keys_of words) w ↔ (0 < counted_in tallies w)
+  counted w =
+      let so = listed (entries_of sorted) w positive in
+      let same = sums w in (
+        (λ has. let above = so.0 (Contains-from_dedup bytes_eq (keys_of (entries_of sorted)) w
+            (subst (λ ks. Contains ks w) keys has)) in omega (arith, above, same)),
+        (λ above. subst (λ ks. Contains ks w) (sym keys)
+            (Contains-dedup nat_list_eq_equiv (λ x y is. (bytes_decides x y).0 is)
+            (keys_of (entries_of sorted)) w (so.1 (omega (arith, above, same))))),
+      )
+
+  pub sums_made : SumsUp tallies words
+  sums_made = record {
+    words = record { in_order = in_order; counted = counted };
+    sums = All-weaker (Owns words) (IsSum tallies)
+        (λ row own. own ∙ words_sums row.0) words (own_sums words in_order);
+  }
+
+-- what is so of the words is so of a call that answers them
+pub call_sums : {E : Type 0} (tallies : Tallies) (entries sorted : List (Vec ℕ Global × ℕ))
+    (r : Result (Vec (Vec ℕ Global × ℕ) Global) E) → ListsEach tallies (entries_of entries)
+    → IsPermutation entries sorted → IsSorted by_entry sorted
+    → IfOk r (λ words. entries_of words.items ≡ added_up (entries_of sorted))
+    → IfOk r (λ words. SumsUp tallies (entries_of words.items))
+call_sums tallies entries sorted (Ok words) lists moved ordered are =
+    sums_made tallies entries sorted (entries_of words.items) lists moved ordered are
+call_sums tallies entries sorted (Err e) lists moved ordered are = tt
