@@ -11,7 +11,6 @@ use Rattle.slot_store.specs.declared.making.MakeError.TheVariants as unmade
 use Rattle.queue_law.specs.declared.view.Form.{Form}
 use Rattle.queue_law.specs.declared.view.View.{View as QueueView}
 use Rattle.words_law.specs.Views.{View}
-use Rattle.plain_state.specs.declared.slot.SlotId.{SlotId}
 use Rattle.plain_state.specs.Lists.{times}
 use Rattle.core_events.specs.declared.view.CoreView.{CoreView}
 use Rattle.core_law.proofs.Kit.{times_none}

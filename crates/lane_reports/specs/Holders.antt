@@ -1,6 +1,5 @@
 -- A seat that is alone, and how many references it counts.
-use Rattle.std.specs.Prelude.{◌≡◌, ◌==◌, ◌<◌, ◌↔◌, Bool, true, ℕ, List, Some}
-use Rattle.std.specs.HashSet.{HashSet, contains_by}
+use Rattle.std.specs.Prelude.{◌≡◌, ◌<◌, ◌↔◌, Bool, true, false, ℕ, List, slice_index_or, Some}
 use Rattle.plain_state.specs.declared.slot.SlotId.{SlotId}
 use Rattle.plain_state.specs.Lists.{times}
 use Rattle.plain_state.specs.References.{strong_refs}
@@ -21,9 +20,9 @@ use Rattle.words_law.specs.Views.{View}
 use Rattle.words_protocol.specs.declared.law.WordsLaw.{WordsLaw}
 use Rattle.words_protocol.specs.Sides.{area_of, ends_of}
 
--- the number of this slot is one of these
-unfoldable pub has : {S : Type 0} → HashSet ℕ S → SlotId → Bool
-has held s = contains_by (λ n. s.0 == n) held
+-- the mark of this slot stands
+abbrev pub has : List Bool → SlotId → Bool
+has held s = slice_index_or held s.0 false
 
 -- of the slots of these references, and of no other, this is so
 abbrev pub AreSlotsOf : List Handle → (SlotId → Bool) → Type 0

@@ -37,10 +37,11 @@ use protocol_pairs::PairKind;
 use queue_protocol::NodeKind;
 use std::alloc::Global;
 use std::sync::Wait;
+use std::thread::Threads;
 use words_protocol::WordsLaw;
 
 /// The report of the files: a row for each word, and the closing lines. What is kept is given up.
-fn write_report<R: Wait, F: Fn(&[u64; 16]) -> u64>(
+fn write_report<R: Threads + Wait + Sync, F: Fn(&[u64; 16]) -> u64>(
     rt: &R,
     alloc: Global,
     domain: &Domain<WordsLaw>,
@@ -89,7 +90,7 @@ fn write_report<R: Wait, F: Fn(&[u64; 16]) -> u64>(
 
 /// Seat 0 takes over what the lanes have, pops what is left, shuts the queue, and writes the report. It answers that,
 /// and the tallies: its own, and then those of the lanes.
-pub(crate) fn finish<R: Wait, F: Fn(&[u64; 16]) -> u64>(
+pub(crate) fn finish<R: Threads + Wait + Sync, F: Fn(&[u64; 16]) -> u64>(
     rt: &R,
     alloc: Global,
     domain: &Domain<WordsLaw>,

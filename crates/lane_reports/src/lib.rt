@@ -20,6 +20,7 @@ mod done;
 mod finishing;
 mod gathering;
 mod giving;
+mod held;
 mod laws;
 mod learning;
 mod parting;

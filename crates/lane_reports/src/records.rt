@@ -13,6 +13,7 @@ ghost use Rattle.lane_reports.specs.Rows.{AreWords, IsRecordOf, IsWhyNoRows, sum
 ghost use Rattle.tally_sums.specs.Sums.{SumsUp};
 ghost use Rattle.words_rest.specs.Kept.{TellsWord};
 
+use crate::held::{is_held, mark_slots};
 use crate::refusal::RowsError;
 use acquire_retire::{Domain, Seat, SlotId};
 use cdrc_text::Tally;
@@ -24,8 +25,8 @@ use out_of_memory::OutOfMemory;
 use protocol_pairs::Right;
 use queue_protocol::NodeKind;
 use std::alloc::Global;
-use std::collections::HashSet;
 use std::sync::Wait;
+use std::thread::Threads;
 use tally_sums::counted_words;
 use text_reading::pairs_have_pieces;
 use weak_intern::find;
@@ -39,22 +40,11 @@ pub(crate) struct WordRecord {
     pub slot: SlotId,
 }
 
-/// The numbers of the slots of these references, each once. A step of a set for each of them.
-pub(crate) fn kept_slots(alloc: Global, kept: &[Strong]) -> Result<HashSet<u32>, OutOfMemory>
-    ensures { IfOk result (λ held. AreSlotsOf kept.now (has held)) }
-{
-    let mut held = HashSet::new(alloc);
-    for handle in kept {
-        held.insert(handle.slot().0)?;
-    }
-    Ok(held)
-}
-
 /// The record of each word that some tally counted, with the sum of its counts, in byte order. The seat is alone, and owns the references that are
 /// kept; each record is that of one of them. `Spent` comes only where the seat has no add left, and `OutOfMemory` of
 /// an allocation failure. It takes a walk of the directory for each word, and tries one again that comes to no such
 /// record, so the call may not return.
-pub(crate) fn find_records<R: Wait>(
+pub(crate) fn find_records<R: Threads + Wait + Sync>(
     rt: &R,
     alloc: Global,
     domain: &Domain<WordsLaw>,
@@ -75,11 +65,11 @@ pub(crate) fn find_records<R: Wait>(
     ensures learns { LearnsIn texts with_texts 0 root.old.view.client root.new.view.client }
     ensures ready { IsRoot domain.now shared.now root.new }
 {
-    let held = kept_slots(alloc, kept)?;
-    let words = counted_words(alloc, tallies)?;
+    let held = mark_slots(alloc, kept)?;
+    let words = counted_words(rt, alloc, tallies)?;
     let mut records = Vec::with_capacity(alloc, words.len())?;
     for (word, occurrences) in words {
-        let slot = find_record(rt, domain, root, shared, &held, word.as_slice())?;
+        let slot = find_record(rt, domain, root, shared, held.as_slice(), word.as_slice())?;
         records.push_reserved(WordRecord {
             word,
             occurrences,
@@ -96,7 +86,7 @@ fn find_record<R: Wait>(
     domain: &Domain<WordsLaw>,
     root: &mut Seat<WordsLaw>,
     shared: &Shared,
-    held: &HashSet<u32>,
+    held: &[bool],
     word: &[u8],
 ) -> Result<SlotId, Spent>
     requires ready { IsRoot domain.now shared.now root.old }
@@ -126,7 +116,7 @@ fn find_held<R: Wait>(
     domain: &Domain<WordsLaw>,
     root: &mut Seat<WordsLaw>,
     shared: &Shared,
-    held: &HashSet<u32>,
+    held: &[bool],
     word: &[u8],
 ) -> Result<Option<SlotId>, Spent>
     requires ready { IsRoot domain.now shared.now root.old }
@@ -146,7 +136,7 @@ fn find_held<R: Wait>(
     };
     let slot = found.slot();
     drop_strong(domain, root, found);
-    if held.contains(&slot.0) {
+    if is_held(held, slot) {
         return Ok(Some(slot));
     }
     Ok(None)

@@ -1,5 +1,5 @@
 -- The entries of all tallies, sorted, and joined where equal words stand side by side.
-use Rattle.std.proofs.Common.{◌≡◌, ℕ, ◌+◌, ◌<◌, Bool, true, false, List, [], ◌∷◌, ◌++◌, Vec, Global, length, get_or, refl, sym, ap, subst, ◌∙◌, arith}
+use Rattle.std.proofs.Common.{◌≡◌, ℕ, ◌+◌, ◌<◌, Bool, true, false, List, [], ◌∷◌, ◌++◌, Vec, Global, length, get_or, take, refl, sym, ap, subst, ◌∙◌, arith}
 use Rattle.std.specs.Prelude.{◌↔◌, IfOk, Result, Ok, Err}
 use Rattle.std.specs.Cmp.Lexicographic.{bytes_decides, nat_list_eq_equiv, slice_cmp, texts_ties}
 use Rattle.std.specs.declared.cmp.Ordering.{Ordering}
@@ -10,14 +10,14 @@ use Rattle.std.specs.Map.{keys_of, values_of}
 use Rattle.std.specs.Ordering.{is_lt, nat_cmp, ordering_then}
 use Rattle.std.specs.Str.{bytes_eq}
 use Rattle.std.proofs.lemmas.Cmp.{nat_list_cmp_total}
-use Rattle.std.proofs.lemmas.List.{get_or-map, length-map, map-append}
+use Rattle.std.proofs.lemmas.List.{get_or-map, length-append, length-map, map-append, take_all, take_more}
 use Rattle.std.proofs.lemmas.List.Elements.{All-append, All-nil, All-weaker}
 use Rattle.std.proofs.lemmas.List.Kept.{Contains-dedup, Contains-from_dedup, IsStrictlySortedBy-dedup}
 use Rattle.std.proofs.lemmas.List.Sorted.{All-permutation, IsPermutation-map, sum_by-IsPermutation}
 use Rattle.std.proofs.lemmas.List.Sums.{sum_by-append, sum_by_push}
 use Rattle.cdrc_text.specs.Fold.{IsInByteOrder}
 use Rattle.cdrc_text.specs.Tally.{ListsWords, count_of, entries_of, entry_of}
-use Rattle.tally_sums.specs.Sums.{IsSum, ListsEach, SumsUp, Tallies, added_up, counted_in, sum_for}
+use Rattle.tally_sums.specs.Sums.{AreListed, IsSum, ListsEach, SumsUp, Tallies, added_up, counted_in, sum_for}
 use Rattle.tally_sums.proofs.Joined.{Entry, keys_up, part, sum_up}
 use Rattle.tally_sums.proofs.Ordered.{Owns, count_is_sum, listed, own_sums}
 
@@ -41,6 +41,48 @@ lists_more front all t rows before after more so lists added = record {
       (subst (All (λ n. 0 < n)) (sym (map-append (λ (e : Entry). e.1) before rows))
       (All-append (λ n. 0 < n) (values_of before) (values_of rows) so.positive lists.positive));
 }
+
+-- what stands behind these
+behind : {A : Type 0} (xs ys : List A) (y d : A) → get_or (xs ++ y ∷ ys) (length xs) d ≡ y
+behind [] ys y d = refl
+behind (x ∷ xs) ys y d = behind xs ys y d
+
+-- the list of the next tally
+pub next_listed : {E : Type 0} (tallies : Tallies)
+    (all yielded left rest : List (Result (Vec (Vec ℕ Global × ℕ) Global) E))
+    (list : Result (Vec (Vec ℕ Global × ℕ) Global) E) (rows : Vec (Vec ℕ Global × ℕ) Global)
+    (before after : List (Vec ℕ Global × ℕ)) → AreListed tallies all → yielded ++ left ≡ all
+    → left ≡ list ∷ rest → list ≡ Ok rows
+    → ListsEach (take (length yielded) tallies) (entries_of before) → after ≡ before ++ rows.items
+    → ListsEach (take (length (yielded ++ list ∷ [])) tallies) (entries_of after)
+next_listed tallies all yielded left rest list rows before after are so first ok lists added =
+    let i = length yielded in
+    let whole : yielded ++ list ∷ rest ≡ all = ap (λ l. yielded ++ l) (sym first) ∙ so in
+    let long = length-append yielded (list ∷ rest) in
+    let same = ap (λ l. length l) whole in
+    let many = are.many in
+    let below : i < length tallies = omega (arith, long, same, many) in
+    let at : get_or all i (Ok rows) ≡ Ok rows =
+    sym (ap (λ l. get_or l i (Ok rows)) whole) ∙ behind yielded rest list (Ok rows) ∙ ok in
+    let listed = subst (λ r. IfOk r (λ found. ListsWords (get_or tallies i []) (entries_of found.items))) at
+    (are.each i (Ok rows) below) in
+    let one : length (yielded ++ list ∷ []) ≡ i + 1 = length-append yielded (list ∷ []) in
+    lists_more (take i tallies) (take (length (yielded ++ list ∷ [])) tallies) (get_or tallies i [])
+    (entries_of rows.items) (entries_of before) (entries_of after)
+    (ap (λ n. take n tallies) one ∙ take_more tallies i [] below) lists listed
+    (ap (λ es. entries_of es) added ∙ map-append entry_of before rows.items)
+
+-- once no list is left
+pub all_listed : {E : Type 0} (tallies : Tallies)
+    (all yielded left : List (Result (Vec (Vec ℕ Global × ℕ) Global) E)) (entries : List Entry)
+    → AreListed tallies all → yielded ++ left ≡ all → length left ≡ 0
+    → ListsEach (take (length yielded) tallies) entries → ListsEach tallies entries
+all_listed tallies all yielded left entries are so none lists =
+    let long = length-append yielded left in
+    let same = ap (λ l. length l) so in
+    let many = are.many in
+    subst (λ (ts : Tallies). ListsEach ts entries)
+    (take_all (length yielded) tallies (omega (arith, long, same, many, none))) lists
 
 -- how entries are sorted: by the words, and then by the counts
 abbrev by_entry : Vec ℕ Global × ℕ → Vec ℕ Global × ℕ → Ordering

@@ -16,7 +16,7 @@ use Rattle.lane_reports.proofs.Still.{no_snapshot, two_free}
 use Rattle.lane_reports.proofs.finishing.finish.Goals as goal
 
 pub write_report-requires-clause-ready : goal.write_report-requires-clause-ready
-write_report-requires-clause-ready g c =
+write_report-requires-clause-ready g c κs within =
     let shut = c.shut_and_settle.ensures in let was = c.take_rest.ensures.ready in
     let learns = c.holds_nothing-is_null.ensures.learns in record {
       rest = c.holds_nothing-is_null.ensures.rest;
@@ -29,13 +29,13 @@ write_report-requires-clause-ready g c =
     }
 
 pub write_report-requires-clause-under_none : goal.write_report-requires-clause-under_none
-write_report-requires-clause-under_none g c =
+write_report-requires-clause-under_none g c κs within =
     no_snapshot c.holds_nothing-is_null.new.root.view.core
     (subst IsUnderNone (sym c.holds_nothing-is_null.ensures.learns.core)
     c.shut_and_settle.ensures.none)
 
 pub write_report-requires-clause-counted : goal.write_report-requires-clause-counted
-write_report-requires-clause-counted g c =
+write_report-requires-clause-counted g c κs within =
     subst (λ (ts : Tallies). HasCounted c.args.work.now c.in_ok-tallies.field-0.kept.items ts
     c.holds_nothing-is_null.new.root) (sym c.deref.ensures.value)
     (all_known _ c.args.domain.now c.args.work.now c.requires.work c.requires.within.interns

@@ -3,7 +3,7 @@ use Rattle.plain_state.specs.declared.slot.SlotId.{SlotId}
 use Rattle.plain_state.specs.Lists.{times}
 use Rattle.counted_handles.specs.Handles.{Handle}
 use Rattle.weak_intern.specs.Knowing.{KnowsRecord}
-use Rattle.lane_reports.specs.Holders.{has, texts}
+use Rattle.lane_reports.specs.Holders.{texts}
 use Rattle.lane_reports.proofs.CountingHolders.{root_still}
 use Rattle.lane_reports.proofs.Tells.{tells_text}
 use Rattle.lane_reports.proofs.Finding.{gained, has_one, knows_back, leaves_back, leaves_drop, learns_same, of_some, quota_on}
@@ -15,18 +15,16 @@ drop_strong-requires-clause-owned g c =
     c.in-Some.is c.in_ok-found.ensures.leaves in
     has_one c.in-Some.found.slot c.args.root.now c.find.new.seat first
 
-pub returns-then-contains-clause-held : goal.returns-then-contains-clause-held
-unfolding has
-returns-then-contains-clause-held g c = sym c.contains.ensures ∙ c.if-contains.true
+pub returns-then-is_held-clause-held : goal.returns-then-is_held-clause-held
+returns-then-is_held-clause-held g c = sym c.is_held.ensures ∙ c.if-is_held.true
 
-pub returns-then-contains-clause-tells : goal.returns-then-contains-clause-tells
-unfolding has
-returns-then-contains-clause-tells g c =
+pub returns-then-is_held-clause-tells : goal.returns-then-is_held-clause-tells
+returns-then-is_held-clause-tells g c =
     let first = gained c.args.root.now c.find.new.seat c.in_ok-found.field-0 c.in-Some.found
     c.in-Some.is c.in_ok-found.ensures.leaves in
     let second = leaves_drop _ c.args.domain.now c.in-Some.found.slot c.find.new.seat
     c.drop_strong.new.seat c.drop_strong.ensures.dropped c.drop_strong.ensures.objects in
-    let own = c.requires.held c.slot-slot.result (sym c.contains.ensures ∙ c.if-contains.true) in
+    let own = c.requires.held c.slot-slot.result (sym c.is_held.ensures ∙ c.if-is_held.true) in
     let known = subst (λ (s : SlotId). KnowsRecord texts c.args.word.now s c.drop_strong.new.seat)
     (sym c.slot-slot.ensures)
     (knows_back c.in-Some.found.slot c.args.root.now c.find.new.seat c.drop_strong.new.seat first
@@ -36,8 +34,8 @@ returns-then-contains-clause-tells g c =
     c.in_ok-found.field-0 c.in-Some.found c.in-Some.is c.in_ok-found.ensures.knows)) in
     (known.0, known.1, tells_text c.slot-slot.result known.0 c.drop_strong.new.seat known.2)
 
-pub returns-then-contains-clause-leaves : goal.returns-then-contains-clause-leaves
-returns-then-contains-clause-leaves g c =
+pub returns-then-is_held-clause-leaves : goal.returns-then-is_held-clause-leaves
+returns-then-is_held-clause-leaves g c =
     let first = gained c.args.root.now c.find.new.seat c.in_ok-found.field-0 c.in-Some.found
     c.in-Some.is c.in_ok-found.ensures.leaves in
     let second = leaves_drop _ c.args.domain.now c.in-Some.found.slot c.find.new.seat
@@ -45,8 +43,8 @@ returns-then-contains-clause-leaves g c =
     leaves_back c.in-Some.found.slot c.args.root.now c.find.new.seat c.drop_strong.new.seat first
     second
 
-pub returns-then-contains-clause-ready : goal.returns-then-contains-clause-ready
-returns-then-contains-clause-ready g c =
+pub returns-then-is_held-clause-ready : goal.returns-then-is_held-clause-ready
+returns-then-is_held-clause-ready g c =
     let first = gained c.args.root.now c.find.new.seat c.in_ok-found.field-0 c.in-Some.found
     c.in-Some.is c.in_ok-found.ensures.leaves in
     let second = leaves_drop _ c.args.domain.now c.in-Some.found.slot c.find.new.seat

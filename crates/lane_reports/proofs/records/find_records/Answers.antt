@@ -1,7 +1,8 @@
-use Rattle.std.proofs.Common.{◌≤◌, ◌∷◌, ◌++◌, [], List, Vec, Global, ℕ, length, length-append, append-nil, ap, sym, ◌∙◌, subst, arith}
+use Rattle.std.proofs.Common.{◌≡◌, Bool, true, ◌≤◌, ◌∷◌, ◌++◌, [], List, Vec, Global, ℕ, length, length-append, append-nil, ap, sym, ◌∙◌, subst, arith}
 use Rattle.cdrc_text.specs.Tally.{entries_of}
 use Rattle.slot_store.proofs.Quieting.{no_items}
 use Rattle.lane_files.specs.Keeping.{slots_of}
+use Rattle.lane_reports.specs.Holders.{has}
 use Rattle.lane_reports.specs.Kept.{lives_in}
 use Rattle.words_rest.specs.Kept.{TellsWord}
 use Rattle.lane_reports.specs.Rows.{sums_in}
@@ -16,7 +17,7 @@ find_record-requires-clause-word g c =
     (next_counted c.args.tallies.now c.loop-word.records.items c.in-Some.word c.in-Some.occurrences
     c.loop-word.word-iterator.rest.items c.next.new.self.rest.items c.in-Some.ensures.steps.0
     c.loop-word.invariant.words) in
-    subst (λ (w : List ℕ). (1 ≤ length w) × (length w ≤ 4096)) (sym c.as_slice.ensures.value)
+    subst (λ (w : List ℕ). (1 ≤ length w) × (length w ≤ 4096)) (sym c.as_slice-in-loop-word.ensures.value)
     (so.0, so.1)
 
 pub returns-in_err-slot-clause-leaves : goal.returns-in_err-slot-clause-leaves
@@ -49,10 +50,12 @@ loop-word-preserved g c = record {
       (record { word = c.in-Some.word; occurrences = c.in-Some.occurrences; slot = c.in_ok-slot.slot }) c.push_reserved.ensures.items
       c.loop-word.invariant.records
       (record {
-        held = (c.in_ok-held.ensures c.in_ok-slot.slot).0 c.in_ok-slot.ensures.held;
+        held = (c.in_ok-held.ensures c.in_ok-slot.slot).0
+            (subst (λ (marks : List Bool). has marks c.in_ok-slot.slot ≡ true) c.as_slice.ensures.value
+            c.in_ok-slot.ensures.held);
         tells = subst (λ (w : List ℕ). TellsWord c.find_record.new.root.view.client.1 w
             c.in_ok-slot.slot (lives_in c.find_record.new.root c.in_ok-slot.slot))
-            c.as_slice.ensures.value c.in_ok-slot.ensures.tells;
+            c.as_slice-in-loop-word.ensures.value c.in_ok-slot.ensures.tells;
       });
   ready = c.find_record.ensures.ready;
   leaves = leaves_on c.args.root.now c.loop-word.root c.find_record.new.root

@@ -29,7 +29,7 @@ run_lanes-requires-clause-few g c κs within =
     let few = c.requires.lanes.1 in omega (arith, size, count, few)
 
 pub finish-requires-clause-bare : goal.finish-requires-clause-bare
-finish-requires-clause-bare g c =
+finish-requires-clause-bare g c κs within =
     let laid = c.in_ok-domain.ensures.root in record {
       first = laid.number;
       none = under_none c.in_ok-domain.field-0.root.view.core laid.notes;
@@ -44,14 +44,14 @@ finish-requires-clause-bare g c =
     }
 
 pub finish-requires-clause-did : goal.finish-requires-clause-did
-finish-requires-clause-did g c =
+finish-requires-clause-did g c κs within =
     let opened = c.in_ok-domain.field-0 in
     lanes_did _ opened.domain opened.shared c.args.work.now c.args.lanes opened.seats.items
     c.in_ok-ends.ends.items c.in_ok-done.done.items c.in_ok-domain.ensures.seats
     c.in_ok-ends.ensures c.in_ok-done.ensures.ran
 
 pub finish-requires-clause-all : goal.finish-requires-clause-all
-finish-requires-clause-all g c =
+finish-requires-clause-all g c κs within =
     let opened = c.in_ok-domain.field-0 in
     let done = ran_many c.in_ok-ends.ends.items c.in_ok-done.done.items c.in_ok-done.ensures.ran in
     let many = as_many _ opened.domain opened.shared c.args.work.now c.args.lanes
@@ -70,7 +70,7 @@ returns-in_err-done-clause-why g c =
     c.in_ok-domain.ensures.seats c.in_ok-ends.ensures c.in_err-done.ensures.why)
 
 pub finish-requires-clause-some : goal.finish-requires-clause-some
-finish-requires-clause-some g c =
+finish-requires-clause-some g c κs within =
     let opened = c.in_ok-domain.field-0 in
     let done = ran_many c.in_ok-ends.ends.items c.in_ok-done.done.items c.in_ok-done.ensures.ran in
     let many = as_many _ opened.domain opened.shared c.args.work.now c.args.lanes

@@ -3,7 +3,7 @@ use Rattle.tally_sums.proofs.SumsMade.{call_sums, sums_moved}
 use Rattle.tally_sums.proofs.listing.counted_words.Goals as goal
 
 pub add_up-requires : goal.add_up-requires
-add_up-requires c = record {
+add_up-requires g c = record {
   few = λ w.
       let most = c.requires.few w in
       let same = sums_moved c.args.tallies.now c.in_ok-entries.entries.items c.sort.new.self.items
@@ -11,7 +11,7 @@ add_up-requires c = record {
 }
 
 pub returns : goal.returns
-returns c =
+returns g c =
     call_sums c.args.tallies.now c.in_ok-entries.entries.items c.sort.new.self.items
     c.add_up.result c.in_ok-entries.ensures c.in_ok-sort.ensures.permutation
     c.in_ok-sort.ensures.sorted c.add_up.ensures

@@ -1,26 +1,34 @@
-use Rattle.std.proofs.Common.{◌+◌, ◌∷◌, ◌++◌, [], take, subst, sym, ap, ◌∙◌, arith}
-use Rattle.std.proofs.lemmas.List.{map-append, take_all, take_more}
-use Rattle.cdrc_text.specs.Tally.{entries_of, entry_of}
-use Rattle.tally_sums.specs.Sums.{ListsEach, Tallies}
-use Rattle.tally_sums.proofs.SumsMade.{lists_more, lists_none}
+use Rattle.std.proofs.Common.{◌∷◌, ◌++◌, [], append_assoc, ap, refl, subst, sym, ◌∙◌}
+use Rattle.cdrc_text.specs.Tally.{entries_of}
+use Rattle.tally_sums.specs.Sums.{AreListed}
+use Rattle.tally_sums.proofs.SumsMade.{all_listed, lists_none, next_listed}
 use Rattle.tally_sums.proofs.listing.list_entries.Goals as goal
 
-pub loop-tally-init : goal.loop-tally-init
-loop-tally-init c = lists_none c.new-entries.result.items c.new-entries.ensures.items
+pub loop-list-init : goal.loop-list-init
+loop-list-init g c = record {
+  all = refl;
+  lists = subst (AreListed c.args.tallies.now)
+      (sym c.into_iter-list-iterator.ensures.into_iter_gives.0) c.in_ok-list-items.ensures;
+  so_far = lists_none c.new-entries.result.items c.new-entries.ensures.items;
+}
 
-pub loop-tally-preserved : goal.loop-tally-preserved
-loop-tally-preserved c =
-    lists_more (take c.loop-tally.tally-index c.args.tallies.now)
-    (take (c.loop-tally.tally-index + 1) c.args.tallies.now) c.tally-item.result
-    (entries_of c.in_ok-rows.rows.items) (entries_of c.loop-tally.entries.items)
-    (entries_of c.append.new.self.items)
-    (take_more c.args.tallies.now c.loop-tally.tally-index c.tally-item.result (omega arith)
-    ∙ ap (λ t. take c.loop-tally.tally-index c.args.tallies.now ++ t ∷ []) (sym c.tally-item.is))
-    c.loop-tally.invariant c.in_ok-rows.ensures
-    (ap (λ es. entries_of es) c.in_ok-append.ensures.items
-    ∙ map-append entry_of c.loop-tally.entries.items c.in_ok-rows.rows.items)
+pub loop-list-preserved : goal.loop-list-preserved
+loop-list-preserved g c = record {
+  all = append_assoc c.loop-list.yielded (c.in-Some.list ∷ []) c.next.new.self.rest.items
+      ∙ sym (ap (λ ls. c.loop-list.yielded ++ ls) c.in-Some.ensures.steps.0)
+      ∙ c.loop-list.invariant.all;
+  lists = c.loop-list.invariant.lists;
+  so_far = next_listed c.args.tallies.now c.into_iter-list-iterator.result.rest.items
+      c.loop-list.yielded c.loop-list.list-iterator.rest.items c.next.new.self.rest.items
+      c.in-Some.list c.in_ok-rows.rows c.loop-list.entries.items c.append.new.self.items
+      c.loop-list.invariant.lists c.loop-list.invariant.all c.in-Some.ensures.steps.0
+      c.in_ok-rows.was c.loop-list.invariant.so_far c.in_ok-append.ensures.items;
+}
 
 pub returns : goal.returns
-returns c =
-    subst (λ (ts : Tallies). ListsEach ts (entries_of c.loop-tally.entries.items))
-    (take_all c.loop-tally.tally-index c.args.tallies.now (omega arith)) c.loop-tally.invariant
+returns g c =
+    all_listed c.args.tallies.now c.into_iter-list-iterator.result.rest.items c.loop-list.yielded
+    c.loop-list.list-iterator.rest.items (entries_of c.loop-list.entries.items)
+    c.loop-list.invariant.lists c.loop-list.invariant.all
+    (sym c.loop-list.list-iterator.rest.ok.0 ∙ c.in-None.ensures.steps.0)
+    c.loop-list.invariant.so_far
