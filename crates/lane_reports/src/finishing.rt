@@ -84,8 +84,7 @@ fn write_report<R: Threads + Wait + Sync, F: Fn(&[u64; 16]) -> u64>(
         held: audit_line(&held),
         freed: audit_line(&freed),
     };
-    let text = report(alloc, &rows, &totals)?;
-    Ok(text)
+    Ok(report(alloc, &rows, &totals)?)
 }
 
 /// Seat 0 takes over what the lanes have, pops what is left, shuts the queue, and writes the report. It answers that,

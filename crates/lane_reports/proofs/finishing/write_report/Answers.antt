@@ -76,8 +76,8 @@ returns-clause-report g c =
     ∙ c.find_records.ensures.leaves.owns s ∙ c.requires.counted.owned s)
     refl c.give_all.ensures.gives c.audit_at_rest-2.ensures.same in
     subst (IsReport (texts_in c.args.work.now) c.args.work.now.rounds)
-    (sym (text_is c.args.work.now c.in_ok-text.text.items c.deref-4.result.now
-    c.in_ok-rows.rows.items _ c.in_ok-held.held c.in_ok-freed.freed c.in_ok-text.ensures
+    (sym (text_is c.args.work.now c.in_ok-report.field-0.items c.deref-4.result.now
+    c.in_ok-rows.rows.items _ c.in_ok-held.held c.in_ok-freed.freed c.in_ok-report.ensures
     c.deref-4.ensures.value (c.len.ensures ∙ size) c.count_pieces.ensures c.audit_line.ensures
     c.audit_line-2.ensures))
     (written c.args.domain.now (λ words. 0) _ c.args.work.now c.requires.work c.requires.counted.small
