@@ -68,10 +68,8 @@ fn one_seat_leaves_and_the_other_closes(rt: HostRuntime) -> Result<(), Fail> {
         (domain.next_dying(&other), domain.next_ripe(&other)),
         (None, None)
     );
-    assert_eq!(rt;
-        (domain.free_note(&other), domain.shape()),
-        (Some(1), SMALL)
-    );
+    assert_eq!(rt; domain.free_note(&other), Some(1));
+    assert_eq!(rt; domain.shape(), SMALL);
     domain.leave(&mut root, other);
     assert!(rt; domain.alone(&root));
     let mut heap = domain.image(rt.alloc(), &mut root)?;

@@ -42,8 +42,8 @@ pub(crate) struct WordRecord {
 
 /// The record of each word that some tally counted, with the sum of its counts, in byte order. The seat is alone, and
 /// owns the references that are kept; each record is that of one of them. `Spent` comes only where the seat has no add
-/// left, and `OutOfMemory` of an allocation failure. It takes a walk of the directory for each word, and tries one again
-/// that comes to no such record, so the call may not return.
+/// left, and `OutOfMemory` of an allocation failure. It takes a walk of the directory for each word, and tries one
+/// again that comes to no such record, so the call may not return.
 pub(crate) fn find_records<R: Threads + Wait + Sync>(
     rt: &R,
     alloc: Global,
