@@ -72,16 +72,28 @@ counts-one_more p n old new had updated v =
 pub count-le-total : (p : List ℕ) (n : ℕ) (es : List (Vec ℕ Global × ℕ)) → lookup (is_word p) es ≡ Some n → n ≤ total_of (entries_of es)
 count-le-total p n es found = omega (arith, lookup-le-sum (is_word p) es, ap (λ o. unwrap_or o 0) found, total_of-is es)
 
+-- where a word that was there, or a new one, counts one more, so does the total
+pub total-old : (p : List ℕ) (n : ℕ) (old new : List (Vec ℕ Global × ℕ)) → lookup (is_word p) old ≡ Some n
+    → new ≡ set_value (is_word p) old (n + 1) → total_of (entries_of new) ≡ total_of (entries_of old) + 1
+total-old p n old new found written =
+    let total = sum_by-set_value (λ (x : ℕ). x) (is_word p) old n (n + 1) found in
+    let same = ap (λ es. sum (values_of es)) written in
+    omega (arith, total, same, total_of-is old, total_of-is new)
+
+pub total-new : (k : Vec ℕ Global) (old new : List (Vec ℕ Global × ℕ)) → IsPermutation ((k, 1) ∷ old) new
+    → total_of (entries_of new) ≡ total_of (entries_of old) + 1
+total-new k old new placed =
+    let total = sum_by_values_permutation (λ (x : ℕ). x) ((k, 1) ∷ old) new placed in
+    omega (arith, total, sum_by-cons (λ (x : ℕ). x) 1 (values_of old), total_of-is old, total_of-is new)
+
 -- a word that was there counts one more
 pub one_more-old : (p : List ℕ) (n : ℕ) (old new : List (Vec ℕ Global × ℕ)) → lookup (is_word p) old ≡ Some n
     → new ≡ set_value (is_word p) old (n + 1) → lookup (is_word p) new ≡ Some (n + 1) → KeepsOthers same_bytes (is_word p) old new
     → CountsOneMore (entries_of old) (entries_of new) p
 one_more-old p n old new found written at others =
-    let total = sum_by-set_value (λ (x : ℕ). x) (is_word p) old n (n + 1) found in
-    let same = ap (λ es. sum (values_of es)) written in
     record {
       counts = counts-one_more p n old new (ap (λ o. unwrap_or o 0) found) (lookup-updated p (Some (n + 1)) old new at others);
-      total = omega (arith, total, same, total_of-is old, total_of-is new);
+      total = total-old p n old new found written;
     }
 
 -- a new word counts one
@@ -89,8 +101,7 @@ pub one_more-new : (p : List ℕ) (k : Vec ℕ Global) (old new : List (Vec ℕ 
     → IsPermutation ((k, 1) ∷ old) new → lookup (is_word p) new ≡ Some 1 → KeepsOthers same_bytes (is_word p) old new
     → CountsOneMore (entries_of old) (entries_of new) p
 one_more-new p k old new absent placed at others =
-    let total = sum_by_values_permutation (λ (x : ℕ). x) ((k, 1) ∷ old) new placed in
     record {
       counts = counts-one_more p 0 old new (ap (λ o. unwrap_or o 0) absent) (lookup-updated p (Some 1) old new at others);
-      total = omega (arith, total, sum_by-cons (λ (x : ℕ). x) 1 (values_of old), total_of-is old, total_of-is new);
+      total = total-new k old new placed;
     }

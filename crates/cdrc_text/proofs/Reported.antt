@@ -14,7 +14,7 @@ lines-rows : (files : List File) (rounds : ℕ) (rows : List Row) → All (IsRow
 lines-rows files rounds [] all = refl
 lines-rows files rounds (row ∷ rows) all =
     let here = All-head (IsRowOf files rounds) row rows all in
-    let w = row.word.items in
+    let w = row.word.now in
     let line : row_line row ≡ word_line (occurrences_in w rounds files) (holders_in w files) w
     = ap (λ n. word_line n row.holders w) here.0 ∙ ap (λ n. word_line (occurrences_in w rounds files) n w) here.1 in
     let rest = lines-rows files rounds rows (All-tail (IsRowOf files rounds) row rows all) in

@@ -8,6 +8,7 @@ use Rattle.std.proofs.lemmas.List.Sums.{sum_by-cons}
 use Rattle.std.proofs.lemmas.Map.Keys.{IsDistinct-IsPermutation, IsDistinct-head, IsDistinct-tail, apart_from_distinct, sorted_from_all_adjacent}
 use Rattle.std.proofs.lemmas.Map.Lookups.{exact_bytes}
 use Rattle.std.proofs.lemmas.Map.Views.{All-map-IsPermutation}
+use Rattle.std.specs.Borrow.{Bor}
 use Rattle.std.specs.Cmp.Lexicographic.{bytes_decides, nat_list_eq_equiv, slice_cmp}
 use Rattle.std.specs.declared.cmp.Ordering.{Ordering}
 use Rattle.std.specs.declared.cmp.Ordering.TheVariants.{Less, Equal, Greater}
@@ -18,7 +19,7 @@ use Rattle.std.specs.Option.{unwrap_or}
 use Rattle.std.specs.Ordering.{is_lt, nat_cmp, ordering_reverse, ordering_then}
 use Rattle.std.specs.Str.{bytes_eq}
 use Rattle.cdrc_text.specs.Fold.{IsInByteOrder}
-use Rattle.cdrc_text.specs.Tally.{ListsWords, count_of, entries_of, entry_of, total_of}
+use Rattle.cdrc_text.specs.Tally.{ListsWords, count_of, entries_of, shown_entries, shown_entry, total_of}
 use Rattle.std.proofs.lemmas.Map.Entries.{sum_by_values_permutation}
 use Rattle.cdrc_text.proofs.Counts.{same_bytes, values-entries_of}
 
@@ -82,25 +83,29 @@ ascends a b o level apart = by_order (slice_cmp nat_cmp b a) refl
         cc
     by_order Greater is = nat_list_cmp_total.antisymm a b ∙ ap ordering_reverse is
 
--- how a map's entries are sorted: by the words, and then by the counts
-abbrev pub entry_cmp : Vec ℕ Global × ℕ → Vec ℕ Global × ℕ → Ordering
-entry_cmp x y = ordering_then (slice_cmp nat_cmp x.0.items y.0.items) (nat_cmp x.1 y.1)
+-- a word that is borrowed, and its count
+abbrev pub Shown : Type 0
+Shown = Bor (List ℕ) × ℕ
 
-in_order-sorted : (es : List (Vec ℕ Global × ℕ)) → IsSorted entry_cmp es → IsDistinct bytes_eq (keys_of (entries_of es)) → IsInByteOrder (keys_of (entries_of es))
+-- how these are sorted: by the words, and then by the counts
+abbrev pub entry_cmp : Shown → Shown → Ordering
+entry_cmp x y = ordering_then (slice_cmp nat_cmp x.0.now y.0.now) (nat_cmp x.1 y.1)
+
+in_order-sorted : (es : List Shown) → IsSorted entry_cmp es → IsDistinct bytes_eq (keys_of (shown_entries es)) → IsInByteOrder (keys_of (shown_entries es))
 in_order-sorted [] sorted distinct = sorted_from_all_adjacent nat_list_cmp_total [] [] (λ k h. absurd (omega arith))
 in_order-sorted (e ∷ es) sorted distinct =
     let xs = e ∷ es in
-    let keys = keys_of (entries_of xs) in
-    let size : length keys ≡ length xs = length-map (entries_of xs) (λ (r : List ℕ × ℕ). r.0) ∙ length-map xs entry_of in
-    let at : (i : ℕ) → i < length xs → get_or keys i [] ≡ (get_or xs i e).0.items
+    let keys = keys_of (shown_entries xs) in
+    let size : length keys ≡ length xs = length-map (shown_entries xs) (λ (r : List ℕ × ℕ). r.0) ∙ length-map xs shown_entry in
+    let at : (i : ℕ) → i < length xs → get_or keys i [] ≡ (get_or xs i e).0.now
     = λ i h.
-    let listed : i < length (entries_of xs) = omega (arith, h, length-map xs entry_of) in
-    get_or-map (λ (r : List ℕ × ℕ). r.0) (entries_of xs) i ([], 0) [] listed
-    ∙ ap (λ (r : List ℕ × ℕ). r.0) (get_or-map entry_of xs i e ([], 0) h) in
+    let listed : i < length (shown_entries xs) = omega (arith, h, length-map xs shown_entry) in
+    get_or-map (λ (r : List ℕ × ℕ). r.0) (shown_entries xs) i ([], 0) [] listed
+    ∙ ap (λ (r : List ℕ × ℕ). r.0) (get_or-map shown_entry xs i e ([], 0) h) in
     sorted_from_all_adjacent nat_list_cmp_total keys [] (λ k h.
     let below : k + 1 < length xs = omega (arith, h, size) in
-    let a = (get_or xs k e).0.items in
-    let b = (get_or xs (k + 1) e).0.items in
+    let a = (get_or xs k e).0.now in
+    let b = (get_or xs (k + 1) e).0.now in
     let first = at k (omega arith) in
     let second = at (k + 1) below in
     let level = sorted k e (omega arith) below in
@@ -113,24 +118,30 @@ in_order-sorted (e ∷ es) sorted distinct =
 -- ---- the rows of a map
 
 -- one more row is one entry fewer that is left
-pub rows-more : (rows new left rest : List (Vec ℕ Global × ℕ)) (word copy : Vec ℕ Global) (n : ℕ) (counted : List (List ℕ × ℕ))
-    → entries_of rows ++ entries_of left ≡ counted → left ≡ (word, n) ∷ rest → new ≡ rows ++ (copy, n) ∷ [] → copy.items ≡ word.items
-    → entries_of new ++ entries_of rest ≡ counted
-rows-more rows new left rest word copy n counted all step pushed copied =
+pub rows-more : (rows new : List Shown) (left rest : List (Vec ℕ Global × ℕ)) (word : Vec ℕ Global)
+    (shown : Bor (List ℕ)) (n : ℕ) (counted : List (List ℕ × ℕ))
+    → shown_entries rows ++ entries_of left ≡ counted → left ≡ (word, n) ∷ rest
+    → new ≡ rows ++ (shown, n) ∷ [] → shown.now ≡ word.items
+    → shown_entries new ++ entries_of rest ≡ counted
+rows-more rows new left rest word shown n counted all step pushed same =
     let spelled : List ℕ × ℕ = (word.items, n) in
-    let added : entries_of new ≡ entries_of rows ++ spelled ∷ []
-    = ap entries_of pushed ∙ map-append entry_of rows ((copy, n) ∷ []) ∙ ap (λ (w : List ℕ). entries_of rows ++ (w, n) ∷ []) copied in
-    ap (λ xs. xs ++ entries_of rest) added ∙ append_assoc (entries_of rows) (spelled ∷ []) (entries_of rest)
-    ∙ sym (ap (λ xs. entries_of rows ++ entries_of xs) step) ∙ all
+    let added : shown_entries new ≡ shown_entries rows ++ spelled ∷ []
+    = ap shown_entries pushed ∙ map-append shown_entry rows ((shown, n) ∷ [])
+    ∙ ap (λ (w : List ℕ). shown_entries rows ++ (w, n) ∷ []) same in
+    ap (λ xs. xs ++ entries_of rest) added ∙ append_assoc (shown_entries rows) (spelled ∷ []) (entries_of rest)
+    ∙ sym (ap (λ xs. shown_entries rows ++ entries_of xs) step) ∙ all
 
 -- the rows have the entries of a map, and are sorted
-pub lists-sorted : (entries rows sorted : List (Vec ℕ Global × ℕ)) → entries_of rows ≡ entries_of entries → IsDistinct same_bytes (keys_of entries)
-    → All (λ n. 0 < n) (values_of entries) → IsPermutation rows sorted → IsSorted entry_cmp sorted → ListsWords (entries_of entries) (entries_of sorted)
+pub lists-sorted : (entries : List (Vec ℕ Global × ℕ)) (rows sorted : List Shown)
+    → shown_entries rows ≡ entries_of entries → IsDistinct same_bytes (keys_of entries)
+    → All (λ n. 0 < n) (values_of entries) → IsPermutation rows sorted → IsSorted entry_cmp sorted
+    → ListsWords (entries_of entries) (shown_entries sorted)
 unfolding total_of
 lists-sorted entries rows sorted same distinct positive moved in_order =
     let counted = entries_of entries in
-    let listed = entries_of sorted in
-    let permuted : IsPermutation counted listed = subst (λ xs. IsPermutation xs listed) same (IsPermutation-map entry_of rows sorted moved) in
+    let listed = shown_entries sorted in
+    let permuted : IsPermutation counted listed =
+    subst (λ xs. IsPermutation xs listed) same (IsPermutation-map shown_entry rows sorted moved) in
     let apart : IsDistinct bytes_eq (keys_of counted) = distinct-entries_of entries distinct in
     let above : All (λ n. 0 < n) (values_of counted) = subst (All (λ n. 0 < n)) (sym (values-entries_of entries)) positive in
     record {

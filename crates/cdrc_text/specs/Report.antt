@@ -26,7 +26,7 @@ audit_line name audit =
 
 -- the line of a row
 abbrev pub row_line : Row → List ℕ
-row_line row = word_line row.occurrences row.holders row.word.items
+row_line row = word_line row.occurrences row.holders row.word.now
 
 -- the three lines after the words
 abbrev pub closing_lines : ℕ → Totals → List ℕ

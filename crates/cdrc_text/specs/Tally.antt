@@ -1,5 +1,6 @@
 -- Words with their counts, in any order.
 use Rattle.std.specs.Prelude.{◌≡◌, ℕ, ◌+◌, ◌<◌, if◌then◌else◌, List, map}
+use Rattle.std.specs.Borrow.{Bor}
 use Rattle.std.specs.Global.{Vec}
 use Rattle.std.specs.List.{All, sum}
 use Rattle.std.specs.Map.{keys_of, lookup, values_of}
@@ -13,6 +14,13 @@ entry_of entry = (entry.0.items, entry.1)
 
 abbrev pub entries_of : List (Vec ℕ × ℕ) → List (List ℕ × ℕ)
 entries_of entries = map entry_of entries
+
+-- the same of words that are borrowed
+abbrev pub shown_entry : Bor (List ℕ) × ℕ → List ℕ × ℕ
+shown_entry entry = (entry.0.now, entry.1)
+
+abbrev pub shown_entries : List (Bor (List ℕ) × ℕ) → List (List ℕ × ℕ)
+shown_entries entries = map shown_entry entries
 
 -- how often w was counted
 unfoldable pub count_of : List (List ℕ × ℕ) → List ℕ → ℕ

@@ -44,7 +44,7 @@ IsText contents rounds bytes = IsReport (map pieces_of contents) rounds bytes
 
 -- the word of a row
 abbrev pub word_of : Row → List ℕ
-word_of row = row.word.items
+word_of row = row.word.now
 
 -- the row has the numbers of its word
 abbrev pub IsRowOf : List File → ℕ → Row → Type 0

@@ -11,7 +11,7 @@ use std::alloc::Global;
 
 /// The report: a line `OCCURRENCES HOLDERS WORD` for each row in the order given, then a line with the numbers of
 /// files, pieces and rows, and the two audit lines. Linear in the bytes it writes.
-pub fn report(alloc: Global, rows: &[Row], totals: &Totals) -> Result<Vec<u8>, OutOfMemory>
+pub fn report(alloc: Global, rows: &[Row<'_>], totals: &Totals) -> Result<Vec<u8>, OutOfMemory>
     ensures { IfOk result (λ text. text.items ≡ report_of rows.now totals.now) }
 {
     let mut text = Vec::with_capacity(alloc, room_for(rows))?;
@@ -29,7 +29,7 @@ const LINE_ROOM: usize = 43;
 const CLOSING_ROOM: usize = 512;
 
 // Room for the whole report, so that it is written without growing.
-fn room_for(rows: &[Row]) -> usize {
+fn room_for(rows: &[Row<'_>]) -> usize {
     let mut room = CLOSING_ROOM;
     for line in rows {
         room = room
@@ -40,13 +40,13 @@ fn room_for(rows: &[Row]) -> usize {
 }
 
 // Puts the line of a row at the end.
-fn push_row(text: &mut Vec<u8>, row: &Row) -> Result<(), OutOfMemory>
+fn push_row(text: &mut Vec<u8>, row: &Row<'_>) -> Result<(), OutOfMemory>
     ensures { OnOk result (text.new.items ≡ text.old.items ++ row_line row.now) }
 {
     push_number(text, b"", row.occurrences)?;
     push_number(text, b" ", row.holders)?;
     text.push(b' ')?;
-    text.extend_from_slice(row.word.as_slice())?;
+    text.extend_from_slice(row.word)?;
     text.push(b'\n')?;
     Ok(())
 }

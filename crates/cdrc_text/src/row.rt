@@ -2,10 +2,10 @@
 
 /// One line of words: how often the word occurs, how many files have it, and its bytes.
 #[derive(Drop)]
-pub struct Row {
+pub struct Row<'a> {
     pub occurrences: u64,
     pub holders: u64,
-    pub word: Vec<u8>,
+    pub word: &'a [u8],
 }
 
 /// The numbers of an audit of a heap: live records, deferred decrements, records in cycles, and bytes.

@@ -3,7 +3,7 @@
 ghost use Rattle.std.specs.Prelude.{◌≡◌, ◌^◌, ◌<◌, ℕ, List, IfOk, OnOk, OnErr};
 ghost use Rattle.std.specs.List.{All};
 ghost use Rattle.std.specs.Map.{values_of};
-ghost use Rattle.cdrc_text.specs.Tally.{count_of, entries_of, total_of, CountsOneMore, ListsWords};
+ghost use Rattle.cdrc_text.specs.Tally.{count_of, entries_of, shown_entries, total_of, CountsOneMore, ListsWords};
 
 use out_of_memory::OutOfMemory;
 use std::alloc::Global;
@@ -15,6 +15,7 @@ use std::marker::Model;
 pub struct Tally {
     alloc: Global,
     counts: HashMap<Vec<u8>, u64>,
+    total: u64,
 }
 
 impl Model for Tally {
@@ -22,7 +23,8 @@ impl Model for Tally {
 
     ghost view = { λ t. entries_of t.counts.entries };
 
-    ghost invariant = { λ t. All (λ count. 0 < count) (values_of t.counts.entries) };
+    ghost invariant = { λ t. All (λ count. 0 < count) (values_of t.counts.entries)
+        × (t.total ≡ total_of (entries_of t.counts.entries)) };
 }
 
 impl Tally {
@@ -34,6 +36,7 @@ impl Tally {
         Tally {
             alloc,
             counts: HashMap::new(alloc),
+            total: 0,
         }
     }
 
@@ -47,10 +50,12 @@ impl Tally {
     {
         if let Some(count) = self.counts.get_mut(piece) {
             *count += 1;
+            self.total += 1;
             return Ok(());
         }
         let word = Vec::from_slice(self.alloc, piece)?;
         self.counts.insert(word, 1)?;
+        self.total += 1;
         Ok(())
     }
 
@@ -61,17 +66,25 @@ impl Tally {
         self.counts.get(piece).copied().unwrap_or(0)
     }
 
-    /// The words that were counted, each with its count, in byte order. It takes the steps of a sort.
-    pub fn sorted(&self, alloc: Global) -> Result<Vec<(Vec<u8>, u64)>, OutOfMemory>
-        ensures { IfOk result (λ rows. ListsWords self.now (entries_of rows.items)) }
+    /// How many pieces were counted.
+    pub fn total(&self) -> u64
+        ensures { result ≡ total_of self.now }
+    {
+        self.total
+    }
+
+    /// The words that were counted, which stay where they are, each with its count, in byte order. It takes the steps
+    /// of a sort.
+    pub fn sorted(&self, alloc: Global) -> Result<Vec<(&[u8], u64)>, OutOfMemory>
+        ensures { IfOk result (λ rows. ListsWords self.now (shown_entries rows.items)) }
     {
         let mut rows = Vec::with_capacity(alloc, self.counts.len())?;
         for (word, count) in self.counts.iter() {
-            rows.push((Vec::from_slice(alloc, word.as_slice())?, *count))?;
+            rows.push((word.as_slice(), *count))?;
         }
         // The words lie apart, so a comparison of two misses the cache. Their first bytes are sorted beside each other,
         // and the second sort finds runs that are in order.
-        rows.sort_by_cached_key(|row: &(Vec<u8>, u64)| first_bytes(row.0.as_slice()))?;
+        rows.sort_by_cached_key(|row: &(&[u8], u64)| first_bytes(row.0))?;
         rows.sort()?;
         Ok(rows)
     }

@@ -164,7 +164,7 @@ fn reports_without_rows_and_with_every_number(rt: HostRuntime) -> Result<(), Fai
     let rows = [Row {
         occurrences: u64::MAX,
         holders: 10,
-        word: Vec::from_slice(alloc, b"\xFF\xFE")?,
+        word: b"\xFF\xFE",
     }];
     let totals = Totals {
         files: 4096,

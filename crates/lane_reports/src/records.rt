@@ -34,8 +34,8 @@ use words_protocol::WordsLaw;
 
 /// A word, how often it was counted, and the slot of its record.
 #[derive(Drop)]
-pub(crate) struct WordRecord {
-    pub word: Vec<u8>,
+pub(crate) struct WordRecord<'a> {
+    pub word: &'a [u8],
     pub occurrences: u64,
     pub slot: SlotId,
 }
@@ -44,15 +44,15 @@ pub(crate) struct WordRecord {
 /// owns the references that are kept; each record is that of one of them. `Spent` comes only where the seat has no add
 /// left, and `OutOfMemory` of an allocation failure. It takes a walk of the directory for each word, and tries one
 /// again that comes to no such record, so the call may not return.
-pub(crate) fn find_records<R: Threads + Wait + Sync>(
+pub(crate) fn find_records<'a, R: Threads + Wait + Sync>(
     rt: &R,
     alloc: Global,
     domain: &Domain<WordsLaw>,
     root: &mut Seat<WordsLaw>,
     shared: &Shared,
     kept: &[Strong],
-    tallies: &[Tally],
-) -> Result<Vec<WordRecord>, RowsError>
+    tallies: &'a [Tally],
+) -> Result<Vec<WordRecord<'a>>, RowsError>
     requires ready { IsRoot domain.now shared.now root.old }
     requires kept { (s : SlotId) → times s (slots_of kept.now)
         ≤ times s root.old.view.core.owned }
@@ -69,7 +69,7 @@ pub(crate) fn find_records<R: Threads + Wait + Sync>(
     let words = counted_words(rt, alloc, tallies)?;
     let mut records = Vec::with_capacity(alloc, words.len())?;
     for (word, occurrences) in words {
-        let slot = find_record(rt, domain, root, shared, held.as_slice(), word.as_slice())?;
+        let slot = find_record(rt, domain, root, shared, held.as_slice(), word)?;
         records.push_reserved(WordRecord {
             word,
             occurrences,

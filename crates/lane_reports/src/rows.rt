@@ -24,13 +24,13 @@ use words_protocol::WordsLaw;
 
 /// A row for each record: how often its word was counted, how many references it has, and the word. The seat is
 /// alone and owns a reference to each. One step for each record. `OutOfMemory` comes of an allocation failure.
-pub(crate) fn count_rows(
+pub(crate) fn count_rows<'a>(
     alloc: Global,
     domain: &Domain<WordsLaw>,
     root: &mut Seat<WordsLaw>,
     shared: &Shared,
-    records: Vec<WordRecord>,
-) -> Result<Vec<Row>, OutOfMemory>
+    records: Vec<WordRecord<'a>>,
+) -> Result<Vec<Row<'a>>, OutOfMemory>
     requires ready { IsRoot domain.now shared.now root.old }
     requires owned { All (IsOwnedBy root.old) records.items }
     ensures rows { IfOk result (λ rows. (p : Plain) → (own_of root.old.view).whole ≡ Some p
@@ -48,12 +48,12 @@ pub(crate) fn count_rows(
 }
 
 /// The row of a record.
-fn count_row(
+fn count_row<'a>(
     domain: &Domain<WordsLaw>,
     root: &mut Seat<WordsLaw>,
     shared: &Shared,
-    of: WordRecord,
-) -> Row
+    of: WordRecord<'a>,
+) -> Row<'a>
     requires ready { IsRoot domain.now shared.now root.old }
     requires owned { IsOwnedBy root.old of }
     ensures row { (p : Plain) → (own_of root.old.view).whole ≡ Some p

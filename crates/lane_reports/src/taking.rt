@@ -19,26 +19,15 @@ use std::alloc::Global;
 use std::sync::Wait;
 use words_protocol::WordsLaw;
 
-/// How many pieces the tally counted, as long as that is below 2^64: never more than it counted.
-fn counted_by(alloc: Global, tally: &Tally) -> Result<u64, OutOfMemory>
-    ensures { IfOk result (λ sum. sum ≤ total_of tally.now) }
-{
-    let mut sum: u64 = 0;
-    for entry in tally.sorted(alloc)? {
-        sum = sum.saturating_add(entry.1);
-    }
-    Ok(sum)
-}
-
 /// How many pieces the tallies counted together, as long as that is below 2^64: never more than they counted.
-fn all_counted(alloc: Global, tallies: &[Tally]) -> Result<u64, OutOfMemory>
-    ensures { IfOk result (λ sum. sum ≤ sum_by total_of tallies.now) }
+fn all_counted(tallies: &[Tally]) -> u64
+    ensures { result ≤ sum_by total_of tallies.now }
 {
     let mut sum: u64 = 0;
     for tally in tallies {
-        sum = sum.saturating_add(counted_by(alloc, tally)?);
+        sum = sum.saturating_add(tally.total());
     }
-    Ok(sum)
+    sum
 }
 
 /// Seat 0 pops so many items, and counts their words.
@@ -94,7 +83,7 @@ pub(crate) fn take_rest<R: Wait>(
     ensures ready { IsReady domain.now shared.now root.new }
 {
     let all = work.rounds * count_pieces(work);
-    let most = all.saturating_sub(all_counted(alloc, &tallies)?);
+    let most = all.saturating_sub(all_counted(&tallies));
     let tally = count_rest(rt, alloc, domain, root, shared, most)?;
     let tallies = put_first(tally, tallies)?;
     Ok(tallies)

@@ -1,11 +1,12 @@
 -- The words that some tallies counted, and how often.
 use Rattle.std.specs.Prelude.{◌≡◌, ◌+◌, ◌<◌, ◌↔◌, ℕ, List, [], ◌∷◌, length, slice_index_or, if◌then◌else◌, Result, IfOk}
+use Rattle.std.specs.Borrow.{Bor}
 use Rattle.std.specs.Global.{Vec}
 use Rattle.std.specs.List.{All, Contains, sum_by}
 use Rattle.std.specs.Map.{keys_of, values_of}
 use Rattle.std.specs.Str.{bytes_eq}
 use Rattle.cdrc_text.specs.Fold.{IsInByteOrder}
-use Rattle.cdrc_text.specs.Tally.{ListsWords, count_of, entries_of}
+use Rattle.cdrc_text.specs.Tally.{ListsWords, count_of, shown_entries}
 
 -- words with their counts, of each tally
 abbrev pub Tallies : Type 0
@@ -40,11 +41,11 @@ pub record ListsEach (tallies : Tallies) (entries : List (List ℕ × ℕ)) : Ty
 
 -- of each tally the words with their counts, where there was memory for them
 pub record AreListed {E : Type 0} (tallies : Tallies)
-    (lists : List (Result (Vec (Vec ℕ × ℕ)) E)) : Type 0 where
+    (lists : List (Result (Vec (Bor (List ℕ) × ℕ)) E)) : Type 0 where
   pub many : length lists ≡ length tallies
-  pub each : (i : ℕ) (d : Result (Vec (Vec ℕ × ℕ)) E) → i < length tallies
+  pub each : (i : ℕ) (d : Result (Vec (Bor (List ℕ) × ℕ)) E) → i < length tallies
       → IfOk (slice_index_or lists i d)
-      (λ rows. ListsWords (slice_index_or tallies i []) (entries_of rows.items))
+      (λ rows. ListsWords (slice_index_or tallies i []) (shown_entries rows.items))
 
 -- an entry and those behind it, where an entry joins the one before it that has the same word
 abbrev pub added_to : List ℕ × ℕ → List (List ℕ × ℕ) → List (List ℕ × ℕ)

@@ -1,19 +1,19 @@
 //! The sums of equal words that stand side by side.
 ghost use Rattle.std.specs.Prelude.{◌≡◌, ◌<◌, ◌^◌, ℕ, List, IfOk};
-ghost use Rattle.cdrc_text.specs.Tally.{entries_of};
+ghost use Rattle.cdrc_text.specs.Tally.{shown_entries};
 ghost use Rattle.tally_sums.specs.Sums.{added_up, sum_for};
 
 use out_of_memory::OutOfMemory;
 use std::alloc::Global;
 
 /// Equal words that stand side by side become one, with the sum of their counts.
-pub(crate) fn add_up(
+pub(crate) fn add_up<'a>(
     alloc: Global,
-    entries: Vec<(Vec<u8>, u64)>,
-) -> Result<Vec<(Vec<u8>, u64)>, OutOfMemory>
-    requires few { (w : List ℕ) → sum_for w (entries_of entries.items) < 2 ^ 63 }
-    ensures { IfOk result (λ words. entries_of words.items
-        ≡ added_up (entries_of entries.items)) }
+    entries: Vec<(&'a [u8], u64)>,
+) -> Result<Vec<(&'a [u8], u64)>, OutOfMemory>
+    requires few { (w : List ℕ) → sum_for w (shown_entries entries.items) < 2 ^ 63 }
+    ensures { IfOk result (λ words. shown_entries words.items
+        ≡ added_up (shown_entries entries.entry.items)) }
 {
     let mut words = Vec::with_capacity(alloc, entries.len())?;
     let mut left = entries.into_iter();

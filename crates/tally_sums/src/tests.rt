@@ -13,8 +13,8 @@ fn two_tallies_of_b_a_a_and_a(rt: HostRuntime) -> Result<(), Fail> {
     let tallies = vec![in rt.alloc(); first, second]?;
     let words = counted_words(&rt, rt.alloc(), tallies.as_slice())?;
     assert_eq!(rt; words.len(), 2);
-    assert_eq!(rt; words[0].0.as_slice(), b"a".as_slice());
-    assert_eq!(rt; words[1].0.as_slice(), b"b".as_slice());
+    assert_eq!(rt; words[0].0, b"a".as_slice());
+    assert_eq!(rt; words[1].0, b"b".as_slice());
     assert_eq!(rt; (words[0].1, words[1].1), (3, 1));
     Ok(())
 }

@@ -1,11 +1,13 @@
-use Rattle.std.proofs.Common.{sym, ◌∙◌, arith}
+use Rattle.std.proofs.Common.{◌∷◌, ap, sym, ◌∙◌, arith}
 use Rattle.tally_sums.proofs.Steps.{first_joined, last_stands, next_joins, next_stands, sum_fits}
 use Rattle.tally_sums.proofs.adding.add_up.Goals as goal
 
 pub loop-word-init : goal.loop-word-init
 loop-word-init c =
     first_joined c.in_ok-words.words.items c.args.entries.items
-    c.into_iter-word-iterator.result.rest.items c.in-Some.last c.in_ok-words.ensures.items cc
+    c.into_iter-word-iterator.result.rest.items c.in-Some.last c.in_ok-words.ensures.items
+    (sym c.into_iter-left.ensures.rest ∙ c.in-Some.ensures.items
+    ∙ ap (λ left. c.in-Some.last ∷ left.rest.items) (sym c.into_iter-word-iterator.ensures.into_iter_gives))
 
 pub overflow_add-last : goal.overflow_add-last
 overflow_add-last c =

@@ -1,4 +1,4 @@
-use Rattle.std.proofs.Common.{◌≡◌, ◌<◌, arith}
+use Rattle.std.proofs.Common.{arith}
 use Rattle.tally_sums.proofs.SumsMade.{call_sums, sums_moved}
 use Rattle.tally_sums.proofs.listing.counted_words.Goals as goal
 

@@ -1,5 +1,5 @@
 use Rattle.std.proofs.Common.{◌∷◌, ◌++◌, [], append_assoc, ap, refl, subst, sym, ◌∙◌}
-use Rattle.cdrc_text.specs.Tally.{entries_of}
+use Rattle.cdrc_text.specs.Tally.{shown_entries}
 use Rattle.tally_sums.specs.Sums.{AreListed}
 use Rattle.tally_sums.proofs.SumsMade.{all_listed, lists_none, next_listed}
 use Rattle.tally_sums.proofs.listing.list_entries.Goals as goal
@@ -28,7 +28,7 @@ loop-list-preserved g c = record {
 pub returns : goal.returns
 returns g c =
     all_listed c.args.tallies.now c.into_iter-list-iterator.result.rest.items c.loop-list.yielded
-    c.loop-list.list-iterator.rest.items (entries_of c.loop-list.entries.items)
+    c.loop-list.list-iterator.rest.items (shown_entries c.loop-list.entries.items)
     c.loop-list.invariant.lists c.loop-list.invariant.all
     (sym c.loop-list.list-iterator.rest.ok.0 ∙ c.in-None.ensures.steps.0)
     c.loop-list.invariant.so_far

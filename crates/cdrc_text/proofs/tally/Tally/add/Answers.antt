@@ -6,7 +6,7 @@ use Rattle.std.specs.List.{All}
 use Rattle.std.specs.List.Sorted.{IsPermutation}
 use Rattle.std.specs.Map.{lookup, set_value, values_of, KeepsOthers}
 use Rattle.std.specs.Option.{unwrap_or, IsSome, MatchOption}
-use Rattle.cdrc_text.proofs.Counts.{count-le-total, count_of-is, is_word, one_more-new, one_more-old, same_bytes}
+use Rattle.cdrc_text.proofs.Counts.{count-le-total, count_of-is, is_word, one_more-new, one_more-old, same_bytes, total-new, total-old}
 use Rattle.cdrc_text.specs.Tally.{total_of, CountsOneMore, entries_of}
 use Rattle.cdrc_text.proofs.tally.Tally.add.Goals as goal
 
@@ -68,10 +68,18 @@ returns-clause-ok c =
 
 pub invariant_of-self : goal.invariant_of-self
 invariant_of-self c =
+    let piece = c.args.piece.now in
+    let old = c.self.inside.counts.entries in
     let n = c.in-Some.count.now in
+    let new = c.get_mut.follows.lender (n + 1) in
     let h = c.get_mut.follows.holds (n + 1) in
+    let found : lookup (is_word piece) old ≡ Some n = sym c.in-Some.ensures.value in
+    let positive : All IsPositive (values_of new.entries) =
     subst (λ es. All IsPositive (values_of es)) (sym h.0)
-    (All-values-set_value (is_word c.args.piece.now) IsPositive c.self.inside.counts.entries (n + 1) c.self.invariant (omega arith))
+    (All-values-set_value (is_word piece) IsPositive old (n + 1) c.self.invariant.0 (omega arith)) in
+    let more = total-old piece n old new.entries found h.0 in
+    let before = c.self.invariant.1 in
+    (positive, omega (arith, more, before))
 
 pub invariant_of-self-2 : goal.invariant_of-self-2
 invariant_of-self-2 c =
@@ -82,6 +90,11 @@ invariant_of-self-2 c =
     let absent : lookup (is_word c.args.piece.now) found ≡ None = ap (lookup (is_word c.args.piece.now)) same ∙ sym c.in_default.ensures.value in
     let none : c.in_ok-insert.field-0 ≡ None = c.in_ok-insert.ensures.old ∙ ap (λ w. lookup (is_word w) found) c.in_ok-word.ensures.items ∙ absent in
     let entries = subst (λ old. MatchOption old (IsPermutation ((word, 1) ∷ found) new) (λ _. new ≡ set_value (is_word word.items) found 1)) none c.in_ok-insert.ensures.entries in
-    let before = subst (λ es. All IsPositive (values_of es)) (sym same) c.self.invariant in
+    let before = subst (λ es. All IsPositive (values_of es)) (sym same) c.self.invariant.0 in
+    let positive : All IsPositive (values_of new) =
     All-map-IsPermutation (λ (e : Vec ℕ Global × ℕ). e.1) IsPositive ((word, 1) ∷ found) new entries
-    (All-cons IsPositive 1 (values_of found) (omega arith) before)
+    (All-cons IsPositive 1 (values_of found) (omega arith) before) in
+    let more = total-new word found new entries in
+    let same_total = ap (λ es. total_of (entries_of es)) same in
+    let total = c.self.invariant.1 in
+    (positive, omega (arith, more, same_total, total))
