@@ -1,10 +1,11 @@
 -- The records that were found so far, and the words that are left.
-use Rattle.std.proofs.Common.{◌≡◌, ℕ, ◌<◌, ◌≤◌, Bool, List, [], ◌∷◌, ◌++◌, Vec, Global, ap, sym, ◌∙◌, subst, append_assoc, arith}
+use Rattle.std.proofs.Common.{◌≡◌, ℕ, ◌<◌, ◌≤◌, Bool, List, [], ◌∷◌, ◌++◌, ap, sym, ◌∙◌, subst, append_assoc, arith}
+use Rattle.std.specs.Borrow.{Bor}
 use Rattle.std.specs.List.{All, Contains}
 use Rattle.std.specs.Map.{keys_of}
 use Rattle.std.proofs.lemmas.List.{map-append}
 use Rattle.std.proofs.lemmas.List.Elements.{All-push, Contains-append_right}
-use Rattle.cdrc_text.specs.Tally.{entries_of}
+use Rattle.cdrc_text.specs.Tally.{shown_entries}
 use Rattle.cdrc_text.proofs.Unique.{Contains-first}
 use Rattle.plain_state.specs.declared.slot.SlotId.{SlotId}
 use Rattle.plain_state.specs.Lists.{times}
@@ -33,30 +34,30 @@ owns_each kept is_held a b slots own left s is =
     let some = (slots s).0 is in let most = own s in let same = left.owns s in
     omega (arith, some, most, same)
 
-module _ (tallies : Tallies) (records : List WordRecord) (w : Vec ℕ Global) (n : ℕ)
-    (left rest : List (Vec ℕ Global × ℕ)) (is : left ≡ (w, n) ∷ rest)
-    (words : SumsUp tallies (sums_in records ++ entries_of left)) where
+module _ (tallies : Tallies) (records : List WordRecord) (w : Bor (List ℕ)) (n : ℕ)
+    (left rest : List (Bor (List ℕ) × ℕ)) (is : left ≡ (w, n) ∷ rest)
+    (words : SumsUp tallies (sums_in records ++ shown_entries left)) where
   -- the next word was counted
-  pub next_counted : 0 < counted_in tallies w.items
+  pub next_counted : 0 < counted_in tallies w.now
   next_counted =
-      (words.words.counted w.items).0
-      (subst (λ (ks : List (List ℕ)). Contains ks w.items)
-      (sym (map-append (λ (e : List ℕ × ℕ). e.0) (sums_in records) (entries_of left)))
-      (Contains-append_right (keys_of (sums_in records)) (keys_of (entries_of left)) w.items
-      (subst (λ (es : List (Vec ℕ Global × ℕ)). Contains (keys_of (entries_of es)) w.items) (sym is)
-      (Contains-first w.items (keys_of (entries_of rest))))))
+      (words.words.counted w.now).0
+      (subst (λ (ks : List (List ℕ)). Contains ks w.now)
+      (sym (map-append (λ (e : List ℕ × ℕ). e.0) (sums_in records) (shown_entries left)))
+      (Contains-append_right (keys_of (sums_in records)) (keys_of (shown_entries left)) w.now
+      (subst (λ (es : List (Bor (List ℕ) × ℕ)). Contains (keys_of (shown_entries es)) w.now) (sym is)
+      (Contains-first w.now (keys_of (shown_entries rest))))))
 
   pub words_more : (more : List WordRecord) (s : SlotId)
       → more ≡ records ++ record { word = w; occurrences = n; slot = s } ∷ []
-      → SumsUp tallies (sums_in more ++ entries_of rest)
+      → SumsUp tallies (sums_in more ++ shown_entries rest)
   words_more more s pushed =
       let one : WordRecord = record { word = w; occurrences = n; slot = s } in
       subst (SumsUp tallies)
-      (sym (ap (λ (rs : List WordRecord). sums_in rs ++ entries_of rest) pushed
-      ∙ ap (λ (es : List (List ℕ × ℕ)). es ++ entries_of rest)
-      (map-append (λ (r : WordRecord). (r.word.items, r.occurrences)) records (one ∷ []))
-      ∙ append_assoc (sums_in records) ((w.items, n) ∷ []) (entries_of rest)
-      ∙ ap (λ (es : List (Vec ℕ Global × ℕ)). sums_in records ++ entries_of es) (sym is)))
+      (sym (ap (λ (rs : List WordRecord). sums_in rs ++ shown_entries rest) pushed
+      ∙ ap (λ (es : List (List ℕ × ℕ)). es ++ shown_entries rest)
+      (map-append (λ (r : WordRecord). (r.word.now, r.occurrences)) records (one ∷ []))
+      ∙ append_assoc (sums_in records) ((w.now, n) ∷ []) (shown_entries rest)
+      ∙ ap (λ (es : List (Bor (List ℕ) × ℕ)). sums_in records ++ shown_entries es) (sym is)))
       words
 
 module _ (kept : List SlotId) (a b : SeatState View)
@@ -72,7 +73,7 @@ module _ (kept : List SlotId) (a b : SeatState View)
       (left.knows r.slot (omega (arith, some)) (omega (arith, some, same))) in
       let more = (learns_more a.view.client.1 b.view.client.1 learns.part).knows in record {
         held = is.held;
-        tells = subst (λ n. TellsWord b.view.client.1 r.word.items r.slot n) (sym life) (
+        tells = subst (λ n. TellsWord b.view.client.1 r.word.now r.slot n) (sym life) (
           is.tells.0,
           is.tells.1,
           knows_more a.view.client.1 b.view.client.1 more

@@ -101,12 +101,12 @@ words_same p [] [] are = refl
 words_same p [] (row ∷ rows) are = absurd are
 words_same p (r ∷ records) [] are = absurd are
 words_same p (r ∷ records) (row ∷ rows) are =
-    (λ i. (are.0.word i).items ∷ words_same p records rows are.1 i)
+    (λ i. (are.0.word i).now ∷ words_same p records rows are.1 i)
 
 -- the keys of the sums are the words
 keys_in : (records : List WordRecord) → keys_of (sums_in records) ≡ words_in records
 keys_in [] = refl
-keys_in (r ∷ rs) = ap (λ (ws : List (List ℕ)). r.word.items ∷ ws) (keys_in rs)
+keys_in (r ∷ rs) = ap (λ (ws : List (List ℕ)). r.word.now ∷ ws) (keys_in rs)
 
 module _ (d : DomainState WordsLaw) (weight : List ℕ → ℕ) (ranks : List ℕ) (work : Work)
     (is : IsWork work) (small : All (λ (words : File). All AreBytes words) (texts_in work))
@@ -196,16 +196,16 @@ module _ (d : DomainState WordsLaw) (weight : List ℕ → ℕ) (ranks : List �
           is_kept = first.held;
           tells = subst (λ (l : List ℕ). TellsWord v l r.slot (lives_in r2 r.slot))
               (ap (λ x. x.items) (sym row.word))
-              (subst (λ (y : DirectoryView × ℕ). TellsWord y.0 r.word.items r.slot y.1)
+              (subst (λ (y : DirectoryView × ℕ). TellsWord y.0 r.word.now r.slot y.1)
               (λ i. (sym own i, sym (lives_later r.slot first.held) i)) first.tells);
-          occurrences = row.occurrences ∙ All-head (IsSum tallies) (r.word.items, r.occurrences) (sums_in rs) summed
-              ∙ counts r.word.items
+          occurrences = row.occurrences ∙ All-head (IsSum tallies) (r.word.now, r.occurrences) (sums_in rs) summed
+              ∙ counts r.word.now
               ∙ ap (λ x. occurrences_in x.items work.rounds
               (texts_in work)) (sym row.word);
           holders = row.holders;
         },
         rows_at rs xs (All-tail (IsRecordOf kept r1) r rs each) these.1
-            (All-tail (IsSum tallies) (r.word.items, r.occurrences) (sums_in rs) summed),
+            (All-tail (IsSum tallies) (r.word.now, r.occurrences) (sums_in rs) summed),
       )
 
   are_counted : AreCounted tallies (words_in records)

@@ -17,14 +17,14 @@ use Rattle.tally_sums.specs.Sums.{Tallies, counted_in}
 
 -- the words of some rows, and of some records
 abbrev pub words_of : List Row → List (List ℕ)
-words_of rows = map (λ (r : Row). r.word.items) rows
+words_of rows = map (λ (r : Row). r.word.now) rows
 
 abbrev pub words_in : List WordRecord → List (List ℕ)
-words_in records = map (λ (r : WordRecord). r.word.items) records
+words_in records = map (λ (r : WordRecord). r.word.now) records
 
 -- the words of some records, with their numbers
 abbrev pub sums_in : List WordRecord → List (List ℕ × ℕ)
-sums_in records = map (λ (r : WordRecord). (r.word.items, r.occurrences)) records
+sums_in records = map (λ (r : WordRecord). (r.word.now, r.occurrences)) records
 
 -- each word that was counted has 1 to 4,096 bytes, and was counted fewer than 2^63 times
 abbrev pub AreWords : Tallies → Type 0
@@ -35,7 +35,7 @@ AreWords tallies =
 -- the record is in one of these slots, and the seat's view tells its word in the life in which it has that slot
 pub record IsRecordOf (kept : List SlotId) (seat : SeatState View) (r : WordRecord) : Type 0 where
   pub held : 0 < times r.slot kept
-  pub tells : TellsWord seat.view.client.1 r.word.items r.slot (lives_in seat r.slot)
+  pub tells : TellsWord seat.view.client.1 r.word.now r.slot (lives_in seat r.slot)
 
 abbrev pub IsOwnedBy : SeatState View → WordRecord → Type 0
 IsOwnedBy seat r = 0 < times r.slot seat.view.core.owned

@@ -34,7 +34,7 @@ pub(crate) fn count_rows<'a>(
     requires ready { IsRoot domain.now shared.now root.old }
     requires owned { All (IsOwnedBy root.old) records.items }
     ensures rows { IfOk result (λ rows. (p : Plain) → (own_of root.old.view).whole ≡ Some p
-        → AreRowsOf p records.items rows.items) }
+        → AreRowsOf p records.entry.items rows.items) }
     ensures whole { (own_of root.new.view).whole ≡ (own_of root.old.view).whole }
     ensures leaves { Leaves root.old.view.core.owned root.old.view.core.weaks root.old root.new }
     ensures client { root.new.view.client ≡ root.old.view.client }
@@ -57,7 +57,7 @@ fn count_row<'a>(
     requires ready { IsRoot domain.now shared.now root.old }
     requires owned { IsOwnedBy root.old of }
     ensures row { (p : Plain) → (own_of root.old.view).whole ≡ Some p
-        → IsRowOf p of result }
+        → IsRowOf p of.entry result }
     ensures whole { (own_of root.new.view).whole ≡ (own_of root.old.view).whole }
     ensures leaves { Leaves root.old.view.core.owned root.old.view.core.weaks root.old root.new }
     ensures client { root.new.view.client ≡ root.old.view.client }

@@ -1,10 +1,9 @@
-use Rattle.std.proofs.Common.{◌≡◌, Bool, true, ◌≤◌, ◌∷◌, ◌++◌, [], List, Vec, Global, ℕ, length, length-append, append-nil, ap, sym, ◌∙◌, subst, arith}
-use Rattle.cdrc_text.specs.Tally.{entries_of}
+use Rattle.std.proofs.Common.{◌≡◌, Bool, true, ◌≤◌, ◌∷◌, ◌++◌, [], List, ℕ, length, length-append, append-nil, ap, sym, ◌∙◌, subst, arith}
+use Rattle.std.specs.Borrow.{Bor}
+use Rattle.cdrc_text.specs.Tally.{shown_entries}
 use Rattle.slot_store.proofs.Quieting.{no_items}
 use Rattle.lane_files.specs.Keeping.{slots_of}
 use Rattle.lane_reports.specs.Holders.{has}
-use Rattle.lane_reports.specs.Kept.{lives_in}
-use Rattle.words_rest.specs.Kept.{TellsWord}
 use Rattle.lane_reports.specs.Rows.{sums_in}
 use Rattle.tally_sums.specs.Sums.{SumsUp}
 use Rattle.lane_reports.proofs.Finding.{leaves_on, learns_on}
@@ -13,12 +12,10 @@ use Rattle.lane_reports.proofs.records.find_records.Goals as goal
 
 pub find_record-requires-clause-word : goal.find_record-requires-clause-word
 find_record-requires-clause-word g c =
-    let so = c.requires.words c.in-Some.word.items
+    let so = c.requires.words c.in-Some.word.now
     (next_counted c.args.tallies.now c.loop-word.records.items c.in-Some.word c.in-Some.occurrences
     c.loop-word.word-iterator.rest.items c.next.new.self.rest.items c.in-Some.ensures.steps.0
-    c.loop-word.invariant.words) in
-    subst (λ (w : List ℕ). (1 ≤ length w) × (length w ≤ 4096)) (sym c.as_slice-in-loop-word.ensures.value)
-    (so.0, so.1)
+    c.loop-word.invariant.words) in (so.0, so.1)
 
 pub returns-in_err-slot-clause-leaves : goal.returns-in_err-slot-clause-leaves
 returns-in_err-slot-clause-leaves g c =
@@ -53,9 +50,7 @@ loop-word-preserved g c = record {
         held = (c.in_ok-held.ensures c.in_ok-slot.slot).0
             (subst (λ (marks : List Bool). has marks c.in_ok-slot.slot ≡ true) c.as_slice.ensures.value
             c.in_ok-slot.ensures.held);
-        tells = subst (λ (w : List ℕ). TellsWord c.find_record.new.root.view.client.1 w
-            c.in_ok-slot.slot (lives_in c.find_record.new.root c.in_ok-slot.slot))
-            c.as_slice-in-loop-word.ensures.value c.in_ok-slot.ensures.tells;
+        tells = c.in_ok-slot.ensures.tells;
       });
   ready = c.find_record.ensures.ready;
   leaves = leaves_on c.args.root.now c.loop-word.root c.find_record.new.root
@@ -67,7 +62,7 @@ loop-word-preserved g c = record {
 pub returns-clause-words : goal.returns-clause-words
 returns-clause-words g c =
     subst (SumsUp c.args.tallies.now)
-    (ap (λ (es : List (Vec ℕ Global × ℕ)). sums_in c.loop-word.records.items ++ entries_of es)
+    (ap (λ (es : List (Bor (List ℕ) × ℕ)). sums_in c.loop-word.records.items ++ shown_entries es)
     (no_items c.loop-word.word-iterator.rest.items
     (sym c.loop-word.word-iterator.rest.ok.0 ∙ c.in-None.ensures.steps.0))
     ∙ append-nil (sums_in c.loop-word.records.items))

@@ -1,7 +1,7 @@
 use Rattle.std.proofs.Common.{◌≤◌, ◌+◌, ◌++◌, length}
 use Rattle.std.specs.Prelude.{vec_capacity}
 use Rattle.std.specs.List.{All}
-use Rattle.cdrc_text.specs.Tally.{entries_of}
+use Rattle.cdrc_text.specs.Tally.{shown_entries}
 use Rattle.directory_calls.specs.Learning.{LearnsIn}
 use Rattle.directory_calls.specs.Steps.{Leaves}
 use Rattle.lane_files.specs.Keeping.{slots_of}
@@ -12,7 +12,7 @@ use Rattle.lane_reports.proofs.records.find_records.Given as goal
 
 abbrev pub invariant-loop-word : goal.invariant-loop-word
 invariant-loop-word g l = record {
-  words : SumsUp l.tallies (sums_in l.records.items ++ entries_of l.word-iterator.rest.items);
+  words : SumsUp l.tallies (sums_in l.records.items ++ shown_entries l.word-iterator.rest.items);
   room : length l.records.items + length l.word-iterator.rest.items ≤ vec_capacity l.records;
   records : All (IsRecordOf (slots_of l.kept) l.root) l.records.items;
   ready : IsRoot l.domain l.shared l.root;

@@ -14,7 +14,7 @@ loop-tally-preserved c =
     (one_more c.args.tallies.now c.loop-tally.tally-index c.tally-item.result (omega arith)
     (sym c.tally-item.is)) in
     let so_far = c.loop-tally.invariant in
-    let one = c.in_ok-counted_by.ensures in
+    let one = c.total.ensures in
     let sum = c.saturating_add-sum.ensures in omega (arith, more, so_far, one, sum)
 
 pub returns : goal.returns
