@@ -2,15 +2,16 @@
 PREFIX ?= /usr/local
 PROGRAM := crates/cdrc_words/out/cdrc_words
 SOURCES := crates.txt $(shell find crates -name out -prune -o \( -name '*.rt' -o -name '*.antt' \) -print)
-TRY := cd crates/cdrc_words && echo 'nothing is proved here: make test proves everything' >&2 && rt try --
+UNPROVED := nothing is proved here: make test proves everything
+TRY := cd crates/cdrc_words && echo '$(UNPROVED)' >&2 && rt try --
 
 .PHONY: help run script steps examples picture docs test allocations limits install clean
 
 help: ## says what each target does
 	@sed -n 's/^\([a-z]*\):.*## /make \1\t/p' Makefile | expand -t 16
 
-run: ## compiles the program, and prints the report of two sample files on two lanes: no proof
-	@$(TRY) words --lanes 2 data/sample.txt data/second.txt < /dev/null
+run: ## compiles a small program, and prints the report of two sample files on two lanes: no proof
+	@cd crates/word_report && echo '$(UNPROVED)' >&2 && rt try -- data/sample.txt data/second.txt < /dev/null
 
 script: ## the same with the sample script
 	@$(TRY) script data/sample.script < /dev/null
@@ -19,7 +20,7 @@ steps: ## the same with the sample list of steps
 	@$(TRY) steps data/sample.steps < /dev/null
 
 examples: ## runs a setting, a stack and a cache, each by two threads: half a minute, no proof
-	@cd crates/example_threads && echo 'nothing is proved here: make test proves everything' >&2 && rt try < /dev/null
+	@cd crates/example_threads && echo '$(UNPROVED)' >&2 && rt try < /dev/null
 
 picture: ## draws docs/late_finish.svg anew out of docs/late_finish.steps
 	python3 tools/picture.py docs/late_finish.steps docs/late_finish.svg

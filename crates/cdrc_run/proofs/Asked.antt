@@ -5,9 +5,9 @@ use Rattle.plain_state.specs.Limits.{most_slots}
 use Rattle.command_line.specs.Parts.{Text}
 use Rattle.command_line.specs.Requests.{AreDraws, Asks, IsSame}
 use Rattle.command_line.specs.Values.{IsNumberOr, IsSlots}
-use Rattle.command_line.specs.declared.asked.Draws.{Draws}
-use Rattle.command_line.specs.declared.asked.Request.{Request}
-use Rattle.command_line.specs.declared.asked.Request.TheVariants as request
+use Rattle.run_requests.specs.declared.asked.Draws.{Draws}
+use Rattle.run_requests.specs.declared.asked.Request.{Request}
+use Rattle.run_requests.specs.declared.asked.Request.TheVariants as request
 use Rattle.cdrc_run.specs.declared.outcome.End.{End}
 use Rattle.cdrc_run.specs.Ends.{Ends, SinkRun, SourceRun}
 use Rattle.cdrc_run.specs.Jobs.{AreInRange, AsksJob, HasRanges, Job, bulk, draw, job_of, script, steps}

@@ -8,7 +8,7 @@ ghost use Rattle.words_work.specs.Outcomes.{Counts, bytes_of};
 use crate::closing::last_lines;
 use crate::outcome::{Output, Why};
 use cdrc_text::generate;
-use command_line::{Bulk, Draws};
+use run_requests::{Bulk, Draws};
 use deleter::Deleter;
 use directory_protocol::RecordKind;
 use lane_gate::Gate;

@@ -9,7 +9,7 @@ use crate::outcome::{Output, Why};
 use acquire_retire::Seat;
 use cdrc_scripts::{Scripted, Written, script};
 use cdrc_steps::steps;
-use command_line::{Request, WordsArgs};
+use run_requests::{Request, WordsArgs};
 use deleter::Deleter;
 use directory_protocol::RecordKind;
 use lane_gate::{Files, Gate};

@@ -4,11 +4,11 @@ use Rattle.std.specs.Prelude.{◌==◌, slice_get, unwrap_or}
 use Rattle.std.specs.declared.string.String.{String}
 use Rattle.std.specs.Str.{bytes_eq}
 use Rattle.std.proofs.lemmas.Slice.Eq.{bytes_eq-Decides}
-use Rattle.command_line.specs.declared.asked.Bulk.{Bulk}
-use Rattle.command_line.specs.declared.asked.Draws.{Draws}
-use Rattle.command_line.specs.declared.asked.Request.{Request}
-use Rattle.command_line.specs.declared.asked.Request.TheVariants as request
-use Rattle.command_line.specs.declared.asked.WordsArgs.{WordsArgs}
+use Rattle.run_requests.specs.declared.asked.Bulk.{Bulk}
+use Rattle.run_requests.specs.declared.asked.Draws.{Draws}
+use Rattle.run_requests.specs.declared.asked.Request.{Request}
+use Rattle.run_requests.specs.declared.asked.Request.TheVariants as request
+use Rattle.run_requests.specs.declared.asked.WordsArgs.{WordsArgs}
 use Rattle.command_line.specs.Parts.{Text}
 use Rattle.command_line.specs.Requests.{bulk_options, words_options, AreWords, Asks, IsBulk, IsFile, IsGen, Reads}
 

@@ -1,9 +1,9 @@
 -- What the words mean, by what was found, and that they mean nothing else.
 use Rattle.std.proofs.Common.{◌≡◌, ◌∙◌, ◌<◌, ◌≤◌, ◌-◌, ◌^◌, ℕ, Bool, true, inl, inr, refl, sym, ap, subst, arith, List, [], ◌∷◌, codes, get_or, length, map, string_bytes, Option, Bor}
 use Rattle.clap.specs.declared.parser.matches.ArgMatches.{ArgMatches}
-use Rattle.command_line.specs.declared.asked.Bulk.{Bulk}
-use Rattle.command_line.specs.declared.asked.Draws.{Draws}
-use Rattle.command_line.specs.declared.asked.WordsArgs.{WordsArgs}
+use Rattle.run_requests.specs.declared.asked.Bulk.{Bulk}
+use Rattle.run_requests.specs.declared.asked.Draws.{Draws}
+use Rattle.run_requests.specs.declared.asked.WordsArgs.{WordsArgs}
 use Rattle.command_line.specs.declared.settings.Settings.{Settings}
 use Rattle.command_line.specs.Parts.{Part, Text, IsLine, IsOneOf, operands_of, values_of}
 use Rattle.command_line.specs.Found.{ArePlain, Shows, are_names, found_under, operands_name}

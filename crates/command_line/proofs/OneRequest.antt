@@ -3,11 +3,11 @@ use Rattle.std.proofs.Common.{◌≡◌, ◌∙◌, ℕ, Bool, true, inl, inr, r
 use Rattle.std.proofs.lemmas.Slice.Eq.{bytes_eq-Decides}
 use Rattle.line_words.specs.Number.{IsNumber}
 use Rattle.line_words.proofs.Decimal.{one-number_of}
-use Rattle.command_line.specs.declared.asked.Bulk.{Bulk}
-use Rattle.command_line.specs.declared.asked.Draws.{Draws}
-use Rattle.command_line.specs.declared.asked.Request.{Request}
-use Rattle.command_line.specs.declared.asked.Request.TheVariants as request
-use Rattle.command_line.specs.declared.asked.WordsArgs.{WordsArgs}
+use Rattle.run_requests.specs.declared.asked.Bulk.{Bulk}
+use Rattle.run_requests.specs.declared.asked.Draws.{Draws}
+use Rattle.run_requests.specs.declared.asked.Request.{Request}
+use Rattle.run_requests.specs.declared.asked.Request.TheVariants as request
+use Rattle.run_requests.specs.declared.asked.WordsArgs.{WordsArgs}
 use Rattle.command_line.specs.Parts.{Part, Text, IsLine, operands_of, values_of}
 use Rattle.command_line.specs.Found.{are_names}
 use Rattle.command_line.specs.Requests.{bulk_options, words_options, AreDraws, AreWords, Asks, IsBulk, IsFile, IsGen, IsSame, Reads}

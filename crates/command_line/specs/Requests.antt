@@ -3,11 +3,11 @@ use Rattle.std.specs.Prelude.{ℕ, ◌-◌, ◌^◌, ◌≡◌, ◌<◌, List, [
 use Rattle.std.specs.declared.option.Option.{Option}
 use Rattle.command_line.specs.Parts.{Part, Text, IsLine, operands_of, values_of}
 use Rattle.command_line.specs.Values.{IsLanes, IsNumberWithin, IsQueue, IsRounds, IsSlots}
-use Rattle.command_line.specs.declared.asked.Request.{Request}
-use Rattle.command_line.specs.declared.asked.Request.TheVariants as request
-use Rattle.command_line.specs.declared.asked.WordsArgs.{WordsArgs}
-use Rattle.command_line.specs.declared.asked.Draws.{Draws}
-use Rattle.command_line.specs.declared.asked.Bulk.{Bulk as Drawn}
+use Rattle.run_requests.specs.declared.asked.Request.{Request}
+use Rattle.run_requests.specs.declared.asked.Request.TheVariants as request
+use Rattle.run_requests.specs.declared.asked.WordsArgs.{WordsArgs}
+use Rattle.run_requests.specs.declared.asked.Draws.{Draws}
+use Rattle.run_requests.specs.declared.asked.Bulk.{Bulk as Drawn}
 use Rattle.command_line.specs.declared.settings.Settings.{Settings}
 use Rattle.clap.specs.declared.parser.matches.ArgMatches.{ArgMatches}
 use Rattle.command_line.specs.Found.{found_under, operands_name}

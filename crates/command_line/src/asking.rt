@@ -2,12 +2,12 @@
 ghost use Rattle.std.specs.Prelude.{◌≡◌, ℕ, List, [], IfOk, IfSome, IsNone, drop, map, string_bytes};
 ghost use Rattle.command_line.specs.Found.{found_under, operands_name};
 ghost use Rattle.command_line.specs.Requests.{bulk_options, words_options, AreDraws, AreWords, Asks, IsBulk, IsDrawn, IsFile, IsGen, Reads};
-ghost use Rattle.command_line.specs.declared.asked.Bulk.{Bulk as Drawn};
-ghost use Rattle.command_line.specs.declared.asked.Draws.{Draws as Drawing};
-ghost use Rattle.command_line.specs.declared.asked.Request.{Request as Asked};
-ghost use Rattle.command_line.specs.declared.asked.WordsArgs.{WordsArgs as Counting};
+ghost use Rattle.run_requests.specs.declared.asked.Bulk.{Bulk as Drawn};
+ghost use Rattle.run_requests.specs.declared.asked.Draws.{Draws as Drawing};
+ghost use Rattle.run_requests.specs.declared.asked.Request.{Request as Asked};
+ghost use Rattle.run_requests.specs.declared.asked.WordsArgs.{WordsArgs as Counting};
 
-use crate::asked::{Bulk, Draws, Request, WordsArgs};
+use run_requests::{Bulk, Draws, Request, WordsArgs};
 use crate::matching::matching;
 use crate::numbers::number_within;
 use crate::options::lanes;

@@ -5,7 +5,7 @@ ghost use Rattle.std.specs.declared.option.Option.{Option as Maybe};
 ghost use Rattle.command_line.specs.Found.{are_names};
 ghost use Rattle.command_line.specs.Parts.{IsLine, Part, Text};
 ghost use Rattle.command_line.specs.Requests.{Asks, IsSame};
-ghost use Rattle.command_line.specs.declared.asked.Request.{Request as Asked};
+ghost use Rattle.run_requests.specs.declared.asked.Request.{Request as Asked};
 
 /// The words after a command are read in one way: they are one list of parts at most, and one of later operands.
 pub fn line_is_one()

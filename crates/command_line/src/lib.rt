@@ -29,7 +29,6 @@
 //! ```
 #![tactic(auto)]
 
-mod asked;
 mod asking;
 pub mod laws;
 mod matching;
@@ -39,5 +38,4 @@ mod settings;
 #[cfg(test)]
 mod tests;
 
-pub use crate::asked::{Bulk, Draws, Request, WordsArgs};
 pub use crate::asking::request;

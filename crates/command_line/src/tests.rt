@@ -1,6 +1,6 @@
 //! Worked command lines.
 
-use crate::asked::Request;
+use run_requests::Request;
 use crate::asking::request;
 use std::alloc::{AllocError, Global};
 use std::test::Fail;

@@ -2,7 +2,7 @@
 ghost use Rattle.std.specs.Prelude.{◌≡◌, ◌≤◌, IfOk, length};
 ghost use Rattle.words_work.specs.Limits.{IsPlan, names_of, plan_of};
 
-use command_line::WordsArgs;
+use run_requests::WordsArgs;
 use deleter::Deleter;
 use directory_protocol::RecordKind;
 use lane_gate::{Files, Open};

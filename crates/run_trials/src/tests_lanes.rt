@@ -4,7 +4,7 @@ ghost use Rattle.std.specs.Prelude.{◌≤◌};
 use crate::calls::{names_of_two, two};
 use crate::runs::{file_of_bytes, status_of, words_of};
 use cdrc_run::run;
-use command_line::WordsArgs;
+use run_requests::WordsArgs;
 use crossbeam_utils::atomic::AtomicCell;
 use deleter::Deleter;
 use directory_protocol::RecordKind;

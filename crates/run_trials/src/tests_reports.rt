@@ -2,7 +2,7 @@
 ghost use Rattle.std.specs.Prelude.{◌≤◌};
 
 use crate::calls::{Ended, count, names_of_two, two};
-use command_line::WordsArgs;
+use run_requests::WordsArgs;
 use lane_gate::HonestFiles;
 use std::alloc::{AllocError, Global};
 use std::sync::Wait;

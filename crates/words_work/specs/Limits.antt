@@ -2,7 +2,7 @@
 use Rattle.std.specs.Prelude.{ℕ, ◌≡◌, ◌+◌, ◌*◌, ◌<◌, ◌≤◌, ◌⊎◌, Bool, true, false, List, Some, length, map, string_bytes, unwrap_or, IfSome}
 use Rattle.std.specs.List.{sum_by}
 use Rattle.plain_state.specs.Limits.{most_slots}
-use Rattle.command_line.specs.declared.asked.WordsArgs.{WordsArgs}
+use Rattle.run_requests.specs.declared.asked.WordsArgs.{WordsArgs}
 use Rattle.queue_law.specs.declared.view.Form.{Form}
 use Rattle.queue_law.specs.declared.view.Form.TheVariants.{Linked, Double}
 use Rattle.cdrc_text.specs.Fold.{File}

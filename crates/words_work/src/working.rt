@@ -13,7 +13,7 @@ use crate::cutting::cut_files;
 use crate::outcome::{WordsDone, WordsRefused};
 use crate::plan::Plan;
 use crate::reading::read_files;
-use command_line::WordsArgs;
+use run_requests::WordsArgs;
 use deleter::Deleter;
 use directory_protocol::RecordKind;
 use lane_domain::{count_pieces, count_slots, is_within_limits};
