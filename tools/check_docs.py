@@ -11,6 +11,7 @@
   the crates that its crates.txt names, and a block after <!-- repository: output --> is what its program writes.
 - docs/late_finish.svg is what tools/picture.py draws.
 - Each crate of crates.txt has a README, to which docs/CRATES.md links.
+- No mark of a merge is left.
 """
 import re
 import shutil
@@ -65,6 +66,12 @@ class Document:
                     while block and not block[-1]:
                         block.pop()
                 yield at + 1, mark[1], mark[2], "".join(word + "\n" for word in block)
+
+
+def check_merged(document):
+    for number, line in enumerate(document.lines, 1):
+        if re.match(r"(<{7}|={7}|>{7})( |$)", line):
+            document.fault(number, "a mark that a merge left")
 
 
 def check_links(document, documents):
@@ -147,6 +154,7 @@ def main():
     list_of_steps = "steps docs/late_finish.steps"
     shown, repositories = [(None, 0, list_of_steps, None)], {}
     for document in documents.values():
+        check_merged(document)
         check_links(document, documents)
         for number, kind, name, text in document.marked():
             if kind == "output":
