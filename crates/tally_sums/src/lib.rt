@@ -5,7 +5,7 @@
 //!
 //! ```text
 //! let tallies = vec![in alloc; first, second]?;    // `a` twice and `b` once; `a` once
-//! counted_words(alloc, &tallies)?                  // `a` 3, `b` 1
+//! counted_words(rt, alloc, &tallies)?              // `a` 3, `b` 1
 //! ```
 #![tactic(auto)]
 
