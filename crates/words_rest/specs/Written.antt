@@ -29,8 +29,8 @@ module _ (files : List File) (rounds : ℕ) (p : Plain) (lives : SlotId → ℕ)
   -- holders as there are strong references to s.
   pub record IsRowAt (row : Row) (s : SlotId) : Type 0 where
     pub is_kept : 0 < times s kept
-    pub tells : TellsWord v row.word.items s (lives s)
-    pub occurrences : row.occurrences ≡ occurrences_in row.word.items rounds files
+    pub tells : TellsWord v row.word.now s (lives s)
+    pub occurrences : row.occurrences ≡ occurrences_in row.word.now rounds files
     pub holders : row.holders ≡ strong_refs p s
 
   -- one for each slot, in order
