@@ -195,12 +195,12 @@ module _ (d : DomainState WordsLaw) (weight : List ℕ → ℕ) (ranks : List �
         record {
           is_kept = first.held;
           tells = subst (λ (l : List ℕ). TellsWord v l r.slot (lives_in r2 r.slot))
-              (ap (λ x. x.items) (sym row.word))
+              (ap (λ x. x.now) (sym row.word))
               (subst (λ (y : DirectoryView × ℕ). TellsWord y.0 r.word.now r.slot y.1)
               (λ i. (sym own i, sym (lives_later r.slot first.held) i)) first.tells);
           occurrences = row.occurrences ∙ All-head (IsSum tallies) (r.word.now, r.occurrences) (sums_in rs) summed
               ∙ counts r.word.now
-              ∙ ap (λ x. occurrences_in x.items work.rounds
+              ∙ ap (λ x. occurrences_in x.now work.rounds
               (texts_in work)) (sym row.word);
           holders = row.holders;
         },

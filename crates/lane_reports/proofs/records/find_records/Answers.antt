@@ -1,4 +1,4 @@
-use Rattle.std.proofs.Common.{◌≡◌, Bool, true, ◌≤◌, ◌∷◌, ◌++◌, [], List, ℕ, length, length-append, append-nil, ap, sym, ◌∙◌, subst, arith}
+use Rattle.std.proofs.Common.{◌≡◌, Bool, true, ◌∷◌, ◌++◌, [], List, ℕ, length, length-append, append-nil, ap, sym, ◌∙◌, subst, arith}
 use Rattle.std.specs.Borrow.{Bor}
 use Rattle.cdrc_text.specs.Tally.{shown_entries}
 use Rattle.slot_store.proofs.Quieting.{no_items}
