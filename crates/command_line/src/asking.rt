@@ -7,13 +7,13 @@ ghost use Rattle.run_requests.specs.declared.asked.Draws.{Draws as Drawing};
 ghost use Rattle.run_requests.specs.declared.asked.Request.{Request as Asked};
 ghost use Rattle.run_requests.specs.declared.asked.WordsArgs.{WordsArgs as Counting};
 
-use run_requests::{Bulk, Draws, Request, WordsArgs};
 use crate::matching::matching;
 use crate::numbers::number_within;
 use crate::options::lanes;
 use crate::settings::settings_of;
 use clap::ArgMatches;
 use out_of_memory::OutOfMemory;
+use run_requests::{Bulk, Draws, Request, WordsArgs};
 use std::alloc::Global;
 
 static WORDS_OPTIONS: [&str; 4] = ["lanes", "rounds", "slots", "queue"];

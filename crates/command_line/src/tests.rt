@@ -1,7 +1,7 @@
 //! Worked command lines.
 
-use run_requests::Request;
 use crate::asking::request;
+use run_requests::Request;
 use std::alloc::{AllocError, Global};
 use std::test::Fail;
 

@@ -2,13 +2,13 @@
 ghost use Rattle.std.specs.Prelude.{◌≡◌, ◌≤◌, IfOk, length};
 ghost use Rattle.words_work.specs.Limits.{IsPlan, names_of, plan_of};
 
-use run_requests::WordsArgs;
 use deleter::Deleter;
 use directory_protocol::RecordKind;
 use lane_gate::{Files, Open};
 use plain_state::PayloadKind;
 use protocol_pairs::PairKind;
 use queue_protocol::NodeKind;
+use run_requests::WordsArgs;
 use std::alloc::{AllocError, Global};
 use std::sync::Wait;
 use std::thread::Threads;

@@ -4,7 +4,6 @@ ghost use Rattle.std.specs.Prelude.{◌≤◌};
 use crate::calls::{names_of_two, two};
 use crate::runs::{file_of_bytes, status_of, words_of};
 use cdrc_run::run;
-use run_requests::WordsArgs;
 use crossbeam_utils::atomic::AtomicCell;
 use deleter::Deleter;
 use directory_protocol::RecordKind;
@@ -12,6 +11,7 @@ use lane_gate::{HonestFiles, HonestSink, Meet, Open};
 use plain_state::PayloadKind;
 use protocol_pairs::PairKind;
 use queue_protocol::NodeKind;
+use run_requests::WordsArgs;
 use std::test::Fail;
 use words_work::words_work;
 

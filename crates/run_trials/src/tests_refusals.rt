@@ -3,8 +3,8 @@ ghost use Rattle.std.specs.Prelude.{◌≤◌};
 
 use crate::calls::{Ended, count, names_of_two, two};
 use crate::tests_reports::FOUR;
-use run_requests::WordsArgs;
 use lane_gate::{HonestFiles, MemFiles};
+use run_requests::WordsArgs;
 use std::alloc::{AllocError, Global};
 use std::sync::Wait;
 use std::test::Fail;

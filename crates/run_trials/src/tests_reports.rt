@@ -2,8 +2,8 @@
 ghost use Rattle.std.specs.Prelude.{◌≤◌};
 
 use crate::calls::{Ended, count, names_of_two, two};
-use run_requests::WordsArgs;
 use lane_gate::HonestFiles;
+use run_requests::WordsArgs;
 use std::alloc::{AllocError, Global};
 use std::sync::Wait;
 use std::test::Fail;
