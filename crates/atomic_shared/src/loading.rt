@@ -58,6 +58,8 @@ pub fn try_load<P: Protocol, D: Deed<P>>(
 /// check, so it may wait for other threads. `Spent` comes first, exactly where the seat has used all adds of its quota,
 /// and then nothing has changed. `None` exactly where the last try found null. At most five steps for each try, and one
 /// add where a handle is answered.
+// A call would pass its answer through memory, between the add and the handle's use.
+#[inline(always)]
 pub fn load<P: Protocol, D: Deed<P>, R: Wait>(
     rt: &R,
     domain: &Domain<P>,
