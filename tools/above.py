@@ -3,26 +3,22 @@
 
     tools/above.py NAME..
 """
-import re
 import sys
 from pathlib import Path
+
+from take import lines_of
 
 TOP = Path(__file__).resolve().parent.parent
 
 
-def crates(text):
-    """Returns the libraries that each crate's line names, by the crate, in the lines' order."""
-    return {name: used.split() for name, used in re.findall(r"^(\w+)[^:#\n]*:(.*)$", text, re.M)}
-
-
 def main(names):
-    used = crates((TOP / "crates.txt").read_text())
-    if not names or not names <= used.keys():
+    lines = lines_of((TOP / "crates.txt").read_text())
+    if not names or not names <= lines.keys():
         sys.exit(__doc__)
     reached = set(names)
     # a crate's line names only crates of lines above it
-    for name, below in used.items():
-        if reached & set(below):
+    for name, line in lines.items():
+        if reached & set(line.partition(":")[2].split()):
             reached.add(name)
             print(name)
 

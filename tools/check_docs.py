@@ -7,8 +7,8 @@
 - A block after a comment <!-- file: PATH --> is that file, and one after <!-- part: PATH --> lines of it in a row.
 - A block after a comment <!-- output: COMMAND --> is what the program writes. It is run once for all of them, by `rt
   try`, which proves nothing. A path is one of crates/cdrc_words or of the top folder.
-- Blocks of one document after comments <!-- repository: PATH --> are files of a repository of a reader's own, beside
-  the crates that its crates.txt names, and a block after <!-- repository: output --> is what its program writes.
+- A block after a comment <!-- taken: CRATE --> is what that program writes in a repository of its own, which has only
+  what tools/take.py copies.
 - docs/late_finish.svg is what tools/picture.py draws.
 - Each crate of crates.txt has a README, to which docs/CRATES.md links.
 - No mark of a merge is left.
@@ -23,10 +23,11 @@ from pathlib import Path
 
 sys.dont_write_bytecode = True
 import picture  # noqa: E402
+import take  # noqa: E402
 
 TOP = Path(__file__).resolve().parent.parent
 LINK = re.compile(r"!?\[((?:`[^`]*`|[^\]`])*)\]\(([^)\s]+)\)")
-MARK = re.compile(r"^<!-- (file|part|output|repository): (.+) -->$")
+MARK = re.compile(r"^<!-- (file|part|output|taken): (.+) -->$")
 
 
 class Document:
@@ -132,19 +133,13 @@ def outputs_of(commands):
     return told
 
 
-def output_of_repository(files):
-    """What the program of a reader's repository writes: these files, and our crates that its crates.txt names."""
+def output_elsewhere(name):
+    """What a program of ours writes in a repository of its own."""
     with tempfile.TemporaryDirectory() as folder:
         top = Path(folder)
-        for line in files["crates.txt"].splitlines():
-            name = line.partition(":")[0].split(" ")[0]
-            if (TOP / "crates" / name / "src").is_dir():
-                shutil.copytree(TOP / "crates" / name, top / "crates" / name, ignore=shutil.ignore_patterns("out"))
-        for name, text in files.items():
-            (top / name).parent.mkdir(parents=True, exist_ok=True)
-            (top / name).write_text(text)
-        program = next(name for name in files if name.endswith("/src/main.rt"))
-        done = subprocess.run(["rt", "try"], cwd=top / Path(program).parent.parent, capture_output=True, text=True)
+        take.take([name], top)
+        shutil.copy(TOP / "HANDLES", top)
+        done = subprocess.run(["rt", "try"], cwd=top / "crates" / name, capture_output=True, text=True)
     return done.stdout if done.returncode == 0 else f"status {done.returncode}\n{done.stdout}{done.stderr}"
 
 
@@ -152,15 +147,15 @@ def main():
     paths = [TOP / "README.md", *sorted((TOP / "docs").glob("*.md")), *sorted(TOP.glob("crates/*/README.md"))]
     documents = {path: Document(path) for path in paths}
     list_of_steps = "steps docs/late_finish.steps"
-    shown, repositories = [(None, 0, list_of_steps, None)], {}
+    shown, elsewhere = [(None, 0, list_of_steps, None)], []
     for document in documents.values():
         check_merged(document)
         check_links(document, documents)
         for number, kind, name, text in document.marked():
             if kind == "output":
                 shown.append((document, number, name, text))
-            elif kind == "repository":
-                repositories.setdefault(document, {})[name] = (number, text)
+            elif kind == "taken":
+                elsewhere.append((document, number, name, text))
             elif kind == "part":
                 if not (TOP / name).is_file() or "\n" + text not in "\n" + (TOP / name).read_text():
                     document.fault(number, f"the block isn't a part of the file {name}")
@@ -169,11 +164,10 @@ def main():
 
     with ThreadPoolExecutor() as pool:
         told = pool.submit(outputs_of, sorted({command for _, _, command, _ in shown}))
-        for document, files in repositories.items():
-            number, expected = files.pop("output")
-            written = output_of_repository({name: text for name, (_, text) in files.items()})
-            if written != expected:
-                document.fault(number, f"the program writes\n{written}")
+        for document, number, name, text in elsewhere:
+            written = output_elsewhere(name)
+            if written != text:
+                document.fault(number, f"{name} writes\n{written}")
         told = told.result()
     for document, number, command, text in shown[1:]:
         if told[command] != text:
@@ -185,7 +179,7 @@ def main():
     if drawn != (TOP / "docs/late_finish.svg").read_text():
         faults.append("docs/late_finish.svg: make picture draws another one")
     linked = (TOP / "docs/CRATES.md").read_text()
-    for name in re.findall(r"^(\w+)[^:#\n]*:", (TOP / "crates.txt").read_text(), re.M):
+    for name in take.lines_of((TOP / "crates.txt").read_text()):
         if not (TOP / "crates" / name / "README.md").exists() or f"(../crates/{name}/README.md)" not in linked:
             faults.append(f"docs/CRATES.md: no link to a README of {name}")
     print(*faults, f"{len(documents)} documents, {len(shown)} outputs, {len(faults)} faults", sep="\n")

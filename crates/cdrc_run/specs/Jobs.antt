@@ -43,11 +43,18 @@ names_in (steps file) = file ∷ []
 names_in (draw draws) = []
 names_in (bulk drawn) = []
 
--- at most so many words, of a vocabulary of 1 to 1,000,000
+-- the most words that are drawn, of the most that a vocabulary has; and where two texts are drawn, of each
+abbrev pub most_drawn : ℕ
+most_drawn = 1000000
+
+abbrev pub most_drawn_twice : ℕ
+most_drawn_twice = 500000
+
+-- at most so many words
 pub record AreInRange (most : ℕ) (draws : Draws) : Type 0 where
   pub words : draws.words ≤ most
   pub least : 1 ≤ draws.vocabulary
-  pub most_of : draws.vocabulary ≤ 1000000
+  pub most_of : draws.vocabulary ≤ most_drawn
 
 -- the text that draws give
 abbrev pub text_of_draws : Draws → List ℕ
@@ -94,6 +101,6 @@ HasRanges (request.Words args) =
     words.IsPlan (words.plan_of args) × (1 ≤ length (words.names_of args))
 HasRanges (request.Script file) = Unit {0}
 HasRanges (request.Steps file) = Unit {0}
-HasRanges (request.Generate draws) = AreInRange 1000000 draws
+HasRanges (request.Generate draws) = AreInRange most_drawn draws
 HasRanges (request.Bulk drawn) =
-    AreInRange 500000 drawn.draws × (1 ≤ drawn.lanes) × (drawn.lanes ≤ 31)
+    AreInRange most_drawn_twice drawn.draws × words.AreLanes drawn.lanes

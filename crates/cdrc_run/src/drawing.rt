@@ -1,8 +1,9 @@
 //! The jobs that draw words.
 ghost use Rattle.std.specs.Prelude.{◌≡◌, ◌≤◌, [], ◌∷◌, IfErr, IfOk, List, ℕ};
-ghost use Rattle.cdrc_run.specs.Jobs.{AreInRange, bulk, draw, drawn_texts, next_draws, text_of_draws};
+ghost use Rattle.cdrc_run.specs.Jobs.{AreInRange, bulk, draw, drawn_texts, most_drawn, most_drawn_twice, next_draws, text_of_draws};
 ghost use Rattle.cdrc_run.specs.Outputs.{IsOutput, IsWhyNoOutput};
 ghost use Rattle.words_work.specs.Contents.{Told};
+ghost use Rattle.words_work.specs.Limits.{AreLanes};
 ghost use Rattle.words_work.specs.Outcomes.{Counts, bytes_of};
 
 use crate::closing::last_lines;
@@ -24,7 +25,7 @@ use words_work::{Plan, WordsDone, WordsRefused, count_contents};
 
 /// The text of drawn words.
 pub(crate) fn draw_words(alloc: Global, draws: Draws) -> Result<Output, OutOfMemory>
-    requires { AreInRange 1000000 draws }
+    requires { AreInRange most_drawn draws }
     ensures { IfOk result (λ output.
         IsOutput (draw draws) [] output.text.items output.refused output.why) }
 {
@@ -49,7 +50,7 @@ fn next_draws(draws: Draws) -> Draws
 
 /// The text of drawn words, and that from the next seed.
 fn draw_twice(alloc: Global, draws: Draws) -> Result<Vec<Vec<u8>>, OutOfMemory>
-    requires { AreInRange 1000000 draws }
+    requires { AreInRange most_drawn draws }
     ensures { IfOk result (λ texts.
         bytes_of texts.items ≡ text_of_draws draws ∷ text_of_draws (next_draws draws) ∷ []) }
 {
@@ -66,8 +67,8 @@ pub(crate) fn count_drawn<R: Threads + Wait + Sync, G: Gate + Sync>(
     drawn: Bulk,
     gate: &G,
 ) -> Result<Output, WordsRefused>
-    requires draws { AreInRange 500000 drawn.draws }
-    requires lanes { (1 ≤ drawn.lanes) × (drawn.lanes ≤ 31) }
+    requires draws { AreInRange most_drawn_twice drawn.draws }
+    requires lanes { AreLanes drawn.lanes }
     ensures output { IfOk result (λ output.
         IsOutput (bulk drawn) [] output.text.items output.refused output.why) }
     ensures why { IfErr result (λ error. (told : Told) → (counts : Counts) → IsWhyNoOutput

@@ -21,10 +21,7 @@ use script_desk::ScriptKind;
 use std::alloc::Global;
 use std::sync::Wait;
 use std::thread::Threads;
-use words_work::{WordsDone, WordsRefused, read_file, words_work};
-
-/// The most bytes of a file of lines.
-const MOST_BYTES: u64 = 67_108_864;
+use words_work::{MOST_BYTES, WordsDone, WordsRefused, read_file, words_work};
 
 /// The output of what the words of the command line ask for. It may wait for other threads.
 pub(crate) fn output_of<R: Threads + Wait + Sync, F: Files, G: Gate + Sync>(

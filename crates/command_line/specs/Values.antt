@@ -1,6 +1,7 @@
 -- What the values of an option say. An option that comes twice has no meaning.
 use Rattle.std.specs.Prelude.{ℕ, ◌≡◌, ◌≤◌, ◌⊎◌, Bool, true, false, List, [], ◌∷◌, Some, None, codes}
 use Rattle.std.specs.declared.option.Option.{Option}
+use Rattle.plain_state.specs.Limits.{most_slots}
 use Rattle.line_words.specs.Number.{IsNumber}
 use Rattle.command_line.specs.Parts.{Text}
 
@@ -20,10 +21,10 @@ IsLanes = IsNumberOr 2 1 31
 abbrev pub IsRounds : List Text → ℕ → Type 0
 IsRounds = IsNumberOr 1 1 1000
 
--- from 1 to 4,194,304 slots, none by default
+-- so many slots as there may be, none by default
 abbrev pub IsSlots : List Text → Option ℕ → Type 0
 IsSlots [] slots = slots ≡ None
-IsSlots (word ∷ []) slots = (n : ℕ) × (slots ≡ Some n) × IsNumberWithin 1 4194304 word n
+IsSlots (word ∷ []) slots = (n : ℕ) × (slots ≡ Some n) × IsNumberWithin 1 most_slots word n
 IsSlots (word ∷ more ∷ words) slots = ⊥
 
 -- whether the queue has double links, by default not

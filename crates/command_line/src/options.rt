@@ -6,6 +6,7 @@ ghost use Rattle.command_line.specs.Values.{IsLanes, IsQueue, IsRounds, IsSlots}
 
 use crate::numbers::{number_or, number_within};
 use clap::ArgMatches;
+use plain_state::MOST_SLOTS;
 
 /// How many lanes the values of `--lanes` mean. None exactly where they mean none.
 pub(crate) fn lanes(matches: &ArgMatches<'_>) -> Option<u32>
@@ -40,7 +41,7 @@ fn slots_of(values: &[&str]) -> Option<Option<u32>>
 {
     match values {
         [] => Some(None),
-        [word] => Some(Some(number_within(word, 1, 4_194_304)? as u32)),
+        [word] => Some(Some(number_within(word, 1, MOST_SLOTS as u64)? as u32)),
         _ => None,
     }
 }

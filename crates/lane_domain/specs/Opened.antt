@@ -27,7 +27,7 @@ use Rattle.slot_store.specs.Searching.{Misses}
 use Rattle.lane_files.specs.Whys.{of_queue, queue_of}
 use Rattle.lane_domain.specs.declared.opened.OpenLanesError.{OpenLanesError}
 use Rattle.lane_domain.specs.declared.opened.OpenLanesError.TheVariants as refused
-use Rattle.lane_domain.specs.Sizes.{IsWithinLimits, all_parts, all_pieces, by_ticket, interns_of, makes_of}
+use Rattle.lane_domain.specs.Sizes.{IsWithinLimits, all_parts, all_pieces, by_ticket, interns_of, makes_of, most_lanes}
 
 -- seat 0 makes the queue's first node, and may make one object more; lanes make what their tickets grant
 abbrev pub root_quota : Quota
@@ -83,7 +83,7 @@ pub record IsDomainForSome (d : DomainState WordsLaw) : Type 0 where
   pub lanes : ℕ
   pub slots : ℕ
   pub form : Form
-  pub few : (lanes ≤ 31) × (1 ≤ slots) × (slots ≤ most_slots)
+  pub few : (lanes ≤ most_lanes) × (1 ≤ slots) × (slots ≤ most_slots)
   pub within : IsWithinLimits work
   pub is : IsDomainFor work lanes slots form d
 

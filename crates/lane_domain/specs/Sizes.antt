@@ -9,6 +9,10 @@ use Rattle.lane_files.specs.declared.work.Work.{Work}
 use Rattle.lane_files.specs.Files.{pieces_in}
 use Rattle.lane_files.specs.Work.{all_tickets, words_of}
 
+-- the most lanes: seat 0 is none of a lane
+abbrev pub most_lanes : ℕ
+most_lanes = 31
+
 -- the slots that the records of some words take, if no two words share one
 abbrev pub slots_of_words : List (List ℕ) → ℕ
 slots_of_words words = sum_by slots_of_word words

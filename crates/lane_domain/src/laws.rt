@@ -10,7 +10,7 @@ ghost use Rattle.lane_files.specs.declared.shared.Shared.{Shared};
 ghost use Rattle.lane_files.specs.Ready.{IsReady};
 ghost use Rattle.lane_files.specs.declared.work.Work.{Work};
 ghost use Rattle.lane_domain.specs.Opened.{IsDomainFor, fresh_lanes, fresh_seat};
-ghost use Rattle.lane_domain.specs.Sizes.{IsWithinLimits, all_parts, all_pieces};
+ghost use Rattle.lane_domain.specs.Sizes.{IsWithinLimits, all_parts, all_pieces, most_lanes};
 ghost use Rattle.lane_domain.specs.Beginning.{CanBegin};
 ghost use Rattle.linked_queue.specs.Leaving.{Leaves};
 ghost use Rattle.slot_store.specs.declared.making.MakeError.TheVariants as unmade;
@@ -28,8 +28,8 @@ use queue_protocol::NodeKind;
 /// The seats of the lanes as `open_lanes` answers them can begin, on what it answers with them.
 pub fn opened_seats_can_begin()
     ensures { (work : Work) (lanes slots : ℕ) (form : Form) (d : DomainState WordsLaw)
-        (on : Shared) (root : SeatState View) → IsWithinLimits work → lanes ≤ 31 → 1 ≤ slots
-        → slots ≤ most_slots → IsDomainFor work lanes slots form d → IsReady d on root
+        (on : Shared) (root : SeatState View) → IsWithinLimits work → lanes ≤ most_lanes
+        → 1 ≤ slots → slots ≤ most_slots → IsDomainFor work lanes slots form d → IsReady d on root
         → All (CanBegin d on) (fresh_lanes d lanes) }
 {}
 

@@ -7,7 +7,7 @@ ghost use Rattle.lane_files.specs.Lanes.{HasGrants};
 ghost use Rattle.lane_files.specs.Makes.{GrantsMakes};
 ghost use Rattle.lane_files.specs.Work.{IsWork};
 ghost use Rattle.lane_domain.specs.Opened.{FindsNoSlot, HasOnlyLaid, IsDirectoryFor, IsDomainFor, IsDomainForSome, IsQueueHere, IsWhyNotOpened, fresh_lanes, fresh_seat, lane_quota, root_quota};
-ghost use Rattle.lane_domain.specs.Sizes.{IsWithinLimits, all_pieces};
+ghost use Rattle.lane_domain.specs.Sizes.{IsWithinLimits, all_pieces, most_lanes};
 
 use crate::opened::{OpenLanesError, Opened, Unlaid};
 use crate::sizes::count_pieces;
@@ -93,7 +93,7 @@ fn begin(
 ) -> Result<Begun, OutOfMemory>
     requires work { IsWork work.now }
     requires within { IsWithinLimits work.now }
-    requires lanes { (1 ≤ lanes) × (lanes ≤ 31) }
+    requires lanes { (1 ≤ lanes) × (lanes ≤ most_lanes) }
     requires slots { (1 ≤ slots) × (slots ≤ most_slots) }
     ensures domain { IfOk result (λ begun. IsDomainFor work.now lanes slots form begun.domain) }
     ensures root { IfOk result (λ begun. begun.root ≡ fresh_seat begun.domain 0) }
@@ -163,7 +163,7 @@ pub fn open_lanes(
 ) -> Result<Opened, OpenLanesError>
     requires work { IsWork work.now }
     requires within { IsWithinLimits work.now }
-    requires lanes { (1 ≤ lanes) × (lanes ≤ 31) }
+    requires lanes { (1 ≤ lanes) × (lanes ≤ most_lanes) }
     requires slots { (1 ≤ slots) × (slots ≤ most_slots) }
     ensures domain { IfOk result (λ opened.
         IsDomainFor work.now lanes slots form opened.domain) }

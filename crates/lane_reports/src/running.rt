@@ -7,7 +7,7 @@ ghost use Rattle.lane_files.specs.Ready.{IsReady};
 ghost use Rattle.lane_files.specs.Lanes.{HasGrants};
 ghost use Rattle.lane_files.specs.Work.{IsWork};
 ghost use Rattle.lane_domain.specs.Opened.{HasOnlyLaid, IsDomainFor, fresh_lanes};
-ghost use Rattle.lane_domain.specs.Sizes.{IsWithinLimits, texts_in};
+ghost use Rattle.lane_domain.specs.Sizes.{IsWithinLimits, most_lanes, texts_in};
 ghost use Rattle.lane_reports.specs.Counting.{CountsAll};
 ghost use Rattle.lane_reports.specs.Refusals.{IsWhyNothing};
 ghost use Rattle.lane_reports.specs.Reporting.{IsLast};
@@ -39,7 +39,7 @@ fn open(
 ) -> Result<Opened, CountError>
     requires work { IsWork work.now }
     requires within { IsWithinLimits work.now }
-    requires lanes { (1 ≤ lanes) × (lanes ≤ 31) }
+    requires lanes { (1 ≤ lanes) × (lanes ≤ most_lanes) }
     requires slots { (1 ≤ slots) × (slots ≤ most_slots) }
     ensures domain { IfOk result (λ opened.
         IsDomainFor work.now lanes slots form opened.domain) }
@@ -78,7 +78,7 @@ pub fn count_words<R: Threads + Wait + Sync, G: Gate + Sync, F: Fn(&[u64; 16]) -
 ) -> Result<Counted, CountError>
     requires work { IsWork work.now }
     requires within { IsWithinLimits work.now }
-    requires lanes { (1 ≤ lanes) × (lanes ≤ 31) }
+    requires lanes { (1 ≤ lanes) × (lanes ≤ most_lanes) }
     requires slots { (1 ≤ slots) × (slots ≤ most_slots) }
     requires weighs { Weighs ⟦<PairKind<NodeKind, RecordKind> as PayloadKind>⟧.fits
         ⟦<PairKind<NodeKind, RecordKind> as PayloadKind>⟧.weight F.Fn weigh.now }

@@ -29,7 +29,7 @@ use Rattle.acquire_retire.specs.Domains.{DomainState}
 use Rattle.acquire_retire.specs.Seats.{SeatState}
 use Rattle.retiring_stores.specs.Scanning.{Collected, IsBelow, IsDue}
 use Rattle.slot_store.specs.Reaping.{Answers, Clears, Destroys, FindsRipe, Reaps, SeesAll, Waits, seen_by}
-use Rattle.slot_store.specs.Spending.{entries_of, steps_made}
+use Rattle.slot_store.specs.Spending.{entries_of, reap_most, steps_made}
 use Rattle.slot_store.proofs.Turning.{joined_most, unripe, unripe_most}
 
 -- the steps of a seat, and those that payments for its entries take at most
@@ -241,7 +241,7 @@ module _ {P V : Type 0} (fits : List ℕ → Type 0) (d : DomainState P) where
   -- the steps of a reap, whatever it answers
   pub reap_steps : (weight : List ℕ → ℕ) (answered : Option ℕ) (old new : SeatState V)
       → Answers fits d weight answered old new
-      → steps_made new ≤ steps_made old + 4 * announcements d.shape + 3 * (entries_of old + 3) + 21
+      → steps_made new ≤ steps_made old + reap_most d old
   reap_steps weight None old new none =
       let one = none_takes d weight old new none in
       let steps = one.0 in omega arith

@@ -1,5 +1,6 @@
 -- What each call on slots does.
 use Rattle.std.specs.Prelude.{ℕ, ◌≡◌, ◌≢◌, ◌+◌, ◌<◌, List, [], ◌∷◌, ◌++◌, length, slice_index}
+use Rattle.plain_state.specs.Limits.{words_of_payload}
 use Rattle.plain_state.specs.declared.act.PlainAct.{PlainAct}
 use Rattle.plain_state.specs.declared.slot.SlotId.{SlotId}
 use Rattle.plain_state.specs.State.{Plain, slot_at}
@@ -40,7 +41,7 @@ HasNoMake v = v.makes ≡ allowed_makes v
 
 -- the moves that fill a slot with a payload, word by word
 abbrev pub filled_by : List ℕ → List Move
-filled_by payload = each_from 0 16 (λ i. move (act.Fill i (slice_index payload i)) outcome.Plain)
+filled_by payload = each_from 0 words_of_payload (λ i. move (act.Fill i (slice_index payload i)) outcome.Plain)
 
 -- the moves up to the start: the tries, the claim of s, its arming, and its words
 abbrev pub begun_by : List Try → SlotId → List ℕ → List Move

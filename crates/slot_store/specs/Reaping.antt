@@ -1,6 +1,7 @@
 -- What a seat does with a slot that it is to destroy.
 use Rattle.std.specs.Prelude.{ℕ, ◌≡◌, ◌⊎◌, ◌<◌, List, [], ◌∷◌, ◌++◌, slice_index, Bool, Option, None, Some, if◌then◌else◌}
 use Rattle.std.specs.Bool.{MatchBool}
+use Rattle.plain_state.specs.Limits.{words_of_payload}
 use Rattle.plain_state.specs.declared.act.EventPlace.{EventPlace}
 use Rattle.plain_state.specs.declared.act.EventPlace.TheVariants.{Field, WeakField}
 use Rattle.plain_state.specs.declared.slot.Kind.TheVariants.{Disposal}
@@ -28,7 +29,7 @@ use Rattle.slot_store.specs.Searching.{Goes}
 -- the moves that read all words of the payload of s
 abbrev pub seen_by : SlotId → List ℕ → List Move
 seen_by s payload =
-    each_from 0 16 (λ i. move (act.See s i) (outcome.Word (slice_index payload i)))
+    each_from 0 words_of_payload (λ i. move (act.See s i) (outcome.Word (slice_index payload i)))
 
 -- of the objects of the slots that the seat has before and after, it knows what it knew
 abbrev pub KnowsBoth : {V : Type 0} → SeatState V → SeatState V → Type 0

@@ -1,15 +1,14 @@
 //! The destruction of an object that a seat has ended.
-ghost use Rattle.std.specs.Prelude.{◌≡◌, ◌<◌, ◌≤◌, ◌+◌, ◌*◌, IfSome, []};
+ghost use Rattle.std.specs.Prelude.{◌≡◌, ◌<◌, ◌≤◌, ◌+◌, IfSome, []};
 ghost use Rattle.plain_state.specs.Lists.{times};
 ghost use Rattle.core_events.specs.Steps.{HasRoom};
 ghost use Rattle.core_events.specs.Views.{IsRipeField};
-ghost use Rattle.core_events.specs.Words.{announcements};
 ghost use Rattle.control_word.specs.Resting.{IsAtRest};
 ghost use Rattle.deleter.specs.Weighing.{Weighs};
 ghost use Rattle.domain_rule.specs.Views.{HasCleared};
 ghost use Rattle.acquire_retire.specs.Collecting.{rest_of};
 ghost use Rattle.slot_store.specs.Reaping.{Answers, Clears, Destroys, FindsRipe, KnowsBoth, Passes, SeesAll};
-ghost use Rattle.slot_store.specs.Spending.{entries_of, steps_made};
+ghost use Rattle.slot_store.specs.Spending.{reap_most, steps_made};
 
 use acquire_retire::{Domain, EventPlace, Outcome, Seat, SlotId};
 use deleter::Deleter;
@@ -33,8 +32,7 @@ pub fn reap<P: Protocol, F: Fn(&[u64; 16]) -> u64>(
     requires weighs { Weighs P.Kind.fits P.Kind.weight F.Fn deleter.now }
     ensures reaps { Answers P.Kind.fits domain.now P.Kind.weight result seat.old seat.new }
     ensures idle { seat.old.view.core.dying ≡ [] → seat.new ≡ seat.old }
-    ensures steps { steps_made seat.new ≤ steps_made seat.old
-        + 4 * announcements domain.now.shape + 3 * (entries_of seat.old + 3) + 21 }
+    ensures steps { steps_made seat.new ≤ steps_made seat.old + reap_most domain.now seat.old }
     ensures client { seat.new.view.client ≡ seat.old.view.client }
     ensures notes { seat.new.view.core.notes ≡ seat.old.view.core.notes }
     ensures objects { KnowsBoth seat.old seat.new }

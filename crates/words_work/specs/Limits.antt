@@ -7,7 +7,7 @@ use Rattle.queue_law.specs.declared.view.Form.{Form}
 use Rattle.queue_law.specs.declared.view.Form.TheVariants.{Linked, Double}
 use Rattle.cdrc_text.specs.Fold.{File}
 use Rattle.cdrc_text.specs.Pieces.{pieces_of}
-use Rattle.lane_domain.specs.Sizes.{slots_of_words}
+use Rattle.lane_domain.specs.Sizes.{most_lanes, slots_of_words}
 use Rattle.words_work.specs.Contents.{bytes_in}
 use Rattle.words_work.specs.declared.plan.Plan.{Plan}
 
@@ -24,10 +24,16 @@ plan_of args = record {
   form = form_of args.double;
 }
 
--- 1 to 31 lanes, 1 to 1,000 rounds, and 1 to 4,194,304 slots, if there are any
+abbrev pub AreLanes : ℕ → Type 0
+AreLanes lanes = (1 ≤ lanes) × (lanes ≤ most_lanes)
+
+abbrev pub most_rounds : ℕ
+most_rounds = 1000
+
+-- so many lanes, rounds, and slots, if there are any
 pub record IsPlan (plan : Plan) : Type 0 where
-  pub lanes : (1 ≤ plan.lanes) × (plan.lanes ≤ 31)
-  pub rounds : (1 ≤ plan.rounds) × (plan.rounds ≤ 1000)
+  pub lanes : AreLanes plan.lanes
+  pub rounds : (1 ≤ plan.rounds) × (plan.rounds ≤ most_rounds)
   pub slots : IfSome plan.slots (λ n. (1 ≤ n) × (n ≤ most_slots))
 
 -- the names of the files

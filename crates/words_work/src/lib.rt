@@ -21,5 +21,5 @@ mod working;
 
 pub use outcome::{WordsDone, WordsRefused};
 pub use plan::Plan;
-pub use reading::{read_file, read_files};
+pub use reading::{MOST_BYTES, read_file, read_files};
 pub use working::{count_contents, words_work};

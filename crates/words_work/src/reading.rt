@@ -9,8 +9,8 @@ use crate::outcome::WordsRefused;
 use lane_gate::{FileFault, Files};
 use std::alloc::Global;
 
-/// The most bytes of all files together.
-const MOST_BYTES: u64 = 67_108_864;
+/// The most bytes of all files together, and of a file of lines.
+pub const MOST_BYTES: u64 = 67_108_864;
 
 /// The content of a file of at most so many bytes. Read comes only where the source's count of faults rose in the call,
 /// and TooLarge only where the file was found to be longer. One read.

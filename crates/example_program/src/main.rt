@@ -1,0 +1,87 @@
+//! `example_program` is a whole program over [example_setting], of one thread: one seat stores a text and then another,
+//! and a second seat, which reads the first text meanwhile, keeps it from being destroyed.
+//!
+//! It is proved that each call is one that its seat may make; by the law of a setting what is read was stored. It isn't
+//! promised that there is memory for a domain.
+//!
+//! ```text
+//! example_program
+//! ```
+#![tactic(auto)]
+
+ghost use Rattle.std.specs.Prelude.{◌≡◌, IfOk};
+ghost use Rattle.core_events.specs.Steps.{HasRoom};
+ghost use Rattle.control_word.specs.Resting.{IsAtRest};
+
+use acquire_retire::{Domain, OpenError, Quota, Seat, Shape, open_domain};
+use deleter::Deleter;
+use example_setting::{SettingLaw, read_value, store_value};
+use plain_state::{RecordKind, record_of};
+use retiring_stores::collect;
+use slot_store::{read, reap};
+use snapshot_ptr::end;
+use std::alloc::Global;
+use std::io;
+
+/// Two seats, four slots and one strong cell.
+const SHAPE: Shape = Shape {
+    seats: 2,
+    slots: 4,
+    cells: 1,
+    weak_cells: 0,
+    batch: 1,
+};
+
+/// Two objects and no reference more.
+const QUOTA: Quota = Quota { makes: 2, adds: 2 };
+
+/// A setting of texts, in cell 0.
+type Setting = SettingLaw<RecordKind>;
+
+const CELL: u32 = 0;
+
+/// A domain with the setting, and its two seats.
+fn open(alloc: Global) -> Result<(Domain<Setting>, Seat<Setting>, Seat<Setting>), OpenError>
+    ensures cell { IfOk result (λ r. r.0.protocol.cell ≡ 0) }
+    ensures cells { IfOk result (λ r. r.0.shape.cells ≡ 1) }
+    ensures first { IfOk result (λ r. IsAtRest r.0 r.1 × HasRoom r.1.view.core) }
+    ensures second { IfOk result (λ r. IsAtRest r.0 r.2 × HasRoom r.2.view.core) }
+{
+    let (domain, mut seats) = open_domain(alloc, SHAPE, &[QUOTA, QUOTA], Setting::new(CELL))?;
+    let first = seats.remove(0);
+    let second = seats.remove(0);
+    Ok((domain, first, second))
+}
+
+/// Gives up what nobody announces any more, and destroys one object that has ended: how long its text was.
+fn tidy(domain: &Domain<Setting>, seat: &mut Seat<Setting>) -> Option<u64>
+    requires rest { IsAtRest domain.now seat.old }
+    requires room { HasRoom seat.old.view.core }
+    ensures room { HasRoom seat.new.view.core }
+    ensures rest { IsAtRest domain.now seat.new }
+{
+    let deleter: Deleter<RecordKind, _> = Deleter::keep(|payload: &[u64; 16]| payload[0]);
+    collect(domain, seat);
+    reap(domain, seat, &deleter)
+}
+
+fn main(rt: HostRuntime) -> io::Result<()> {
+    let Ok((domain, mut writer, mut reader)) = open(rt.alloc()) else {
+        return println!(rt; "no domain");
+    };
+    let Ok(()) = store_value(&domain, &mut writer, CELL, &record_of(b"hello")) else {
+        return println!(rt; "nothing was stored");
+    };
+    let Ok(Some(seen)) = read_value(&domain, &mut reader, CELL) else {
+        return println!(rt; "nothing was read");
+    };
+    let Ok(()) = store_value(&domain, &mut writer, CELL, &record_of(b"goodbye")) else {
+        return println!(rt; "nothing was stored");
+    };
+    // the first text isn't in the cell any more, and the reader is under a snapshot of it
+    println!(rt; "destroyed while it is read: {:?}", tidy(&domain, &mut writer))?;
+    let length = read(&domain, &mut reader, seen.slot(), 0);
+    println!(rt; "read: a text of {length} bytes")?;
+    end(&domain, &mut reader, seen);
+    println!(rt; "destroyed afterwards: {:?}", tidy(&domain, &mut writer))
+}
