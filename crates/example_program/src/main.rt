@@ -9,7 +9,7 @@
 //! ```
 #![tactic(auto)]
 
-ghost use Rattle.std.specs.Prelude.{◌≡◌, IfOk};
+ghost use Rattle.std.specs.Prelude.{◌≡◌, ◌<◌, IfOk};
 ghost use Rattle.core_events.specs.Steps.{HasRoom};
 ghost use Rattle.control_word.specs.Resting.{IsAtRest};
 
@@ -65,23 +65,59 @@ fn tidy(domain: &Domain<Setting>, seat: &mut Seat<Setting>) -> Option<u64>
     reap(domain, seat, &deleter)
 }
 
-fn main(rt: HostRuntime) -> io::Result<()> {
-    let Ok((domain, mut writer, mut reader)) = open(rt.alloc()) else {
-        return println!(rt; "no domain");
+/// What came of a text that was replaced while it was read.
+#[derive(Drop)]
+struct Replaced {
+    /// What was destroyed while it was read.
+    meanwhile: Option<u64>,
+    /// How long the text was for its reader then.
+    length: u64,
+    /// What was destroyed once the reader had ended its snapshot.
+    afterwards: Option<u64>,
+}
+
+/// The reader looks at the text, the writer stores another, and the reader goes on. `None` where there is no text, or no
+/// other one can be stored.
+fn replace(
+    domain: &Domain<Setting>,
+    writer: &mut Seat<Setting>,
+    reader: &mut Seat<Setting>,
+) -> Option<Replaced>
+    requires writer { IsAtRest domain.now writer.old × HasRoom writer.old.view.core }
+    requires reader { IsAtRest domain.now reader.old × HasRoom reader.old.view.core }
+    requires cell { domain.now.protocol.cell ≡ 0 }
+    requires there { 0 < domain.now.shape.cells }
+{
+    let seen = read_value(domain, reader, CELL).ok()??;
+    store_value(domain, writer, CELL, &record_of(b"goodbye")).ok()?;
+    // the first text isn't in the cell any more, and the reader is under a snapshot of it
+    let meanwhile = tidy(domain, writer);
+    let length = read(domain, reader, seen.slot(), 0);
+    end(domain, reader, seen);
+    let afterwards = tidy(domain, writer);
+    Some(Replaced {
+        meanwhile,
+        length,
+        afterwards,
+    })
+}
+
+/// Stores a text, and replaces it while it is read.
+fn run(alloc: Global) -> Option<Replaced> {
+    let Ok((domain, mut writer, mut reader)) = open(alloc) else {
+        return None;
     };
     let Ok(()) = store_value(&domain, &mut writer, CELL, &record_of(b"hello")) else {
-        return println!(rt; "nothing was stored");
+        return None;
     };
-    let Ok(Some(seen)) = read_value(&domain, &mut reader, CELL) else {
-        return println!(rt; "nothing was read");
+    replace(&domain, &mut writer, &mut reader)
+}
+
+fn main(rt: HostRuntime) -> io::Result<()> {
+    let Some(replaced) = run(rt.alloc()) else {
+        return println!(rt; "no domain, or no text");
     };
-    let Ok(()) = store_value(&domain, &mut writer, CELL, &record_of(b"goodbye")) else {
-        return println!(rt; "nothing was stored");
-    };
-    // the first text isn't in the cell any more, and the reader is under a snapshot of it
-    println!(rt; "destroyed while it is read: {:?}", tidy(&domain, &mut writer))?;
-    let length = read(&domain, &mut reader, seen.slot(), 0);
-    println!(rt; "read: a text of {length} bytes")?;
-    end(&domain, &mut reader, seen);
-    println!(rt; "destroyed afterwards: {:?}", tidy(&domain, &mut writer))
+    println!(rt; "destroyed while it is read: {:?}", replaced.meanwhile)?;
+    println!(rt; "read: a text of {} bytes", replaced.length)?;
+    println!(rt; "destroyed afterwards: {:?}", replaced.afterwards)
 }

@@ -1,7 +1,8 @@
--- What a read leaves of a seat.
+-- What a read and a store leave of a seat.
 use Rattle.std.specs.Prelude.{ℕ, ◌≡◌, List, [], ◌∷◌, ◌++◌, Option, Some, None}
 use Rattle.plain_state.specs.declared.act.EventPlace.TheVariants.{Cell}
 use Rattle.plain_state.specs.declared.slot.SlotId.{SlotId}
+use Rattle.plain_state.specs.Lists.{times}
 use Rattle.domain_rule.specs.Views.{object_in}
 use Rattle.acquire_retire.specs.Domains.{DomainState}
 use Rattle.acquire_retire.specs.Notes.{least_free}
@@ -28,3 +29,8 @@ abbrev pub Moves : {P : Type 0} → (List ℕ → Type 0) → DomainState P → 
 Moves kind d cell seen now old new =
     Misses kind d (word_taken (least_free old.view.core)) (Cell cell) read_next (ReadTells cell)
     seen now old new
+
+-- it owns each slot as often as before
+abbrev pub OwnsAsMuch : SeatState View → SeatState View → Type 0
+OwnsAsMuch old new =
+    (x : SlotId) → times x new.view.core.owned ≡ times x old.view.core.owned

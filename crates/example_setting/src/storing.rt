@@ -1,7 +1,9 @@
 //! A value is stored: an object is made of it, and put into the cell.
 ghost use Rattle.std.specs.Prelude.{◌≡◌, ◌∷◌, ◌++◌, [], ◌<◌, IfOk, OnErr};
 ghost use Rattle.core_events.specs.Steps.{HasRoom};
+ghost use Rattle.control_word.specs.Moves.{KnowsStill};
 ghost use Rattle.control_word.specs.Resting.{IsAtRest};
+ghost use Rattle.example_setting.specs.Calls.{OwnsAsMuch};
 
 use crate::deeds::StoreValue;
 use crate::law::SettingLaw;
@@ -27,6 +29,9 @@ pub fn store_value<K: PayloadKind>(
     ensures stored { IfOk result (λ done. seat.new.view.client.stored
         ≡ seat.old.view.client.stored ++ value.now ∷ []) }
     ensures refused { OnErr result (seat.new.view.client ≡ seat.old.view.client) }
+    ensures owned { OwnsAsMuch seat.old seat.new }
+    ensures notes { seat.new.view.core.notes ≡ seat.old.view.core.notes }
+    ensures objects { KnowsStill seat.old.view.core seat.old seat.new }
     ensures room { HasRoom seat.new.view.core }
     ensures rest { IsAtRest domain.now seat.new }
 {

@@ -1,3 +1,9 @@
+use Rattle.std.proofs.Common.{◌∙◌, ap, Some}
+use Rattle.plain_state.specs.declared.slot.Kind.TheVariants.{Strong}
+use Rattle.plain_state.specs.Lists.{times}
+use Rattle.core_events.specs.declared.view.CoreView.{CoreView}
+use Rattle.core_events.specs.Steps.{without_given}
+use Rattle.example_setting.proofs.Storings.{gives_made, knows_given}
 use Rattle.example_setting.specs.Setting.{owns}
 use Rattle.slot_store.proofs.Sparing.{make_is_spared}
 use Rattle.example_setting.proofs.storing.store_value.Goals as goal
@@ -6,3 +12,15 @@ pub make-requires-clause-deed : goal.make-requires-clause-deed
 make-requires-clause-deed g c s mid begins =
     make_is_spared c.args.domain.now (owns c.args.domain.now.protocol.cell) c.args.value.now s
     c.args.seat.now mid begins (λ own. own)
+
+pub returns-clause-owned : goal.returns-clause-owned
+returns-clause-owned g c x =
+    let s = c.in_ok-object.object.slot in
+    ap (λ (v : CoreView). times x v.owned) c.store.ensures.stored.swaps.same
+    ∙ ap (λ (v : CoreView). times x (without_given Strong (Some s) v).owned) c.in_ok-object.ensures.made.core
+    ∙ gives_made s x c.args.seat.now.view.core
+
+pub returns-clause-objects : goal.returns-clause-objects
+returns-clause-objects g c =
+    knows_given c.in_ok-object.object.slot _ c.args.seat.now c.make.new.seat c.store.new.seat
+    c.in_ok-object.ensures.made.core c.in_ok-object.ensures.objects c.store.ensures.objects
