@@ -1,17 +1,18 @@
 //! `example_program` is a whole program over [example_setting], of one thread: one seat stores a text and then another,
 //! and a second seat, which reads the first text meanwhile, keeps it from being destroyed.
 //!
-//! It is proved that each call is one that its seat may make; by the law of a setting what is read was stored. It isn't
-//! promised that there is memory for a domain.
+//! It is proved that each call is one that its seat may make, and that the reader tells the first word of the value that
+//! it read; by the law of a setting that value was stored. It isn't promised that there is memory for a domain.
 //!
 //! ```text
 //! example_program
 //! ```
 #![tactic(auto)]
 
-ghost use Rattle.std.specs.Prelude.{◌≡◌, ◌<◌, IfOk};
+ghost use Rattle.std.specs.Prelude.{◌≡◌, ◌<◌, IfOk, IfSome};
 ghost use Rattle.core_events.specs.Steps.{HasRoom};
 ghost use Rattle.control_word.specs.Resting.{IsAtRest};
+ghost use Rattle.example_program.specs.Telling.{TellsRead};
 
 use acquire_retire::{Domain, OpenError, Quota, Seat, Shape, open_domain};
 use deleter::Deleter;
@@ -76,8 +77,8 @@ struct Replaced {
     afterwards: Option<u64>,
 }
 
-/// The reader looks at the text, the writer stores another, and the reader goes on. `None` where there is no text, or no
-/// other one can be stored.
+/// The reader looks at the text, the writer stores another, and the reader goes on: what it tells is the length of the
+/// text that it read. `None` where there is no text, or no other one can be stored.
 fn replace(
     domain: &Domain<Setting>,
     writer: &mut Seat<Setting>,
@@ -87,6 +88,8 @@ fn replace(
     requires reader { IsAtRest domain.now reader.old × HasRoom reader.old.view.core }
     requires cell { domain.now.protocol.cell ≡ 0 }
     requires there { 0 < domain.now.shape.cells }
+    ensures { IfSome result
+        (λ replaced. TellsRead replaced.length reader.old.view.client reader.new.view.client) }
 {
     let seen = read_value(domain, reader, CELL).ok()??;
     store_value(domain, writer, CELL, &record_of(b"goodbye")).ok()?;
