@@ -30,15 +30,16 @@ def with_below(names, lines):
 
 
 def take(names, folder):
+    """Copies what isn't there yet, and returns the crates that it copied."""
     lines, list_of_crates = lines_of((TOP / "crates.txt").read_text()), folder / "crates.txt"
     if not names or not set(names) <= lines.keys():
         sys.exit(__doc__)
-    there = list_of_crates.read_text() if list_of_crates.exists() else ""
-    taken = with_below(names, lines)
+    needed = with_below(names, lines)
+    taken = [name for name in needed if not (folder / "crates" / name).exists()]
     for name in taken:
-        if not (folder / "crates" / name).exists():
-            shutil.copytree(TOP / "crates" / name, folder / "crates" / name, ignore=shutil.ignore_patterns("out"))
-    new = [lines[name] for name in taken if name not in lines_of(there)]
+        shutil.copytree(TOP / "crates" / name, folder / "crates" / name, ignore=shutil.ignore_patterns("out"))
+    there = list_of_crates.read_text() if list_of_crates.exists() else ""
+    new = [lines[name] for name in needed if name not in lines_of(there)]
     if there and not there.endswith("\n"):
         there += "\n"
     list_of_crates.write_text(there + "".join(line + "\n" for line in new))
