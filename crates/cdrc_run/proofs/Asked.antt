@@ -51,8 +51,7 @@ ranges line (request.Steps file) asks = tt
 ranges line (request.Generate draws) asks = draws_within 1000000 draws _ asks.2.3
 ranges line (request.Bulk drawn) asks = (
   draws_within 500000 drawn.draws _ asks.2.3.0,
-  (let r = number_within 2 1 31 _ drawn.lanes (omega arith) (omega arith) asks.2.3.1 in r.0),
-  (let r = number_within 2 1 31 _ drawn.lanes (omega arith) (omega arith) asks.2.3.1 in r.1),
+  number_within 2 1 31 _ drawn.lanes (omega arith) (omega arith) asks.2.3.1,
 )
 
 same_job : (a b : Request) → IsSame a b → job_of a ≡ job_of b
