@@ -1,8 +1,8 @@
 //! `example_program` is a whole program over [example_setting], of one thread: one seat stores a text and then another,
 //! and a second seat, which reads the first text meanwhile, keeps it from being destroyed.
 //!
-//! It is proved that each call is one that its seat may make, and that the reader tells the first word of the value that
-//! it read; by the law of a setting that value was stored. It isn't promised that there is memory for a domain.
+//! It is proved that each call is one that its seat may make, and that the reader tells the first word of the value
+//! that it read; by the law of a setting that value was stored. It isn't promised that there is memory for a domain.
 //!
 //! ```text
 //! example_program
